@@ -7,7 +7,6 @@ pub mod KillLemmas
 pub mod RepeatLemmas
 pub mod WorkLemmas
 pub mod HandedLemmas
-pub mod HandedDriveLemmas
 pub mod FollowLemmas
 pub mod FollowLawLemmas
 pub mod WholeLemmas
@@ -20,6 +19,5 @@ pub mod WorkedSittingLemmas
 pub mod ReadingLemmas
 pub mod SurveyLemmas
 pub mod WorkedSurveyLemmas
-pub mod WorkedVerifyLemmas
 pub mod WorkedBehindLemmas
 pub mod WorkedDeskLemmas

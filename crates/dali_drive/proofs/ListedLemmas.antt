@@ -21,7 +21,6 @@ gave_more first old new order given more same gave = record {
   given_are =
       ap (λ (rest : List Given). gives.Order order old.moment ∷ rest) gave.given_are
       ∙ ap (λ (m : ℕ). gives.Order order m ∷ as_given (reverse (at_moment first.moment gave.orders))) gave.moment_is
-      ∙ sym (ap as_given
-      (ap reverse (map-append (λ (order : Contents). (order, first.moment)) gave.orders (order ∷ []))
+      ∙ sym (ap as_given (ap reverse (map-append (λ (order : Contents). (order, first.moment)) gave.orders (order ∷ []))
       ∙ reverse-append (at_moment first.moment gave.orders) ((order, first.moment) ∷ [])));
 }

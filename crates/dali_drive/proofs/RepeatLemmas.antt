@@ -1,9 +1,8 @@
 -- Drives over a store, one after another, are one trace.
-use Rattle.std.proofs.Common.{◌≡◌, sym, ap, subst, inl, inr, ℕ, List, [], ◌∷◌, Some}
+use Rattle.std.proofs.Common.{◌≡◌, subst, inl, inr, refl, ℕ, List, [], ◌∷◌, Some}
 use Rattle.dali_bus.specs.World.{World}
 use Rattle.dali_journal.specs.declared.record.Record.{Record}
 use Rattle.dali_trace.specs.declared.happening.Happening.{Happening}
-use Rattle.dali_trace.specs.declared.happening.Happening.TheVariants.{Kept}
 use Rattle.dali_trace.specs.Trace.{Start, records_of}
 use Rattle.dali_trace.specs.Moments.{Along}
 use Rattle.dali_laws.specs.Powered.{unpowered, IsPowerApart}
@@ -14,23 +13,23 @@ use Rattle.dali_store.specs.Opened.{Loads, IsOpenFault}
 use Rattle.dali_store.specs.declared.opening.OpenFault.{OpenFault}
 use Rattle.dali_store.specs.declared.opening.OpenFault.TheVariants as openings
 use Rattle.dali_store.specs.declared.store.StoreFault.TheVariants.{TooBig, Failed, NoMemory}
-use Rattle.dali_drive.specs.Sittings.{BrokeOff}
 use Rattle.dali_drive.specs.Repeats.{IsSameFile, HasSat, HaveSat, ActOnce}
-use Rattle.dali_drive.proofs.SittingLemmas.{IsSat, sat_ended, sat_broken}
-use Rattle.dali_drive.proofs.KillLemmas.{sat_killed, one_records}
-
-sat_as : (limit most : ℕ) (found : List ℕ) (sitting : Sitting) (left : List ℕ)
-    → BrokeOff limit most found sitting left → IsSat limit found sitting left
-sat_as limit most found sitting left b =
-    subst (λ (s : Sitting). IsSat limit found s left) (sym b.is)
-    (sat_broken limit most found b.first b.last b.is_found b.begun b.orders b.fault b.drive left b.is_left
-    b.past b.happened b.finished b.counts)
+use Rattle.dali_drive.proofs.SittingLemmas.{IsSat, sat_killed, sat_broken, drive_holds, made}
+use Rattle.dali_drive.proofs.KillLemmas.{one_records}
 
 pub sat_so : (limit most : ℕ) (found : List ℕ) (sitting : Sitting) (left : List ℕ)
     → HasSat limit most found sitting left → IsSat limit found sitting left
-sat_so limit most found sitting left (inl ended) = sat_ended limit most found sitting left ended
-sat_so limit most found sitting left (inr (inl broken)) = sat_as limit most found sitting left broken
-sat_so limit most found sitting left (inr (inr killed)) = sat_killed limit most found sitting left killed
+sat_so limit most found sitting left (inl e) =
+    let d = e.drive.drive.driven in
+    let holds = drive_holds d (made e.is_found e.drive.begun) in
+    rw e.is (sat_killed e.is_found e.drive.begun e.drive.drive.past e.drive.drive.past left
+    (d.legal, d.planned, d.in_range)
+    (inl (record { is = refl; finished = e.drive.drive.described.finished; bytes = cc (holds, e.is_left) })))
+sat_so limit most found sitting left (inr (inl b)) =
+    rw b.is (sat_broken b.is_found b.begun b.drive left b.is_left b.past b.happened b.finished b.counts)
+sat_so limit most found sitting left (inr (inr k)) =
+    rw k.is (sat_killed k.is_found k.begun k.older k.past left (k.driven.legal, k.driven.planned, k.driven.in_range)
+    k.at)
 
 -- No journal was opened
 
@@ -38,15 +37,13 @@ pub unopened_same : (limit most : ℕ) (found left : List ℕ) (fault : OpenFaul
     → IsOpenFault limit most (Some found) (Some left) fault → IsSameFile limit found left
 unopened_same limit most found left (openings.Journal fault) (why, same) = inl same
 unopened_same limit most found left (openings.Store TooBig) (long, same) = inl same
-unopened_same limit most found left (openings.Store Failed) (inl same) = inl same
-unopened_same limit most found left (openings.Store Failed) (inr alike) = inr alike
+unopened_same limit most found left (openings.Store Failed) same = same
 unopened_same limit most found left (openings.Store NoMemory) same = inl same
 
 -- the same file loads to the same records
 pub loads_still : (limit : ℕ) (records : List Record) (old new : List ℕ) → IsSameFile limit old new
     → Loads limit records old → Loads limit records new
-loads_still limit records old new (inl same) loads =
-    subst (λ (l : List ℕ). Loads limit records l) (sym same) loads
+loads_still limit records old new (inl same) loads = rw same loads
 loads_still limit records old new (inr alike) loads =
     subst (λ (r : List Record). Loads limit r new) (one_records limit old records alike.0 loads alike.1) alike.2
 
@@ -54,11 +51,7 @@ loads_still limit records old new (inr alike) loads =
 joined_after : (start : Start) (newest : Sitting) (older : List Sitting)
     → newest.start.records ≡ records_of start (joined older)
     → records_of start (joined (newest ∷ older)) ≡ records_of newest.start newest.past
-joined_after start newest [] same = by newest.past where
-  by : (past : List Happening) → records_of start past ≡ records_of newest.start past
-  by [] = sym same
-  by (Kept entry ∷ past) = ap (λ (records : List Record). entry ∷ records) (by past)
-  by (_ ∷ past) = by past
+joined_after start newest [] same = rw same
 joined_after start newest (last ∷ older) same =
     joined_records start newest.start (joined (last ∷ older)) newest.past same
 
@@ -74,8 +67,7 @@ sittings_follow start most first last (newest ∷ older) loads (found, left, sat
     one_records start.limit found (records_of start (joined older)) newest.start.records old.1 one.found_loads in (
       (one.legal, one.planned, one.finished, records, one.limit_is, old.0),
       loads_still start.limit (records_of start (joined (newest ∷ older))) left last same
-          (subst (λ (r : List Record). Loads start.limit r left) (sym (joined_after start newest older records))
-          one.left_loads),
+          (rw (joined_after start newest older records) one.left_loads),
     )
 
 pub act_once : (zero : World) (lost : List ℕ) (start : Start) (most : ℕ) (first left : List ℕ)

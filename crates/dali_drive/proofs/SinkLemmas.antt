@@ -1,6 +1,6 @@
 -- What a stop leaves of a sink of records, behind what is put there.
-use Rattle.std.proofs.Common.{◌≡◌, ◌≤◌, ◌⊎◌, ◌<◌, ◌∙◌, refl, sym, ap, subst, inl, inr, arith, ℕ, Bool, true, false}
-use Rattle.std.proofs.Common.{List, [], ◌++◌, Option, Some, None, length, length-append, take, append-nil, append_assoc}
+use Rattle.std.proofs.Common.{◌≡◌, ◌≤◌, ◌⊎◌, sym, arith, ℕ, Bool, true, false, List, [], ◌++◌, Option, Some, None}
+use Rattle.std.proofs.Common.{length, length-append, append-nil, append_assoc}
 use Rattle.std.proofs.lemmas.Bool.{cases_lt}
 use Rattle.std.specs.Io.KnownBytes.{Appends}
 use Rattle.dali_store.specs.Stores.{IsSettled, IsBetween}
@@ -18,60 +18,44 @@ FlushedSince before now flushed = (flushed ≡ Some before) ⊎ (flushed ≡ Som
 
 flushed_since : (done : Bool) (before now : List ℕ) (new : Option (List ℕ))
     → Flushes done (Some now) (Some before) new → FlushedSince before now new
-flushed_since true before now new is = inr is
-flushed_since false before now new is = inl is
+flushed_since done before now new flushes = grind arith
 
 module _ (before more now : List ℕ) (is : now ≡ before ++ more) where
   left_behind : (flushed : Option (List ℕ)) → FlushedSince before now flushed → (c : List ℕ)
       → SinkLeaves flushed (Some now) c → IsBetween (Some before) (Some now) c
-  left_behind flushed (inl first) c left = subst (λ (f : Option (List ℕ)). SinkLeaves f (Some now) c) first left
-  left_behind flushed (inr all) c left =
-      let l : IsBetween (Some now) (Some now) c = subst (λ (f : Option (List ℕ)). SinkLeaves f (Some now) c) all left in
-      (more ++ l.0, l.1, l.2 ∙ ap (λ (b : List ℕ). b ++ l.0) is ∙ append_assoc before more l.0, l.3)
+  left_behind flushed since c left = grind (arith, append_assoc)
 
   part_of : (flushed : Option (List ℕ)) → FlushedSince before now flushed → (t : ℕ) (c : List ℕ)
       → SinkLeft flushed (Some now) t c → (t ≤ length c) × ((rest : List ℕ) × (now ≡ c ++ rest))
-  part_of flushed (inl first) t c left = subst (λ (f : Option (List ℕ)). SinkLeft f (Some now) t c) first left
-  part_of flushed (inr all) t c left = subst (λ (f : Option (List ℕ)). SinkLeft f (Some now) t c) all left
+  part_of flushed since t c left = grind arith
 
   between : (c rest : List ℕ) → now ≡ c ++ rest → length before ≤ length c → IsBetween (Some before) (Some now) c
-  between c rest so le =
-      let begins = longer_begins before c more rest (sym is ∙ so) le in (begins.0, rest, begins.1, so)
+  between c rest so le = grind (arith, longer_begins)
 
   left_or_between : (t : ℕ) (c rest : List ℕ) → now ≡ c ++ rest → t ≤ length c
       → SinkLeft (Some before) (Some before) t c ⊎ IsBetween (Some before) (Some now) c
-  left_or_between t c rest so le = by (cases_lt (length c) (length before)) where
-    by : (length c < length before) ⊎ (length before ≤ length c)
-        → SinkLeft (Some before) (Some before) t c ⊎ IsBetween (Some before) (Some now) c
-    by (inl less) = inl (le, longer_begins c before rest more (sym so ∙ is) (omega (arith, less)))
-    by (inr least) = inr (between c rest so least)
+  left_or_between t c rest so le = grind (arith, cases_lt, longer_begins, between)
 
   counted : (flushed : Option (List ℕ)) → FlushedSince before now flushed → length before ≤ flushed_count flushed
-  counted flushed (inl first) = rw first (omega arith)
-  counted flushed (inr all) =
-      let long = ap (length {A = ℕ}) is ∙ length-append before more in rw all (omega (arith, long))
+  counted flushed since = grind (arith, length-append)
 
 -- behind what was put a stop leaves a first part of it
 pub leaves_put : (done : Bool) (flushed held flushed_now held_now : Option (List ℕ)) (more : List ℕ)
     → IsPart flushed held → Appends held held_now more → Flushes done held_now flushed flushed_now
     → (c : List ℕ) → IsSettled held (SinkLeaves flushed held) × SinkLeaves flushed_now held_now c
     → IsBetween held held_now c
-leaves_put true None held new now more part put flushes c (settled, left) =
-    absurd (subst (λ (f : Option (List ℕ)). SinkLeaves f now c) flushes left)
-leaves_put false None held new now more part put flushes c (settled, left) =
-    absurd (subst (λ (f : Option (List ℕ)). SinkLeaves f now c) flushes left)
+leaves_put true None held new now more part put flushes c (settled, left) = absurd (rw flushes at left)
+leaves_put false None held new now more part put flushes c (settled, left) = absurd (rw flushes at left)
 leaves_put done (Some flushed) None new now more part put flushes c (settled, left) = absurd part
 leaves_put done (Some flushed) (Some held) new None more part put flushes c (settled, left) = absurd put
 leaves_put done (Some flushed) (Some held) new (Some now) more part put flushes c (settled, left) =
-    let all = all_flushed flushed held part settled in
-    left_behind held more now put new
-    (flushed_since done held now new (subst (λ (f : List ℕ). Flushes done (Some now) (Some f) new) all flushes)) c left
+    let now_all = rw (all_flushed flushed held part settled) at flushes in
+    left_behind held more now put new (flushed_since done held now new now_all) c left
 
 -- some bytes were put
 pub some_put : (done : Bool) (old new : Option (List ℕ)) (bytes : List ℕ) → (done ≡ true → Appends old new bytes)
     → (done ≡ false → PutsFirst old new bytes) → (more : List ℕ) × Appends old new more
-some_put true old new bytes whole cut = (bytes, whole refl)
-some_put false old new bytes whole cut = let first = cut refl in (take first.0 bytes, first.2)
+some_put done old new bytes whole cut = grind arith
 
 -- and so it does at each moment
 pub record PutOver (flushed held flushed_now held_now : Option (List ℕ)) : Type 0 where
@@ -80,34 +64,24 @@ pub record PutOver (flushed held flushed_now held_now : Option (List ℕ)) : Typ
   pub before : (t : ℕ) (c : List ℕ) → t ≤ flushed_count flushed → SinkLeft flushed_now held_now t c
       → SinkLeft flushed held t c ⊎ IsBetween held held_now c
 
-none_left : (new now : Option (List ℕ)) → new ≡ None → (t : ℕ) (c : List ℕ) → SinkLeft new now t c → ⊥
-none_left new now is t c left = subst (λ (f : Option (List ℕ)). SinkLeft f now t c) is left
+none_over : (held now : Option (List ℕ)) → PutOver None held None now
+none_over held now = grind arith
 
 pub put_over : (done : Bool) (flushed held flushed_now held_now : Option (List ℕ)) (more : List ℕ)
     → IsPart flushed held → Appends held held_now more → Flushes done held_now flushed flushed_now
     → IsSettled held (SinkLeaves flushed held) → PutOver flushed held flushed_now held_now
-put_over true None held new now more part put flushes settled = record {
-  later = omega arith;
-  each = λ c left. absurd (none_left new now flushes 0 c left);
-  before = λ t c le left. absurd (none_left new now flushes t c left);
-}
-put_over false None held new now more part put flushes settled = record {
-  later = omega arith;
-  each = λ c left. absurd (none_left new now flushes 0 c left);
-  before = λ t c le left. absurd (none_left new now flushes t c left);
-}
+put_over true None held new now more part put flushes settled = rw flushes (none_over held now)
+put_over false None held new now more part put flushes settled = rw flushes (none_over held now)
 put_over done (Some flushed) None new now more part put flushes settled = absurd part
 put_over done (Some flushed) (Some held) new None more part put flushes settled = absurd put
 put_over done (Some flushed) (Some held) new (Some now) more part put flushes settled =
     let all = all_flushed flushed held part settled in
-    let since = flushed_since done held now new
-    (subst (λ (f : List ℕ). Flushes done (Some now) (Some f) new) all flushes) in
-    let over : PutOver (Some held) (Some held) new (Some now) = record {
+    let since = flushed_since done held now new (rw all at flushes) in
+    rw all (record {
       later = counted held more now put new since;
       each = λ c left.
           let p = part_of held more now put new since (length held) c left in
           between held more now put c p.1.0 p.1.1 p.0;
       before = λ t c le left.
           let p = part_of held more now put new since t c left in left_or_between held more now put t c p.1.0 p.1.1 p.0;
-    } in
-    subst (λ (f : List ℕ). PutOver (Some f) (Some held) new (Some now)) (sym all) over
+    })

@@ -1,19 +1,20 @@
 -- What a drive over a store leaves.
-use Rattle.std.proofs.Common.{◌≡◌, ◌<◌, ◌≤◌, ◌⊎◌, refl, sym, ap, ◌∙◌, subst, inl, inr, ℕ, List, [], ◌∷◌, ◌++◌}
-use Rattle.std.proofs.Common.{Option, Some, None, length, take, drop, arith, length-append, length-take, take-append-drop, ⊎_elim}
-use Rattle.std.proofs.lemmas.List.{append_assoc, append-nil, take_at, append_cancel_left}
-use Rattle.std.specs.Prelude.{⊤}
+use Rattle.std.proofs.Common.{◌≡◌, ◌<◌, ◌≤◌, ◌⊎◌, refl, sym, ap, ◌∙◌, inl, inr, ℕ, List, [], ◌∷◌, ◌++◌, Option, Some}
+use Rattle.std.proofs.Common.{None, length, take, drop, arith, length-append, take-append-drop}
+use Rattle.std.proofs.lemmas.List.{append_assoc, append-nil, append_cancel_left}
 use Rattle.std.specs.List.{AllByRecursion}
 use Rattle.std.specs.Io.KnownBytes.{Appends, Keeps}
 use Rattle.dali_bank.specs.Order.{Contents}
 use Rattle.dali_frame.specs.declared.forward.Frame.{Frame}
 use Rattle.dali_journal.specs.declared.record.Record.{Record}
-use Rattle.dali_journal.specs.declared.record.Record.TheVariants.{Began, Opened, Ended, Closed}
 use Rattle.dali_journal.specs.declared.version.Version.TheVariants.{Two}
-use Rattle.dali_journal.specs.Spelling.{spelling, journal_spelling, IsRecord}
+use Rattle.dali_journal.specs.Spelling.{spelling, header, journal_spelling, IsRecord}
+use Rattle.dali_journal.specs.Reading.{IsCutOf}
 use Rattle.dali_journal.specs.JournalState.{AreKept}
+use Rattle.dali_journal.proofs.AheadLemmas.{spelling_append}
 use Rattle.dali_trace.specs.declared.happening.Happening.{Happening}
 use Rattle.dali_trace.specs.declared.happening.Happening.TheVariants.{Asked, Answered, Sent, Kept}
+use Rattle.dali_trace.specs.Cut.{kept_in}
 use Rattle.dali_trace.specs.Trace.{Start, records_of}
 use Rattle.dali_trace.specs.Legal.{Legal, IsFinished}
 use Rattle.dali_trace.specs.ByPlan.{ByPlan}
@@ -21,17 +22,18 @@ use Rattle.dali_trace.specs.Next.{IsNext}
 use Rattle.dali_laws.specs.Joined.{Sitting}
 use Rattle.dali_laws.proofs.NextLemmas.{one_next}
 use Rattle.dali_laws.proofs.RepeatLemmas.{legal_sentence}
-use Rattle.dali_engine.specs.WriterState.{start_of}
-use Rattle.dali_engine.proofs.StopLemmas.{cut_of_some}
-use Rattle.dali_store.specs.Stores.{Shows, Becomes, IsBetween}
+use Rattle.dali_engine.specs.WriterState.{WriterState, start_of}
+use Rattle.dali_engine.proofs.StopLemmas.{cut_of_none, cut_of_some}
+use Rattle.dali_store.specs.Stores.{IsBetween}
 use Rattle.dali_store.specs.Opened.{Loads}
-use Rattle.dali_store.proofs.OpenLemmas.{found_loads, found_kept, whole_loads}
+use Rattle.dali_store.proofs.OpenLemmas.{found_loads, found_kept}
 use Rattle.dali_trace.specs.declared.fault.DriveFault.{DriveFault}
-use Rattle.dali_trace.specs.declared.fault.DriveFault.TheVariants.{Journal, Link, Line, End, NoMemory, TooLong, Out}
+use Rattle.dali_trace.specs.declared.fault.DriveFault.TheVariants.{Journal, Link, NoMemory, Out}
 use Rattle.dali_drive.specs.Transcript.{Streams, recorded}
-use Rattle.dali_drive.specs.Driven.{KeepsRecords, IsDriven, IsNextFrame, IsBrokenDrive, BrokenOff, CutRecord, CutFrame, Unanswered}
+use Rattle.dali_drive.specs.Driven.{KeepsRecords, IsDriven, IsDrive, IsNextFrame, IsBrokenDrive, BrokenOff, CutRecord}
 use Rattle.dali_drive.specs.Stored.{IsBegun}
-use Rattle.dali_drive.specs.Sittings.{MayHaveHappened, KeptWhereWhole, CameToItsEnd, BrokeOff}
+use Rattle.dali_drive.specs.Sittings.{IsBrokenStep, MayHaveHappened, KeptWhereWhole, CameToItsEnd, BrokeOff}
+use Rattle.dali_drive.specs.Kills.{IsKilledAt}
 
 -- what a sitting is to the sittings around it
 pub record IsSat (limit : ℕ) (found : List ℕ) (sitting : Sitting) (left : List ℕ) : Type 0 where
@@ -44,105 +46,55 @@ pub record IsSat (limit : ℕ) (found : List ℕ) (sitting : Sitting) (left : Li
 
 -- Bytes that are known
 
-pub one_some : (a : Option (List ℕ)) (x y : List ℕ) → a ≡ Some x → a ≡ Some y → x ≡ y
-one_some a x y first second = cc
+pub grown_known : (new : Option (List ℕ)) (was more : List ℕ) → Appends (Some was) new more → new ≡ Some (was ++ more)
+grown_known new was more grown = grind arith
 
-pub shows_one : (seen : Option (List ℕ)) (bytes found : List ℕ) → seen ≡ Some bytes → Shows seen found → bytes ≡ found
-shows_one None bytes found is shown = cc
-shows_one (Some known) bytes found is shown = let same : known ≡ bytes = cc in sym same ∙ shown
-
-some_becomes : (old mid : Option (List ℕ)) (bytes now : List ℕ) → old ≡ Some bytes → Becomes old mid now
-    → mid ≡ Some now
-some_becomes None mid bytes now is becomes = cc
-some_becomes (Some old) None bytes now is becomes = absurd becomes
-some_becomes (Some old) (Some new) bytes now is becomes = ap Some becomes
-
-pub shows_more : (old new : Option (List ℕ)) (was more : List ℕ) → old ≡ Some was → Appends old new more
-    → new ≡ Some (was ++ more)
-shows_more None new was more is added = cc
-shows_more (Some bytes) None was more is added = absurd added
-shows_more (Some bytes) (Some longer) was more is added =
-    let same : bytes ≡ was = cc in ap Some (added ∙ ap (λ (b : List ℕ). b ++ more) same)
-
-pub shows_still : (old new : Option (List ℕ)) (was : List ℕ) → old ≡ Some was → Keeps old new → new ≡ Some was
-shows_still None new was is same = cc
-shows_still (Some bytes) None was is same = absurd same
-shows_still (Some bytes) (Some still) was is same = cc
-
-pub no_bytes : (l : List ℕ) → length l ≤ 0 → l ≡ []
-no_bytes [] less = refl
-no_bytes (x ∷ l) less = absurd (omega (arith, less))
-
--- a first part is shorter, or it is all
-pub first_part : (all front tail : List ℕ) → all ≡ front ++ tail
-    → ((count : ℕ) × (count < length all) × (front ≡ take count all)) ⊎ (front ≡ all)
-first_part all front [] whole = inr (sym (append-nil front) ∙ sym whole)
-first_part all front (x ∷ tail) whole = inl (
-  length front,
-  omega (arith, ap (λ (l : List ℕ). length l) whole, length-append front (x ∷ tail)),
-  sym (ap (λ (l : List ℕ). take (length front) l) whole ∙ take_at front (x ∷ tail) (length front) refl),
-)
+pub kept_known : (new : Option (List ℕ)) (was : List ℕ) → Keeps (Some was) new → new ≡ Some was
+kept_known new was keeps = grind arith
 
 -- what lies between known bytes has the first ones, and then a first part of what was put
-between_known : (old new : Option (List ℕ)) (was more c : List ℕ) → old ≡ Some was → new ≡ Some (was ++ more)
-    → IsBetween old new c → (front : List ℕ) × (rest : List ℕ) × (c ≡ was ++ front) × (more ≡ front ++ rest)
-between_known None new was more c is now between = cc
-between_known (Some x) None was more c is now between = cc
-between_known (Some x) (Some y) was more c is now (front, rest, begins, whole) =
-    let same : x ≡ was = cc in
-    let all : y ≡ was ++ more = cc in
-    let here : c ≡ was ++ front = begins ∙ ap (λ (l : List ℕ). l ++ front) same in (
-      front,
-      rest,
-      here,
-      append_cancel_left was more (front ++ rest)
-          (sym all ∙ whole ∙ ap (λ (l : List ℕ). l ++ rest) here ∙ append_assoc was front rest),
-    )
+between_known : (was more c : List ℕ) → IsBetween (Some was) (Some (was ++ more)) c
+    → (front : List ℕ) × (rest : List ℕ) × (c ≡ was ++ front) × (more ≡ front ++ rest)
+between_known was more c (front, rest, begins, whole) =
+    let all = whole ∙ ap (λ (l : List ℕ). l ++ rest) begins ∙ append_assoc was front rest in
+    (front, rest, begins, append_cancel_left was more (front ++ rest) all)
 
-pub between_still : (old new : Option (List ℕ)) (was c : List ℕ) → old ≡ Some was → Keeps old new → IsBetween old new c
-    → c ≡ was
-between_still old new was c is same between =
-    let shown : new ≡ Some (was ++ []) = shows_still old new was is same ∙ ap Some (sym (append-nil was)) in
-    let k = between_known old new was [] c is shown between in
-    let none : k.0 ≡ [] =
-    no_bytes k.0 (omega (arith, ap (λ (l : List ℕ). length l) k.3, length-append k.0 k.1)) in
-    k.2 ∙ ap (λ (l : List ℕ). was ++ l) none ∙ append-nil was
+pub between_still : (was c : List ℕ) → IsBetween (Some was) (Some was) c → c ≡ was
+between_still was c ([], rest, begins, whole) = begins ∙ append-nil was
+between_still was c (x ∷ front, rest, begins, whole) =
+    absurd (omega (arith, ap (length {A = ℕ}) begins, ap (length {A = ℕ}) whole, length-append {A = ℕ}))
 
 -- What the journal holds along a trace
 
 -- the journal's bytes are those of the start and the recorded ones
 pub journal_recorded : (start : Start) (past : List Happening)
     → journal_spelling Two (records_of start past) ≡ journal_spelling Two start.records ++ recorded past
-journal_recorded start [] = sym (append-nil (journal_spelling Two start.records))
-journal_recorded start (Kept entry ∷ past) =
-    ap (λ (b : List ℕ). b ++ spelling Two entry) (journal_recorded start past)
-    ∙ append_assoc (journal_spelling Two start.records) (recorded past) (spelling Two entry)
-journal_recorded start (_ ∷ past) = journal_recorded start past
+journal_recorded start past = ap (λ (b : List ℕ). header Two ++ b) (spelling_append (kept_in past) start.records)
 
--- the records of a driven trace are kept ones
-in_range : (start : Start) (past : List Happening) → AllByRecursion (IsRecord Two) start.records → KeepsRecords past
-    → AllByRecursion (IsRecord Two) (records_of start past)
-in_range start [] all keeps = all
-in_range start (Kept entry ∷ past) all keeps = (keeps.0, in_range start past all keeps.1)
-in_range start (_ ∷ past) all keeps = in_range start past all keeps
+pub all_both : (newer older : List Record) → AllByRecursion (IsRecord Two) newer → AllByRecursion (IsRecord Two) older
+    → AllByRecursion (IsRecord Two) (newer ++ older)
+all_both [] older now then = then
+all_both (entry ∷ newer) older now then = (now.0, all_both newer older now.1 then)
 
 pub kept_so : (start : Start) (past : List Happening) → AreKept Two start.limit start.records → Legal start past
     → KeepsRecords past → AreKept Two start.limit (records_of start past)
-kept_so start past kept legal keeps =
-    record { in_range = in_range start past kept.in_range keeps; whole = legal_sentence start past legal }
+kept_so start past kept legal keeps = record {
+  in_range = all_both (kept_in past) start.records keeps kept.in_range;
+  whole = legal_sentence start past legal;
+}
 
-pub drive_holds : (start : Start) (past : List Happening) (first last : Streams) → IsDriven start past first last
+pub drive_holds : {start : Start} {past : List Happening} {first last : Streams} → IsDriven start past first last
     → first.journal ≡ Some (journal_spelling Two start.records)
     → last.journal ≡ Some (journal_spelling Two (records_of start past))
-drive_holds start past first last d is =
-    shows_more first.journal last.journal (journal_spelling Two start.records) (recorded past) is d.text.journal
+drive_holds {start} {past} {first} {last} d is =
+    grown_known last.journal (journal_spelling Two start.records) (recorded past) (rw is at d.text.journal)
     ∙ ap Some (sym (journal_recorded start past))
 
 -- where a frame or a record is next, no reply is due
-pub frame_finished : (start : Start) (past : List Happening) (frame : Frame) (answer : Option ℕ)
-    → IsNext start past (Sent frame answer) → IsFinished past
-frame_finished start (Asked order moment ∷ past) frame answer next = absurd next.may
-frame_finished start _ frame answer next = tt
+frame_finished : (start : Start) (past : List Happening) (frame : Frame) → IsNextFrame start past frame
+    → IsFinished past
+frame_finished start (Asked order moment ∷ past) frame next = absurd (next None).may
+frame_finished start _ frame next = tt
 
 pub record_finished : (start : Start) (past : List Happening) (entry : Record) → IsNext start past (Kept entry)
     → IsFinished past
@@ -151,306 +103,250 @@ record_finished start _ entry next = tt
 
 -- a record has bytes, so a journal with one more is another
 has_bytes : (entry : Record) → 0 < length (spelling Two entry)
-has_bytes (Began order moment) = omega arith
-has_bytes (Opened unit) = omega arith
-has_bytes (Ended code) = omega arith
-has_bytes (Closed unit) = omega arith
+has_bytes entry = grind arith
 
-not_longer : (bytes : List ℕ) (entry : Record) → bytes ≡ bytes ++ spelling Two entry → ⊥
-not_longer bytes entry same =
-    omega (arith, ap (λ (l : List ℕ). length l) same, length-append bytes (spelling Two entry), has_bytes entry)
+-- A drive over a store that showed these bytes
 
-no_newer : (trace : List Happening) (next : Happening) → trace ≡ next ∷ trace → ⊥
-no_newer trace next same = omega (arith, ap (λ (l : List Happening). length l) same)
+-- legal and by plan, and the records are in their ranges
+abbrev pub IsTrail : Start → List Happening → Type 0
+IsTrail start past = Legal start past × ByPlan start past × KeepsRecords past
 
--- a drive over a store that showed these bytes
-module _ (limit most : ℕ) (found : List ℕ) (first : Streams) (is : first.journal ≡ Some found)
+-- the streams once the journal was opened
+abbrev pub from : {limit most : ℕ} {first : Streams} → IsBegun limit most first → Streams
+from {limit} {most} {first} b = record first { journal = b.middle }
+
+module _ {limit most : ℕ} {found : List ℕ} {first : Streams} (is : first.journal ≡ Some found)
     (b : IsBegun limit most first) where
-  abbrev pub start : Start
-  start = start_of b.journal
+  abbrev Sat : List Happening → List ℕ → Type 0
+  Sat past left = IsSat limit found (record { start = start_of b.journal; past = past }) left
 
   pub made : b.middle ≡ Some (journal_spelling Two b.journal.records)
-  made = some_becomes first.journal b.middle found (journal_spelling Two b.journal.records) is b.written
-
-  limit_is : b.journal.limit ≡ limit
-  limit_is = b.opened.found.loaded.0
+  made = let written = rw is at b.written in grind arith
 
   pub loads : Loads limit b.journal.records found
-  loads =
-      subst (λ (l : List ℕ). Loads limit b.journal.records l)
-      (sym (shows_one first.journal found b.opened.found.bytes is b.opened.found.shown))
-      (found_loads limit most first.journal b.journal b.opened.version b.opened.counted b.opened.total b.opened.found)
+  loads = rw (rw is at b.opened.found.shown) (found_loads limit most first.journal b.journal _ _ _ b.opened.found)
 
-  kept : AreKept Two (start_of b.journal).limit (start_of b.journal).records
-  kept =
-      subst (λ (l : ℕ). AreKept Two l b.journal.records) (sym limit_is)
-      (found_kept limit most first.journal b.journal b.opened.version b.opened.counted b.opened.total b.opened.found)
+  so : (past : List Happening) → IsTrail (start_of b.journal) past
+      → AreKept Two limit (records_of (start_of b.journal) past)
+  so past trail =
+      let kept = found_kept limit most first.journal b.journal _ _ _ b.opened.found in
+      let limit_is = b.opened.found.loaded.0 in
+      rw limit_is at (kept_so (start_of b.journal) past (rw limit_is kept) trail.0 trail.2)
 
-  so : (past : List Happening) → Legal start past → KeepsRecords past → AreKept Two limit (records_of start past)
-  so past legal keeps =
-      subst (λ (l : ℕ). AreKept Two l (records_of (start_of b.journal) past)) limit_is
-      (kept_so (start_of b.journal) past kept legal keeps)
-
-  sat_with : (past : List Happening) (left : List ℕ) → Legal start past → ByPlan start past → IsFinished past
-      → Loads limit (records_of start past) left → IsSat limit found (record { start = start; past = past }) left
-  sat_with past left legal planned finished leaves = record {
-    limit_is = limit_is;
-    found_loads = loads;
-    legal = legal;
-    planned = planned;
-    finished = finished;
-    left_loads = leaves;
-  }
-
-  -- just its records stand there
-  pub sat_whole : (past : List Happening) (left : List ℕ) → Legal start past → ByPlan start past → IsFinished past
-      → KeepsRecords past → left ≡ journal_spelling Two (records_of start past)
-      → IsSat limit found (record { start = start; past = past }) left
-  sat_whole past left legal planned finished keeps same =
-      sat_with past left legal planned finished
-      (subst (λ (l : List ℕ). Loads limit (records_of (start_of b.journal) past) l) (sym same)
-      (whole_loads limit (records_of (start_of b.journal) past) (so past legal keeps)))
-
-  -- and behind them a part of another
-  pub sat_cut : (past : List Happening) (left : List ℕ) (entry : Record) (count : ℕ) → Legal start past
-      → ByPlan start past → IsFinished past
-      → KeepsRecords past → IsRecord Two entry → count < length (spelling Two entry)
-      → left ≡ journal_spelling Two (records_of start past) ++ take count (spelling Two entry)
-      → IsSat limit found (record { start = start; past = past }) left
-  sat_cut past left entry count legal planned finished keeps range less same =
-      sat_with past left legal planned finished
-      (subst (λ (l : List ℕ). Loads limit (records_of (start_of b.journal) past) l) (sym same) (record {
+  -- its records stand there, and behind them a part of another, or nothing
+  with_left : (past : List Happening) (left rest : List ℕ) → IsTrail (start_of b.journal) past → IsFinished past
+      → (last : Record) × IsCutOf Two rest last
+      → left ≡ journal_spelling Two (records_of (start_of b.journal) past) ++ rest → Sat past left
+  with_left past left rest trail finished cut same =
+      let loads_left : Loads limit (records_of (start_of b.journal) past) left = rw same (record {
         version = Two;
         len = length (journal_spelling Two (records_of (start_of b.journal) past));
-        kept = so past legal keeps;
-        loadable = record {
-          rest = take count (spelling Two entry);
-          spelled = refl;
-          cut = cut_of_some entry (spelling Two entry) count refl range less;
-          counts = refl;
-        };
-      }))
+        kept = so past trail;
+        loadable = record { rest = rest; spelled = refl; cut = cut; counts = refl };
+      }) in
+      assumption (b.opened.found.loaded, loads)
 
--- A drive that came to its end
+  whole : (past : List Happening) (left : List ℕ) → IsTrail (start_of b.journal) past → IsFinished past
+      → left ≡ journal_spelling Two (records_of (start_of b.journal) past) → Sat past left
+  whole past left trail finished same = with_left past left [] trail finished cut_of_none (same ∙ sym (append-nil _))
 
-pub sat_ended : (limit most : ℕ) (found : List ℕ) (sitting : Sitting) (left : List ℕ)
-    → CameToItsEnd limit most found sitting left → IsSat limit found sitting left
-sat_ended limit most found sitting left e =
-    subst (λ (s : Sitting). IsSat limit found s left) (sym e.is)
-    (sat_whole limit most found e.first e.is_found e.drive.begun e.drive.drive.past left e.drive.drive.driven.legal
-    e.drive.drive.driven.planned e.drive.drive.described.finished e.drive.drive.driven.in_range
-    (one_some e.last.journal left _ e.is_left
-    (drive_holds (start_of e.drive.begun.journal) e.drive.drive.past (record e.first { journal = e.drive.begun.middle })
-    e.last e.drive.drive.driven (made limit most found e.first e.is_found e.drive.begun))))
+  -- whatever was in hand where it was killed
+  pub sat_killed : (older past : List Happening) (left : List ℕ) → IsTrail (start_of b.journal) older
+      → IsKilledAt (start_of b.journal) older past left → Sat past left
+  sat_killed older past left t (inl none) = rw none.is (whole older left t none.finished none.bytes)
+  sat_killed older past left t (inr (inl sent)) =
+      rw sent.is (whole (Sent sent.frame sent.answer ∷ older) left ((t.0, sent.next.may), (t.1, sent.next.planned), t.2)
+      tt sent.bytes)
+  sat_killed older past left t (inr (inr (inl cut))) =
+      rw cut.is (with_left older left (take cut.count (spelling Two cut.entry)) t
+      (record_finished (start_of b.journal) older cut.entry cut.next)
+      (cut_of_some cut.entry (spelling Two cut.entry) cut.count refl cut.in_range cut.less) cut.bytes)
+  sat_killed older past left t (inr (inr (inr said))) =
+      rw said.is (whole (Answered said.id said.reply ∷ older) left
+      ((t.0, said.next.may), (t.1, said.next.planned), t.2) tt said.bytes)
+
+  pub came_to_its_end : {orders : List (Contents × ℕ)} {writer : WriterState} {last : Streams} {left : List ℕ}
+      (d : IsDrive (start_of b.journal) orders (from b) writer last) → last.journal ≡ Some left
+      → CameToItsEnd limit most found (record { start = start_of b.journal; past = d.past }) left
+  came_to_its_end {orders} {writer} {last} {left} d held = record {
+    orders = orders;
+    first = first;
+    writer = writer;
+    last = last;
+    is_found = is;
+    drive = record { begun = b; drive = d };
+    is_left = held;
+    is = refl;
+  }
 
 -- A drive that broke off
 
--- a frame or a reply
-abbrev pub IsStep : Happening → Type 0
-IsStep (Answered id reply) = ⊤
-IsStep (Sent frame answer) = ⊤
-IsStep other = ⊥
+step_next : (start : Start) (past : List Happening) (fault : DriveFault) (next : Happening)
+    → IsBrokenStep start past fault next → IsNext start past next
+step_next start past Journal next step = step.2
+step_next start past NoMemory next never = absurd never
+step_next start past Out next step = step.3
+step_next start past fault next step = step.3
 
-pub link_keeps : (frame : Frame) (old new : Streams) → CutFrame frame old new ⊎ Unanswered frame Link old new
-    → Keeps old.journal new.journal
-link_keeps frame old new (inl cut) = cut.journal
-link_keeps frame old new (inr unanswered) = unanswered.journal
+module _ (start : Start) (past : List Happening) (old new : Streams) where
+  -- nothing was put into the journal, and so much may have happened without a record; or a record was put, or a part
+  abbrev pub BrokeWith : DriveFault → Type 0
+  BrokeWith fault =
+      (Keeps old.journal new.journal × (then : List Happening) × MayHaveHappened start past fault then × IsFinished then
+      × ((entry : Record) → then ≡ Kept entry ∷ past → ⊥))
+      ⊎ ((fault ≡ Journal) × ((entry : Record) × IsNext start past (Kept entry) × CutRecord entry old new))
 
-module _ (limit most : ℕ) (found : List ℕ) (first last : Streams) (is : first.journal ≡ Some found)
-    (b : IsBegun limit most first) (orders : List (Contents × ℕ)) (fault : DriveFault)
-    (d : IsBrokenDrive (start_of b.journal) orders fault (record first { journal = b.middle }) last)
-    (left : List ℕ) (between : IsBetween d.middle.journal last.journal left) where
-  abbrev pub begins : Start
+  still_past : (fault : DriveFault) → Keeps old.journal new.journal → IsFinished past → BrokeWith fault
+  still_past fault keeps finished =
+      inl (keeps, past, inl refl, finished, λ entry same. omega (arith, ap (length {A = Happening}) same))
+
+  pub broke_with : (fault : DriveFault) (rest : List (Contents × ℕ)) → BrokenOff start past rest fault old new
+      → BrokeWith fault
+  broke_with Journal rest off = inr (refl, off)
+  broke_with Out rest off =
+      let said : Happening = Answered off.0 off.1 in
+      inl (off.3.journal, said ∷ past, inr (said, (off.0, off.1, refl, off.2), refl), tt, λ entry same. cc)
+  broke_with NoMemory [] never = absurd never
+  broke_with NoMemory (order ∷ rest) off = still_past NoMemory off.3.journal off.0
+  broke_with Link rest (frame, next, inl cut) = still_past Link cut.journal (frame_finished start past frame next)
+  broke_with Link rest (frame, next, inr none) = still_past Link none.journal (frame_finished start past frame next)
+  broke_with fault rest off = still_past fault off.2.journal (frame_finished start past off.0 off.1)
+
+module _ {limit most : ℕ} {found : List ℕ} {first last : Streams} (is : first.journal ≡ Some found)
+    (b : IsBegun limit most first) {orders : List (Contents × ℕ)} {fault : DriveFault}
+    (d : IsBrokenDrive (start_of b.journal) orders fault (from b) last) (left : List ℕ)
+    (between : IsBetween d.middle.journal last.journal left) where
+  abbrev begins : Start
   begins = start_of b.journal
 
-  abbrev pub Sat : List Happening → Type 0
-  Sat past = IsSat limit found (record { start = start_of b.journal; past = past }) left
-
-  abbrev pub was : List ℕ
+  abbrev was : List ℕ
   was = journal_spelling Two (records_of begins d.past)
 
-  at_middle : d.middle.journal ≡ Some (journal_spelling Two (records_of begins d.past))
-  at_middle =
-      drive_holds begins d.past (record first { journal = b.middle }) d.middle d.driven
-      (made limit most found first is b)
+  at_middle : d.middle.journal ≡ Some was
+  at_middle = drive_holds d.driven (made is b)
 
-  still : Keeps d.middle.journal last.journal → left ≡ journal_spelling Two (records_of begins d.past)
-  still same = between_still d.middle.journal last.journal was left at_middle same between
+  still : Keeps d.middle.journal last.journal → left ≡ was
+  still keeps = between_still was left (rw (at_middle, kept_known last.journal was (rw at_middle at keeps)) at between)
 
-  -- this much of a record was put, or all of it
-  part_left : (entry : Record) → CutRecord entry d.middle last
-      → ((count : ℕ) × (count < length (spelling Two entry)) × (left ≡ was ++ take count (spelling Two entry)))
-      ⊎ (left ≡ was ++ spelling Two entry)
+  -- this much of a record was put
+  abbrev HasPart : Record → Type 0
+  HasPart entry = (part : List ℕ) × (more : List ℕ) × (left ≡ was ++ part) × (spelling Two entry ≡ part ++ more)
+
+  part_left : (entry : Record) → CutRecord entry d.middle last → HasPart entry
   part_left entry cut =
       let sp = spelling Two entry in
       let n = cut.journal.count in
-      let k = between_known d.middle.journal last.journal was (take n sp) left at_middle
-      (shows_more d.middle.journal last.journal was (take n sp) at_middle cut.journal.part) between in
+      let now = grown_known last.journal was (take n sp) (rw at_middle at cut.journal.part) in
+      let k = between_known was (take n sp) left (rw (at_middle, now) at between) in
       let whole : sp ≡ k.0 ++ (k.1 ++ drop n sp) =
       sym (take-append-drop n sp) ∙ ap (λ (l : List ℕ). l ++ drop n sp) k.3 ∙ append_assoc k.0 k.1 (drop n sp) in
-      ⊎_elim (λ part. inl (part.0, part.1, k.2 ∙ ap (λ (l : List ℕ). was ++ l) part.2))
-      (λ all. inr (k.2 ∙ ap (λ (l : List ℕ). was ++ l) all)) (first_part sp k.0 (k.1 ++ drop n sp) whole)
+      (k.0, k.1 ++ drop n sp, k.2, whole)
 
-  -- no record was put, and this happened
-  sat_still : (past : List Happening) → IsFinished past → left ≡ was
-      → (past ≡ d.past) ⊎ ((next : Happening) × IsStep next × IsNext begins d.past next × (past ≡ next ∷ d.past))
-      → Sat past
-  sat_still past finished same (inl is_trace) =
-      sat_whole limit most found first is b past left (rw is_trace d.driven.legal) (rw is_trace d.driven.planned)
-      finished (rw is_trace d.driven.in_range) (rw is_trace same)
-  sat_still past finished same (inr (Answered id reply, step, next, is_more)) =
-      sat_whole limit most found first is b past left (rw is_more (d.driven.legal, next.may))
-      (rw is_more (d.driven.planned, next.planned)) finished (rw is_more d.driven.in_range) (rw is_more same)
-  sat_still past finished same (inr (Sent frame answer, step, next, is_more)) =
-      sat_whole limit most found first is b past left (rw is_more (d.driven.legal, next.may))
-      (rw is_more (d.driven.planned, next.planned)) finished (rw is_more d.driven.in_range) (rw is_more same)
-  sat_still past finished same (inr (other, step, next, is_more)) = absurd step
+  -- where a record stands whole, no less was put
+  longer : (part : List ℕ) (entry : Record) → left ≡ was ++ part → left ≡ was ++ spelling Two entry
+      → length (spelling Two entry) ≤ length part
+  longer part entry same all =
+      omega (arith, ap (length {A = ℕ}) (append_cancel_left was part (spelling Two entry) (sym same ∙ all)))
 
-  sat_record : (past : List Happening) (entry : Record) → IsFinished past → IsNext begins d.past (Kept entry)
-      → CutRecord entry d.middle last → KeptWhereWhole begins d.past past left
-      → MayHaveHappened begins d.past Journal past → Sat past
-  sat_record past entry finished next cut counts happened = by (part_left entry cut) happened where
-    by : ((count : ℕ) × (count < length (spelling Two entry)) × (left ≡ was ++ take count (spelling Two entry)))
-        ⊎ (left ≡ was ++ spelling Two entry) → MayHaveHappened begins d.past Journal past
-        → Sat past
-    by (inr all) happened =
-        let is_more = (counts entry next).1 all in
-        sat_whole limit most found first is b past left (rw is_more (d.driven.legal, next.may))
-        (rw is_more (d.driven.planned, next.planned)) finished (rw is_more (cut.in_range, d.driven.in_range))
-        (rw is_more all)
-    by (inl (count, less, same)) (inl is_trace) =
-        sat_cut limit most found first is b past left entry count (rw is_trace d.driven.legal)
-        (rw is_trace d.driven.planned) finished (rw is_trace d.driven.in_range) cut.in_range less (rw is_trace same)
-    by (inl (count, less, same)) (inr (_, (other, is_kept, other_next), is_more)) =
-        let one : Kept other ≡ Kept entry =
-        one_next begins d.past (Kept entry) (Kept other) d.driven.legal next (rw is_kept at other_next) in
-        let grown : past ≡ Kept entry ∷ d.past = is_more ∙ ap (λ (h : Happening). h ∷ d.past) (is_kept ∙ one) in
-        let all = (counts entry next).0 grown in
-        absurd (omega (
-          arith,
-          less,
-          ap (λ (l : List ℕ). length l) all,
-          ap (λ (l : List ℕ). length l) same,
-          length-append was (spelling Two entry),
-          length-append was (take count (spelling Two entry)),
-          length-take count (spelling Two entry),
-        ))
+  one_kept : (entry other : Record) → IsNext begins d.past (Kept entry) → IsNext begins d.past (Kept other)
+      → other ≡ entry
+  one_kept entry other next also =
+      let one : Kept other ≡ Kept entry = one_next begins d.past (Kept entry) (Kept other) d.driven.legal next also in
+      cc
+
+  trail : IsTrail begins d.past
+  trail = (d.driven.legal, d.driven.planned, d.driven.in_range)
 
   pub sat_broken : (past : List Happening) → MayHaveHappened begins d.past fault past → IsFinished past
-      → KeptWhereWhole begins d.past past left → Sat past
-  sat_broken past happened finished counts = by fault d.rest d.broken happened where
-    frames : Keeps d.middle.journal last.journal → (past ≡ d.past)
-        ⊎ ((next : Happening) × ((frame : Frame) × (answer : Option ℕ) × (next ≡ Sent frame answer)
-        × IsNext begins d.past next) × (past ≡ next ∷ d.past))
-        → Sat past
-    frames keeps (inl is_trace) = sat_still past finished (still keeps) (inl is_trace)
-    frames keeps (inr (next, (frame, answer, is_sent, is_next), is_more)) =
-        sat_still past finished (still keeps)
-        (inr (Sent frame answer, tt, rw is_sent at is_next, rw is_sent at is_more))
+      → KeptWhereWhole begins d.past past left → IsSat limit found (record { start = begins; past = past }) left
+  sat_broken past happened finished counts = by happened broke where
+    broke : BrokeWith begins d.past d.middle last fault
+    broke = broke_with begins d.past d.middle last fault d.rest d.broken
 
-    by : (f : DriveFault) (rest : List (Contents × ℕ)) → BrokenOff begins d.past rest f d.middle last
-        → MayHaveHappened begins d.past f past → Sat past
-    by Journal rest (entry, next, cut) may = sat_record past entry finished next cut counts may
-    by Link rest (frame, next, cut) may = frames (link_keeps frame d.middle last cut) may
-    by (Line fault) rest (frame, next, unanswered) may = frames unanswered.journal may
-    by End rest (frame, next, unanswered) may = frames unanswered.journal may
-    by TooLong rest (frame, next, unanswered) may = frames unanswered.journal may
-    by NoMemory (order ∷ rest) (_, _, _, none) (inl is_trace) =
-        sat_still past finished (still none.journal) (inl is_trace)
-    by NoMemory (order ∷ rest) broken (inr (next, step, is_more)) = absurd step
-    by NoMemory [] never may = absurd never
-    by Out rest (id, reply, next, cut) (inl is_trace) = sat_still past finished (still cut.journal) (inl is_trace)
-    by Out rest (id, reply, next, cut) (inr (other, (number, word, is_said, is_next), is_more)) =
-        sat_still past finished (still cut.journal)
-        (inr (Answered number word, tt, rw is_said at is_next, rw is_said at is_more))
+    kept : (entry : Record) → IsNext begins d.past (Kept entry) → IsRecord Two entry
+        → left ≡ was ++ spelling Two entry → Sat is b past left
+    kept entry next range all =
+        rw ((counts entry next).1 all) (whole is b (Kept entry ∷ d.past) left
+        ((trail.0, next.may), (trail.1, next.planned), (range, trail.2)) tt all)
+
+    part_kept : (entry : Record) → IsNext begins d.past (Kept entry) → IsRecord Two entry → HasPart entry
+        → past ≡ d.past → Sat is b past left
+    part_kept entry next range (part, [], same, spelled) is_trace =
+        kept entry next range (rw (spelled, append-nil) same)
+    part_kept entry next range (part, x ∷ more, same, spelled) is_trace =
+        rw is_trace (with_left is b d.past left part trail (record_finished begins d.past entry next)
+        (entry, (range, x ∷ more, (λ e. cc), spelled)) same)
+
+    no_record : (next : Happening) → IsNext begins d.past next → past ≡ next ∷ d.past → left ≡ was → Sat is b past left
+    no_record (Kept entry) next grown same =
+        let all = longer [] entry (same ∙ sym (append-nil was)) ((counts entry next).0 grown) in
+        absurd (omega (arith, all, has_bytes entry))
+    no_record newest next grown same =
+        rw grown (whole is b (newest ∷ d.past) left ((trail.0, next.may), (trail.1, next.planned), trail.2)
+        (rw grown at finished) same)
+
+    by : MayHaveHappened begins d.past fault past → BrokeWith begins d.past d.middle last fault → Sat is b past left
+    by (inl is_trace) (inl (keeps, _, _, _, _)) =
+        rw is_trace (whole is b d.past left trail (rw is_trace at finished) (still keeps))
+    by (inl is_trace) (inr (_, (entry, next, cut))) = part_kept entry next cut.in_range (part_left entry cut) is_trace
+    by (inr (next, step, is_more)) (inl (keeps, _, _, _, _)) =
+        no_record next (step_next begins d.past fault next step) is_more (still keeps)
+    by (inr (next, step, is_more)) (inr (_, (entry, also, cut))) =
+        let one : next ≡ Kept entry =
+        one_next begins d.past (Kept entry) next d.driven.legal also (step_next begins d.past fault next step) in
+        kept entry also cut.in_range ((counts entry also).0 (is_more ∙ ap (λ (h : Happening). h ∷ d.past) one))
 
   -- Something may have happened
 
-  counts_still : (past : List Happening) → left ≡ was
-      → ((entry : Record) → past ≡ Kept entry ∷ d.past → ⊥) → KeptWhereWhole begins d.past past left
-  counts_still past same none entry next =
-      (λ grown. absurd (none entry grown), λ whole. absurd (not_longer was entry (sym same ∙ whole)))
-
-  broke_off : (past : List Happening) → MayHaveHappened begins d.past fault past → IsFinished past
+  pub broke_off : (past : List Happening) → MayHaveHappened begins d.past fault past → IsFinished past
       → KeptWhereWhole begins d.past past left
-      → (past : List Happening) × BrokeOff limit most found (record { start = begins; past = past }) left
-  broke_off past happened finished counts = (
-    past,
-    record {
-      orders = orders;
-      fault = fault;
-      first = first;
-      last = last;
-      is_found = is;
-      begun = b;
-      drive = d;
-      is_left = between;
-      past = past;
-      happened = happened;
-      finished = finished;
-      counts = counts;
-      is = refl;
-    },
-  )
+      → BrokeOff limit most found (record { start = begins; past = past }) left
+  broke_off past happened finished counts = record {
+    orders = orders;
+    fault = fault;
+    first = first;
+    last = last;
+    is_found = is;
+    begun = b;
+    drive = d;
+    is_left = between;
+    past = past;
+    happened = happened;
+    finished = finished;
+    counts = counts;
+    is = refl;
+  }
 
-  abbrev pub Made : Type 0
+  abbrev Made : Type 0
   Made = (past : List Happening) × BrokeOff limit most found (record { start = begins; past = past }) left
 
-  abbrev pub Makes : DriveFault → Type 0
-  Makes f =
-      (past : List Happening) → MayHaveHappened begins d.past f past → IsFinished past
-      → KeptWhereWhole begins d.past past left → Made
-
   pub some_broken : Made
-  some_broken = by fault d.rest d.broken broke_off where
-    trace_alone : left ≡ was → KeptWhereWhole begins d.past d.past left
-    trace_alone same = counts_still d.past same (λ entry grown. no_newer d.past (Kept entry) grown)
+  some_broken = by (broke_with begins d.past d.middle last fault d.rest d.broken) where
+    -- less than a record was put, so none is kept
+    less_put : (past : List Happening) (part : List ℕ) → left ≡ was ++ part
+        → ((entry : Record) → past ≡ Kept entry ∷ d.past → ⊥)
+        → ((entry : Record) → IsNext begins d.past (Kept entry) → length part < length (spelling Two entry))
+        → KeptWhereWhole begins d.past past left
+    less_put past part same none short entry next = (
+      λ grown. absurd (none entry grown),
+      λ whole. absurd (omega (arith, short entry next, longer part entry same whole)),
+    )
 
-    same_record : (entry other : Record) → IsNext begins d.past (Kept entry) → IsNext begins d.past (Kept other)
-        → other ≡ entry
-    same_record entry other next also =
-        let one : Kept other ≡ Kept entry =
-        one_next begins d.past (Kept entry) (Kept other) d.driven.legal next also in
-        cc
+    of_record : (entry : Record) → fault ≡ Journal → IsNext begins d.past (Kept entry) → HasPart entry → Made
+    of_record entry journal next (part, [], same, spelled) =
+        (Kept entry ∷ d.past, broke_off (Kept entry ∷ d.past)
+        (inr (Kept entry, rw journal (entry, refl, next), refl)) tt (λ other also.
+        let one = one_kept entry other next also in
+        (λ grown. rw (one, spelled, append-nil) same, λ whole. rw one)))
+    of_record entry journal next (part, x ∷ more, same, spelled) =
+        let less : length part < length (spelling Two entry) =
+        omega (arith, ap (length {A = ℕ}) spelled, length-append {A = ℕ}) in
+        (d.past, broke_off d.past (inl refl) (record_finished begins d.past entry next)
+        (less_put d.past part same (λ other grown. omega (arith, ap (length {A = Happening}) grown))
+        (λ other also. rw (one_kept entry other next also) less)))
 
-    of_record : (entry : Record) → IsNext begins d.past (Kept entry) → Makes Journal
-        → ((count : ℕ) × (count < length (spelling Two entry)) × (left ≡ was ++ take count (spelling Two entry)))
-        ⊎ (left ≡ was ++ spelling Two entry) → Made
-    of_record entry next make (inr all) =
-        make (Kept entry ∷ d.past) (inr (Kept entry, (entry, refl, next), refl)) tt
-        (λ other also.
-        let one = same_record entry other next also in
-        (λ grown. rw one all, λ whole. ap (λ (e : Record). Kept e ∷ d.past) (sym one)))
-    of_record entry next make (inl (count, less, same)) =
-        make d.past (inl refl) (record_finished begins d.past entry next)
-        (λ other also.
-        let one = same_record entry other next also in (
-          λ grown. absurd (no_newer d.past (Kept other) grown),
-          λ whole. absurd (omega (
-            arith,
-            less,
-            ap (λ (l : List ℕ). length l) (rw one at whole),
-            ap (λ (l : List ℕ). length l) same,
-            length-append was (spelling Two entry),
-            length-append was (take count (spelling Two entry)),
-            length-take count (spelling Two entry),
-          )),
-        ))
-
-    of_frame : (f : DriveFault) (frame : Frame) → IsNextFrame begins d.past frame → Keeps d.middle.journal last.journal
-        → Makes f → Made
-    of_frame f frame next keeps make =
-        make d.past (inl refl) (frame_finished begins d.past frame None (next None)) (trace_alone (still keeps))
-
-    by : (f : DriveFault) (rest : List (Contents × ℕ)) → BrokenOff begins d.past rest f d.middle last → Makes f → Made
-    by Journal rest (entry, next, cut) make = of_record entry next make (part_left entry cut)
-    by Link rest (frame, next, cut) make = of_frame Link frame next (link_keeps frame d.middle last cut) make
-    by (Line fault) rest (frame, next, unanswered) make = of_frame (Line fault) frame next unanswered.journal make
-    by End rest (frame, next, unanswered) make = of_frame End frame next unanswered.journal make
-    by TooLong rest (frame, next, unanswered) make = of_frame TooLong frame next unanswered.journal make
-    by NoMemory (order ∷ rest) (finished, _, _, none) make =
-        make d.past (inl refl) finished (trace_alone (still none.journal))
-    by NoMemory [] never make = absurd never
-    by Out rest (id, reply, next, cut) make =
-        make (Answered id reply ∷ d.past) (inr (Answered id reply, (id, reply, refl, next), refl)) tt
-        (counts_still (Answered id reply ∷ d.past) (still cut.journal) (λ entry grown. cc))
+    by : BrokeWith begins d.past d.middle last fault → Made
+    by (inl (keeps, past, happened, finished, none)) =
+        (past, broke_off past happened finished (less_put past [] (still keeps ∙ sym (append-nil was)) none
+        (λ entry next. has_bytes entry)))
+    by (inr (journal, (entry, next, cut))) = of_record entry journal next (part_left entry cut)

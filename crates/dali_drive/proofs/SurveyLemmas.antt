@@ -1,25 +1,22 @@
 -- How surveys of units go on, report by report, and how they are broken off.
-use Rattle.std.proofs.Common.{◌≡◌, ◌<◌, ◌∙◌, ◌↔◌, refl, sym, ap, subst, ℕ, List, [], ◌∷◌, ◌++◌, Option, Some, None, Bool, true, false}
-use Rattle.std.proofs.Common.{is_some, suc, ◌+◌, length, take, drop, drop-cons, reverse, get_or, arith}
-use Rattle.std.proofs.Common.{◌&&◌, if◌then◌else◌}
+use Rattle.std.proofs.Common.{◌≡◌, ◌<◌, ◌↔◌, refl, ℕ, List, [], ◌∷◌, ◌++◌, Option, Some, None, Bool, true, false}
+use Rattle.std.proofs.Common.{is_some, suc, ◌+◌, length, take, drop, drop-cons, reverse, get_or, arith, ◌&&◌}
 use Rattle.std.proofs.lemmas.List.{take_more, take-append-drop, reverse-append, reverse-reverse}
 use Rattle.std.specs.Io.KnownBytes.{Appends}
-use Rattle.std.proofs.KnownBytes.{Appends-trans, Keeps-refl}
+use Rattle.std.proofs.KnownBytes.{Appends-trans}
 use Rattle.dali_bank.specs.Order.{Contents}
 use Rattle.dali_read.specs.Readings.{Course}
 use Rattle.dali_read.specs.Places.{last_course, order_course}
-use Rattle.dali_read.specs.Findings.{IsFound}
 use Rattle.dali_read.specs.declared.finding.Finding.{Finding}
 use Rattle.dali_read.specs.declared.finding.Finding.TheVariants.{Same}
 use Rattle.dali_read.proofs.FindingLemmas.{same_found}
 use Rattle.dali_read.proofs.CourseLemmas.{last_read}
 use Rattle.dali_trace.specs.declared.fault.DriveFault.{DriveFault}
-use Rattle.dali_trace.specs.declared.fault.DriveFault.TheVariants.{Journal, Link, Line, End, NoMemory, TooLong, Out}
+use Rattle.dali_trace.specs.declared.fault.DriveFault.TheVariants.{Out}
 use Rattle.dali_drive.specs.Transcript.{Streams, shown, link_shown}
 use Rattle.dali_drive.specs.UnitRead.{IsUnitRead, UnitReadBroke}
 use Rattle.dali_drive.specs.Surveys.{Report, Surveyed, Reported, BreaksReport, IsScanReport, IsOrderReport, IsSame}
-use Rattle.dali_drive.specs.Surveys.{FoundOf, IsAllTold}
-use Rattle.dali_drive.specs.Surveys.{TellsLast, TellsOrder, all_told, answered, link_of, addresses_below}
+use Rattle.dali_drive.specs.Surveys.{FoundOf, IsAllTold, TellsLast, TellsOrder, answered, addresses_below}
 use Rattle.dali_drive.proofs.DriveLemmas.{IsCut, part_of_it}
 use Rattle.dali_drive.proofs.ReadingLemmas.{told_both}
 
@@ -27,24 +24,15 @@ pub surveyed_more : {A : Type 0} (is_report : Report A → Type 0) (reports : Li
     (is_so : Report A → Type 0) (first mid last : Streams)
     → Surveyed is_report reports first mid → (r : Reported is_report item is_so mid last)
     → Surveyed is_report (r.report ∷ reports) first last
-surveyed_more is_report reports item is_so first mid last s r = record {
-  each = (r.is, s.each);
-  link = told_both r.report.told (all_told reports) (link_of first) (link_of mid) (link_of last) s.link r.link;
-  out = Appends-trans _ _ _ _ _ s.out r.out;
-}
+surveyed_more is_report reports item is_so first mid last s r =
+    record { each = search; link = told_both _ _ _ _ _ s.link r.link; out = Appends-trans _ _ _ _ _ s.out r.out }
 
 -- the fault broke the reading off, before its line
 pub breaks_reading : {A : Type 0} (is_report : Report A → Type 0) (fault : DriveFault) (item : A) (unit : ℕ)
     (course : Course) (l more a less o : Option (List ℕ))
     → UnitReadBroke unit course fault (link_shown l a) (link_shown more less)
     → BreaksReport is_report fault item unit course (shown None l a o) (shown None more less o)
-breaks_reading is_report Out item unit course l more a less o broke = absurd broke.broke.broken.answers
-breaks_reading is_report Journal item unit course l more a less o broke = (broke, Keeps-refl o)
-breaks_reading is_report NoMemory item unit course l more a less o broke = (broke, Keeps-refl o)
-breaks_reading is_report Link item unit course l more a less o broke = (broke, Keeps-refl o)
-breaks_reading is_report (Line fault) item unit course l more a less o broke = (broke, Keeps-refl o)
-breaks_reading is_report End item unit course l more a less o broke = (broke, Keeps-refl o)
-breaks_reading is_report TooLong item unit course l more a less o broke = (broke, Keeps-refl o)
+breaks_reading is_report fault item unit course l more a less o broke = grind arith
 
 -- ---- which units answer
 
@@ -57,14 +45,8 @@ module _ (unit : ℕ) (l more a less o out : Option (List ℕ)) (outcome : Optio
   pub unit_scanned : Appends o out line
       → Reported IsScanReport unit (λ report. is_some outcome ≡ is_some report.outcome) (shown None l a o)
       (shown None more less out)
-  unit_scanned written = record {
-    report = scan_report;
-    item_is = refl;
-    is = (r.ends, tells);
-    so = refl;
-    link = r.text;
-    out = written;
-  }
+  unit_scanned written =
+      record { report = scan_report; item_is = refl; is = (r.ends, tells); so = refl; link = r.text; out = written }
 
   pub scan_cut : IsCut o out line
       → BreaksReport IsScanReport Out unit unit last_course (shown None l a o) (shown None more less out)
@@ -80,19 +62,8 @@ last_is unit bytes first last r = let one = last_read r.told unit bytes r.ends i
 -- what is found of an order is all the same, or not
 pub same_told : (report : Report Contents) (outcome : Option (List ℕ)) (found : Option Finding)
     → report.outcome ≡ outcome → FoundOf report.item outcome found → (found ≡ Some Same) ↔ IsSame report
-same_told report None found is none = (
-  λ same. let never = sym none ∙ same in cc,
-  λ all. let never = sym is ∙ all.1 in
-      cc,
-)
-same_told report (Some bytes) found is (finding, so, e) = (
-  λ same. let all : finding ≡ Same = cc in
-      (bytes, is, subst (λ (f : Finding). IsFound report.item.updates bytes f) all so),
-  λ all. let mine : bytes ≡ all.0 = cc in
-      let same = same_found report.item.updates bytes finding
-      (subst (λ (l : List ℕ). IsFound report.item.updates l Same) (sym mine) all.2) so in
-      e ∙ ap (λ (f : Finding). Some f) same,
-)
+same_told report None found is none = grind arith
+same_told report (Some bytes) found is so = grind (arith, same_found report.item.updates bytes so.0)
 
 module _ (order : Contents) (l more a less o out : Option (List ℕ)) (outcome : Option (List ℕ))
     (r : IsUnitRead order.unit (order_course order.updates) outcome (link_shown l a) (link_shown more less))
@@ -103,14 +74,8 @@ module _ (order : Contents) (l more a less o out : Option (List ℕ)) (outcome :
   pub order_verified : (found : Option Finding) → FoundOf order outcome found → Appends o out line
       → Reported IsOrderReport order (λ report. FoundOf report.item report.outcome found) (shown None l a o)
       (shown None more less out)
-  order_verified found so written = record {
-    report = order_report;
-    item_is = refl;
-    is = (r.ends, tells);
-    so = so;
-    link = r.text;
-    out = written;
-  }
+  order_verified found so written =
+      record { report = order_report; item_is = refl; is = (r.ends, tells); so = so; link = r.text; out = written }
 
   pub verify_cut : IsCut o out line
       → BreaksReport IsOrderReport Out order order.unit (order_course order.updates) (shown None l a o)
@@ -120,46 +85,37 @@ module _ (order : Contents) (l more a less o out : Option (List ℕ)) (outcome :
 -- the unit by another name
 pub read_of : {course : Course} {outcome : Option (List ℕ)} {first last : Streams} (one two : ℕ) → one ≡ two
     → IsUnitRead one course outcome first last → IsUnitRead two course outcome first last
-read_of {course} {outcome} {first} {last} one two same read =
-    subst (λ (unit : ℕ). IsUnitRead unit course outcome first last) same read
+read_of one two same read = grind arith
 
 pub broke_of : {course : Course} {fault : DriveFault} {first last : Streams} (one two : ℕ) → one ≡ two
     → UnitReadBroke one course fault first last → UnitReadBroke two course fault first last
-broke_of {course} {fault} {first} {last} one two same broke =
-    subst (λ (unit : ℕ). UnitReadBroke unit course fault first last) same broke
+broke_of one two same broke = grind arith
 
 -- one more address
 pub one_more : (address : ℕ) → addresses_below (address + 1) ≡ address ∷ addresses_below address
-one_more address = let same : address + 1 ≡ suc address = omega arith in ap addresses_below same
+one_more address = grind arith
 
 -- one more item, of those that a list begins with
 pub items_more : (orders : List Contents) (index : ℕ) (d order : Contents) (items : List Contents)
     → index < length orders → order ≡ get_or orders index d → items ≡ reverse (take index orders)
     → order ∷ items ≡ reverse (take (index + 1) orders)
-items_more orders index d order items below is so =
-    rw (is, so) (sym (ap (λ (l : List Contents). reverse l) (take_more orders index d below)
-    ∙ reverse-append (take index orders) (get_or orders index d ∷ [])))
+items_more orders index d order items below is so = grind (arith, take_more orders index d below, reverse-append)
 
 -- those that are left
 pub items_left : (orders : List Contents) (index : ℕ) (d order : Contents) (items : List Contents)
     → index < length orders → order ≡ get_or orders index d → items ≡ reverse (take index orders)
     → reverse items ++ order ∷ drop (suc index) orders ≡ orders
 items_left orders index d order items below is so =
-    ap (λ (l : List Contents). reverse l ++ order ∷ drop (suc index) orders) so
-    ∙ ap (λ (l : List Contents). l ++ order ∷ drop (suc index) orders) (reverse-reverse (take index orders))
-    ∙ ap (λ (o : Contents). take index orders ++ o ∷ drop (suc index) orders) is
-    ∙ ap (λ (l : List Contents). take index orders ++ l) (sym (drop-cons orders index d below))
-    ∙ take-append-drop index orders
+    rw (so, reverse-reverse, is) (grind (arith, drop-cons orders index d below, take-append-drop index orders))
 
 -- all so far and this one
 pub both_same : (all one : Bool) (older now : Type 0) → ((all ≡ true) ↔ older) → ((one ≡ true) ↔ now)
     → ((all && one) ≡ true) ↔ (now × older)
-both_same true one older now so this = (λ is. (this.0 is, so.0 refl), λ both. this.1 both.0)
-both_same false one older now so this = (λ never. cc, λ both. let never = so.1 both.1 in cc)
+both_same all one older now so this = grind arith
 
 -- the same of what is the same
 pub same_by : {A B C : Type 0} → (A ↔ B) → (B ↔ C) → A ↔ C
-same_by first second = (λ a. second.0 (first.0 a), λ c. first.1 (second.1 c))
+same_by first second = grind arith
 
 -- one more order was told
 pub told_more : {B : Type 0} (told : B → B → List (Contents × Option Finding) → Type 0)
@@ -167,20 +123,13 @@ pub told_more : {B : Type 0} (told : B → B → List (Contents × Option Findin
     (report : Report Contents) → report.item ≡ order → FoundOf report.item report.outcome found
     → (t : IsAllTold told reports first mid) → told first last ((order, found) ∷ t.found)
     → IsAllTold told (report ∷ reports) first last
-told_more told reports first mid last order found report is so t more = record {
-  found = (order, found) ∷ t.found;
-  are_found = (sym is, so, t.are_found);
-  told_all = more;
-}
+told_more told reports first mid last order found report is so t more = grind arith
 
 -- one more unit answered, or none
 pub counts_one : {A : Type 0} (report : Report A) (reports : List (Report A)) (answers : Bool)
     → answers ≡ is_some report.outcome → answers ≡ true → answered (report ∷ reports) ≡ answered reports + 1
-counts_one report reports answers same is =
-    ap (λ (b : Bool). answered reports + (if b then 1 else 0)) (sym same ∙ is)
+counts_one report reports answers same is = grind arith
 
 pub counts_none : {A : Type 0} (report : Report A) (reports : List (Report A)) (answers : Bool)
     → answers ≡ is_some report.outcome → answers ≡ false → answered (report ∷ reports) ≡ answered reports
-counts_none report reports answers same is =
-    let none = ap (λ (b : Bool). answered reports + (if b then 1 else 0)) (sym same ∙ is) in
-    let still : answered reports + 0 ≡ answered reports = omega arith in none ∙ still
+counts_none report reports answers same is = grind arith

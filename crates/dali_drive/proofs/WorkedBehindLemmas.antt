@@ -1,6 +1,6 @@
 -- What stands behind older journals, and what a list of orders gives, by hand, and what is near both.
-use Rattle.std.proofs.Common.{Some, ◌≡◌, ◌∙◌, refl, sym, ap, ℕ, true, false, List, [], ◌∷◌, ◌++◌, ◌+◌, length, arith}
-use Rattle.std.proofs.Common.{append-nil, length-append, reverse, suc, codes, Option, None}
+use Rattle.std.proofs.Common.{Some, ◌≡◌, refl, ℕ, List, [], ◌∷◌, ◌++◌, arith, append-nil, length-append, codes, Option}
+use Rattle.std.proofs.Common.{None}
 use Rattle.dali_bank.specs.Order.{Contents}
 use Rattle.dali_journal.specs.declared.behind.JoinFault.{JoinFault}
 use Rattle.dali_journal.specs.declared.behind.JoinFault.TheVariants.{Repeated}
@@ -9,20 +9,16 @@ use Rattle.dali_journal.specs.declared.record.Record.{Record}
 use Rattle.dali_journal.specs.declared.record.Record.TheVariants.{Began, Opened, Ended}
 use Rattle.dali_journal.specs.declared.version.Version.TheVariants.{Two}
 use Rattle.dali_journal.specs.JournalState.{JournalState}
-use Rattle.dali_journal.specs.Orders.{orders_of}
-use Rattle.dali_journal.specs.Sentence.{is_begun}
 use Rattle.dali_journal.specs.Spelling.{header, journal_spelling}
 use Rattle.dali_trace.specs.Trace.{Start}
 use Rattle.dali_trace.specs.Worked.{first_order, second_order}
-use Rattle.dali_drive.specs.declared.following.Given.{Given}
 use Rattle.dali_drive.specs.declared.following.Given.TheVariants as gives
 use Rattle.dali_drive.specs.declared.listed.ListedOrders.{ListedOrders}
-use Rattle.dali_drive.specs.Driven.{at_moment}
-use Rattle.dali_drive.specs.Followed.{as_given}
 use Rattle.dali_drive.specs.Behind.{ActsOnceBehind, EndsUnjoined, IsBegunBehind, bytes_behind}
 use Rattle.dali_drive.specs.Listed.{GaveListed, IsEmpty}
 use Rattle.dali_drive.specs.Desks.{Look}
 use Rattle.dali_drive.specs.Transcript.{Streams}
+use Rattle.std.proofs.lemmas.List.{append_cancel_right}
 
 -- ---- the bytes of both
 
@@ -53,11 +49,7 @@ own_records = Ended Silent ∷ Began second_order 8 ∷ []
 pub whole_of_two : (older : JournalState) (most : ℕ) (first : Streams) (b : IsBegunBehind (Some older) 10 most first)
     → older.records ≡ older_records → b.begun.journal.records ≡ own_records
     → (b.journal.records ≡ own_records ++ older_records) × (b.journal.limit ≡ 11)
-whole_of_two older most first b there here = (
-  b.whole.records_are ∙ ap (λ (rs : List Record). rs ++ older.records) here
-      ∙ ap (λ (rs : List Record). own_records ++ rs) there,
-  b.whole.limit_is ∙ ap (λ (rs : List Record). length (orders_of rs) + 10) there,
-)
+whole_of_two older most first b there here = grind arith
 
 -- ---- each order acts once
 
@@ -65,26 +57,13 @@ whole_of_two older most first b there here = (
 pub older_records_forgotten : (older : JournalState) (start : Start) → older.records ≡ older_records
     → start.records ≡ [] → ActsOnceBehind older 10 start [] → ⊥
 older_records_forgotten older start there here acts =
-    let e : [] ≡ acts.own ++ older_records =
-    sym here ∙ acts.records_are ∙ ap (λ (rs : List Record). acts.own ++ rs) there in
-    let lengths : 0 ≡ length (acts.own ++ older_records) = ap length e in
-    let parts = length-append acts.own older_records in omega (arith, lengths, parts)
+    grind (arith, length-append acts.own older.records, acts.records_are)
 
 -- nor is one from a journal that has an older number again
 pub older_number_again : (older : JournalState) (start : Start) → older.records ≡ older_records
     → start.records ≡ Began first_order 9 ∷ older_records → ActsOnceBehind older 10 start [] → ⊥
 older_number_again older start there here acts =
-    by acts.own (sym here ∙ acts.records_are ∙ ap (λ (rs : List Record). acts.own ++ rs) there)
-    (acts.apart 1 (ap (is_begun 1) there))
-  where
-    by : (own : List Record) → Began first_order 9 ∷ older_records ≡ own ++ older_records → is_begun 1 own ≡ false → ⊥
-    by [] e apart = let lengths : 3 ≡ 2 = ap length e in omega (arith, lengths)
-    by (a ∷ []) e apart =
-        let same : a ≡ Began first_order 9 = cc in
-        let begun : true ≡ false = sym (ap (λ (r : Record). is_begun 1 (r ∷ [])) same) ∙ apart in cc
-    by (a ∷ b ∷ own) e apart =
-        let lengths : 3 ≡ suc (suc (length (own ++ older_records))) = ap length e in
-        let parts = length-append own older_records in omega (arith, lengths, parts)
+    grind (arith, append_cancel_right acts.own (Began first_order 9 ∷ []) older.records, acts.apart 1)
 
 -- ---- two journals that are none together
 
@@ -92,8 +71,7 @@ older_number_again older start there here acts =
 pub unjoined_without_a_common_number : {G B : Type 0} (older : JournalState) (limit most : ℕ) (orders : G)
     (first : Streams) (before : B) (left : G) (last : Look) (after : B) → older.records ≡ older_records
     → EndsUnjoined (Repeated 2) (Some older) limit most orders first before left last after → ⊥
-unjoined_without_a_common_number older limit most orders first before left last after there ends =
-    let begun : false ≡ true = sym (ap (is_begun 2) there) ∙ ends.why.1 in cc
+unjoined_without_a_common_number older limit most orders first before left last after there ends = grind arith
 
 -- one that stands alone is joined
 pub alone_is_joined : {G B : Type 0} (fault : JoinFault) (limit most : ℕ) (orders : G) (first : Streams) (before : B)
@@ -105,25 +83,19 @@ pub unjoined_and_sent : {G B : Type 0} (fault : JoinFault) (older : Option Journ
     (first : Streams) (before : B) (left : G) (last : Look) (after : B) → first.link ≡ Some []
     → last.streams.link ≡ Some (codes "C301\n")
     → EndsUnjoined fault older limit most orders first before left last after → ⊥
-unjoined_and_sent fault older limit most orders first before left last after none sent ends =
-    let kept : last.streams.link ≡ first.link = ap (λ (s : Streams). s.link) ends.streams in
-    let same : Some (codes "C301\n") ≡ Some [] = sym sent ∙ kept ∙ none in cc
+unjoined_and_sent fault older limit most orders first before left last after none sent ends = grind arith
 
 pub unjoined_and_heard : {G B : Type 0} (fault : JoinFault) (older : Option JournalState) (limit most : ℕ) (orders : G)
     (first : Streams) (before : B) (left : G) (last : Look) (after : B) → first.answers ≡ Some (codes "--\n")
     → last.streams.answers ≡ Some []
     → EndsUnjoined fault older limit most orders first before left last after → ⊥
-unjoined_and_heard fault older limit most orders first before left last after line heard ends =
-    let kept : last.streams.answers ≡ first.answers = ap (λ (s : Streams). s.answers) ends.streams in
-    let same : Some [] ≡ Some (codes "--\n") = sym heard ∙ kept ∙ line in cc
+unjoined_and_heard fault older limit most orders first before left last after line heard ends = grind arith
 
 pub unjoined_and_said : {G B : Type 0} (fault : JoinFault) (older : Option JournalState) (limit most : ℕ) (orders : G)
     (first : Streams) (before : B) (left : G) (last : Look) (after : B) → first.out ≡ Some []
     → last.streams.out ≡ Some (codes "reply 1 taken\n")
     → EndsUnjoined fault older limit most orders first before left last after → ⊥
-unjoined_and_said fault older limit most orders first before left last after none said ends =
-    let kept : last.streams.out ≡ first.out = ap (λ (s : Streams). s.out) ends.streams in
-    let same : Some (codes "reply 1 taken\n") ≡ Some [] = sym said ∙ kept ∙ none in cc
+unjoined_and_said fault older limit most orders first before left last after none said ends = grind arith
 
 -- ---- what a list gives
 
@@ -133,81 +105,31 @@ IsList listed orders = (listed.rest.now ≡ orders) × (listed.moment ≡ 7)
 -- its first order at its moment, and then the second one
 pub gave_the_first : (first now : ListedOrders) → IsList first (first_order ∷ second_order ∷ [])
     → IsList now (second_order ∷ []) → GaveListed first now (gives.Order first_order 7 ∷ [])
-gave_the_first first now before after = record {
-  orders = first_order ∷ [];
-  rest_is = before.0 ∙ ap (λ rest. first_order ∷ rest) (sym after.0);
-  moment_is = after.1 ∙ sym before.1;
-  given_are = ap (λ moment. gives.Order first_order moment ∷ []) (sym before.1);
-}
+gave_the_first first now before after =
+    record { orders = first_order ∷ []; rest_is = cc; moment_is = cc; given_are = cc }
 
 pub gave_both : (first now : ListedOrders) → IsList first (first_order ∷ second_order ∷ []) → IsList now []
     → GaveListed first now (gives.Order second_order 7 ∷ gives.Order first_order 7 ∷ []) × IsEmpty now
-gave_both first now before after = (
-  record {
-    orders = first_order ∷ second_order ∷ [];
-    rest_is = before.0 ∙ ap (λ rest. first_order ∷ second_order ∷ rest) (sym after.0);
-    moment_is = after.1 ∙ sym before.1;
-    given_are = ap (λ moment. gives.Order second_order moment ∷ gives.Order first_order moment ∷ []) (sym before.1);
-  },
-  after.0,
-)
+gave_both first now before after =
+    (record { orders = first_order ∷ second_order ∷ []; rest_is = cc; moment_is = cc; given_are = cc }, after.0)
 
 -- where the second one is left, just the first was given
-only_the_first : (first now : ListedOrders) (given : List Given) → IsList first (first_order ∷ second_order ∷ [])
-    → IsList now (second_order ∷ []) → GaveListed first now given → given ≡ gives.Order first_order 7 ∷ []
-only_the_first first now given before after gave =
-    by gave.orders first.moment before.1
-    (sym before.0 ∙ gave.rest_is ∙ ap (λ (rest : List Contents). gave.orders ++ rest) after.0) gave.given_are
-  where
-    by : (orders : List Contents) (moment : ℕ) → moment ≡ 7
-        → first_order ∷ second_order ∷ [] ≡ orders ++ (second_order ∷ [])
-        → given ≡ as_given (reverse (at_moment moment orders)) → given ≡ gives.Order first_order 7 ∷ []
-    by [] moment is e g = absurd (let short : 2 ≡ 1 = ap length e in omega (arith, short))
-    by (a ∷ []) moment is e g =
-        let same : first_order ≡ a = cc in
-        g ∙ ap (λ (order : Contents). gives.Order order moment ∷ []) (sym same)
-        ∙ ap (λ (m : ℕ). gives.Order first_order m ∷ []) is
-    by (a ∷ b ∷ []) moment is e g = absurd (let long : 2 ≡ 3 = ap length e in omega (arith, long))
-    by (a ∷ b ∷ c ∷ rest) moment is e g = absurd (let long : [] ≡ c ∷ (rest ++ (second_order ∷ [])) = cc in cc)
-
--- the number and the moment of what was given last
-abbrev number_of : List Given → ℕ
-number_of (gives.Order order moment ∷ given) = order.id
-number_of other = 0
-
-abbrev moment_of : List Given → ℕ
-moment_of (gives.Order order moment ∷ given) = moment
-moment_of other = 0
-
 pub second_before_the_first : (first now : ListedOrders) → IsList first (first_order ∷ second_order ∷ [])
     → IsList now (second_order ∷ []) → GaveListed first now (gives.Order second_order 7 ∷ []) → ⊥
 second_before_the_first first now before after gave =
-    let same = only_the_first first now (gives.Order second_order 7 ∷ []) before after gave in
-    let numbers : 2 ≡ 1 = ap number_of same in omega (arith, numbers)
+    grind (arith, append_cancel_right gave.orders (first_order ∷ []) now.rest.now)
 
 pub first_at_another_moment : (first now : ListedOrders) → IsList first (first_order ∷ second_order ∷ [])
     → IsList now (second_order ∷ []) → GaveListed first now (gives.Order first_order 8 ∷ []) → ⊥
 first_at_another_moment first now before after gave =
-    let same = only_the_first first now (gives.Order first_order 8 ∷ []) before after gave in
-    let moments : 8 ≡ 7 = ap moment_of same in omega (arith, moments)
+    grind (arith, append_cancel_right gave.orders (first_order ∷ []) now.rest.now)
 
 pub first_passed_over : (first now : ListedOrders) → IsList first (first_order ∷ second_order ∷ [])
     → IsList now (second_order ∷ []) → GaveListed first now [] → ⊥
 first_passed_over first now before after gave =
-    let same = only_the_first first now [] before after gave in
-    let numbers : 0 ≡ 1 = ap number_of same in omega (arith, numbers)
+    grind (arith, append_cancel_right gave.orders (first_order ∷ []) now.rest.now)
 
 -- where both are left, none was given
 pub first_given_and_left : (first now : ListedOrders) → IsList first (first_order ∷ second_order ∷ [])
     → IsList now (first_order ∷ second_order ∷ []) → GaveListed first now (gives.Order first_order 7 ∷ []) → ⊥
-first_given_and_left first now before after gave =
-    by gave.orders first.moment
-    (sym before.0 ∙ gave.rest_is ∙ ap (λ (rest : List Contents). gave.orders ++ rest) after.0) gave.given_are
-  where
-    by : (orders : List Contents) (moment : ℕ)
-        → first_order ∷ second_order ∷ [] ≡ orders ++ (first_order ∷ second_order ∷ [])
-        → gives.Order first_order 7 ∷ [] ≡ as_given (reverse (at_moment moment orders)) → ⊥
-    by [] moment e g = let numbers : 1 ≡ 0 = ap number_of g in omega (arith, numbers)
-    by (a ∷ orders) moment e g =
-        let long : 2 ≡ suc (length (orders ++ (first_order ∷ second_order ∷ []))) = ap length e in
-        let parts = length-append orders (first_order ∷ second_order ∷ []) in omega (arith, long, parts)
+first_given_and_left first now before after gave = grind (arith, append_cancel_right gave.orders [] now.rest.now)

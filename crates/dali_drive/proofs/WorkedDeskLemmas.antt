@@ -1,6 +1,5 @@
 -- What a desk shows and what a stop may leave of it, by hand, and what is near it and isn't so.
-use Rattle.std.proofs.Common.{◌≡◌, refl, subst, arith, ℕ, Bool, true, false, List, [], ◌∷◌, ◌++◌}
-use Rattle.std.proofs.Common.{Some, None, Ok, Err}
+use Rattle.std.proofs.Common.{refl, arith, ℕ, Bool, true, false, List, [], ◌∷◌, Some, None, Ok, Err}
 use Rattle.dali_trace.specs.declared.fault.DriveFault.TheVariants as faults
 use Rattle.dali_drive.specs.Desks.{Look, look_of, failures, Settled, EndsAs, LeavesSince, LeavesPut}
 use Rattle.dali_drive.specs.LentSinks.{SinkLeaves, SinkLeft}
@@ -46,7 +45,7 @@ told_isnt_part_of_untold part = part
 pub each_part_left : SinkLeaves (Some (1 ∷ [])) (Some (1 ∷ 2 ∷ 3 ∷ [])) (1 ∷ [])
     × SinkLeaves (Some (1 ∷ [])) (Some (1 ∷ 2 ∷ 3 ∷ [])) (1 ∷ 2 ∷ [])
     × SinkLeaves (Some (1 ∷ [])) (Some (1 ∷ 2 ∷ 3 ∷ [])) (1 ∷ 2 ∷ 3 ∷ [])
-each_part_left = (([], 2 ∷ 3 ∷ [], refl, refl), (2 ∷ [], 3 ∷ [], refl, refl), (2 ∷ 3 ∷ [], [], refl, refl))
+each_part_left = grind arith
 
 pub flushed_is_left : SinkLeaves (Some (1 ∷ [])) (Some (1 ∷ 2 ∷ 3 ∷ [])) [] → ⊥
 flushed_is_left (more, rest, front, whole) = cc
@@ -86,11 +85,8 @@ abbrev journal_failed : Look
 journal_failed = desk_of (1 ∷ []) (1 ∷ 2 ∷ []) true
 
 pub all_settled : Settled all_flushed
-all_settled c (more, rest, front, whole) = by more rest front whole where
-  by : (more rest : List ℕ) → c ≡ 1 ∷ more → 1 ∷ [] ≡ c ++ rest → c ≡ 1 ∷ []
-  by [] rest front whole = front
-  by (a ∷ more) rest front whole =
-      let long : 1 ∷ [] ≡ (1 ∷ a ∷ more) ++ rest = subst (λ (b : List ℕ). 1 ∷ [] ≡ b ++ rest) front whole in absurd cc
+all_settled c ([], rest, front, whole) = front
+all_settled c (a ∷ more, rest, front, whole) = grind arith
 
 pub unflushed_isnt_settled : Settled one_unflushed → ⊥
 unflushed_isnt_settled settled = let lost = settled (1 ∷ []) ([], 2 ∷ [], refl, refl) in cc
@@ -120,9 +116,7 @@ pub left_since_settled : LeavesSince all_flushed one_unflushed (1 ∷ 2 ∷ [])
 left_since_settled = (all_settled, (2 ∷ [], [], refl, refl))
 
 pub no_other_left_since : LeavesSince all_flushed one_unflushed [] → ⊥
-no_other_left_since left = flushed_by left.1 where
-  flushed_by : SinkLeaves (Some (1 ∷ [])) (Some (1 ∷ 2 ∷ [])) [] → ⊥
-  flushed_by (more, rest, front, whole) = cc
+no_other_left_since left = grind arith
 
 pub nothing_told_of_unsettled : LeavesSince one_unflushed all_flushed (1 ∷ []) → ⊥
 nothing_told_of_unsettled left = unflushed_isnt_settled left.0
@@ -136,6 +130,4 @@ abbrev cut_off : Look
 cut_off = desk_of [] (1 ∷ 2 ∷ []) false
 
 pub rest_isnt_cut_off : LeavesPut all_flushed cut_off → ⊥
-rest_isnt_cut_off left = by (left [] (all_settled, ([], 1 ∷ 2 ∷ [], refl, refl))) where
-  by : SinkLeaves (Some (1 ∷ [])) (Some (1 ∷ 2 ∷ [])) [] → ⊥
-  by (more, rest, front, whole) = cc
+rest_isnt_cut_off left = grind (arith, left [] (all_settled, ([], 1 ∷ 2 ∷ [], refl, refl)))

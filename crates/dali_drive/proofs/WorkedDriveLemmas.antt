@@ -1,13 +1,13 @@
 -- A small drive, and what is near it and isn't one.
-use Rattle.std.proofs.Common.{ap, ◌≡◌, ◌≢◌, inl, inr, refl, sym, ℕ, List, [], ◌∷◌, Some, None, codes}
-use Rattle.std.proofs.Common.{Bool, true, false, not, ◌⊎◌, arith}
+use Rattle.std.proofs.Common.{◌≡◌, ◌≢◌, inl, inr, refl, sym, ℕ, List, [], ◌∷◌, Some, None, codes, Bool, true, false}
+use Rattle.std.proofs.Common.{not, ◌⊎◌, arith, Option, ◌++◌, ◌≤◌, length}
 use Rattle.std.proofs.lemmas.Fmt.{decimal_digit}
 use Rattle.std.proofs.lemmas.List.Elements.{All-from_recursion}
 use Rattle.dali_bank.specs.Order.{Contents}
 use Rattle.dali_frame.specs.declared.forward.Frame.TheVariants.{Dtr0, Dtr1}
 use Rattle.dali_journal.specs.declared.record.Code.TheVariants.{DoubtOpen}
 use Rattle.dali_journal.specs.declared.record.Record.{Record}
-use Rattle.dali_journal.specs.declared.record.Record.TheVariants.{Began, Opened, Ended, Closed}
+use Rattle.dali_journal.specs.declared.record.Record.TheVariants.{Began}
 use Rattle.dali_journal.specs.declared.version.Version.TheVariants.{Two}
 use Rattle.dali_journal.specs.Spelling.{IsRecord}
 use Rattle.dali_write.proofs.NextLemmas.{none_ended}
@@ -17,9 +17,9 @@ use Rattle.dali_trace.specs.declared.fault.DriveFault.TheVariants as faults
 use Rattle.dali_frame.specs.declared.fault.LineFault.{LineFault}
 use Rattle.dali_trace.specs.Work.{AtEachPast}
 use Rattle.dali_trace.specs.Next.{IsNext}
-use Rattle.dali_drive.specs.Lines.{IsAnswerLine}
+use Rattle.dali_drive.specs.Lines.{IsAnswerLine, IsShort}
 use Rattle.dali_trace.specs.Replies.{reply_line}
-use Rattle.dali_drive.specs.Transcript.{Streams}
+use Rattle.dali_drive.specs.Transcript.{Streams, AreAnswers}
 use Rattle.dali_drive.specs.Driven.{IsDriven, BrokenOff, IsInTurn, NoneFailed, FailedAs}
 use Rattle.dali_trace.specs.Faults.{drive_number}
 use Rattle.dali_trace.specs.Worked.{empty, first_order, begun}
@@ -27,51 +27,26 @@ use Rattle.dali_trace.specs.WorkedPlans.{half_tried}
 use Rattle.dali_drive.specs.WorkedDrives.{before_two, after_two}
 use Rattle.dali_trace.proofs.WorkedLemmas.{begun_legal}
 use Rattle.dali_trace.proofs.WorkedPlanLemmas.{first_planned, not_another_first, next_frame_planned}
+use Rattle.std.specs.List.{AllByRecursion}
+use Rattle.std.specs.Io.BufRead.{strip_last}
+use Rattle.dali_frame.specs.Line.{SpellsAnswer}
 
 pub first_is_record : IsRecord Two (Began first_order 7)
-first_is_record = (
-  omega arith,
-  omega arith,
-  record {
-    some = omega arith;
-    few = omega arith;
-    rising = (omega arith, (omega arith, (omega arith, (omega arith, (omega arith, (omega arith, tt))))));
-    writable = (
-      inl (omega arith, omega arith),
-      (
-        inl (omega arith, omega arith),
-        (
-          inl (omega arith, omega arith),
-          (inl (omega arith, omega arith), (inl (omega arith, omega arith), (inl (omega arith, omega arith), tt))),
-        ),
-      ),
-    );
-  },
-  (omega arith, (omega arith, (omega arith, (omega arith, (omega arith, (omega arith, tt)))))),
-  omega arith,
-)
+first_is_record = grind arith
+
+-- a line of few bytes, none of them a line feed
+pub is_short : (line : List ℕ) → (length line ≤ 8) × AllByRecursion (λ byte. byte ≢ 10) line → IsShort line
+is_short line is = record { short = is.0; inside = All-from_recursion (λ byte. byte ≢ 10) line is.1 }
+
+pub answer_line : {answer : Option ℕ} (line : List ℕ) → (length line ≤ 8) × AllByRecursion (λ byte. byte ≢ 10) line
+    → SpellsAnswer (strip_last 13 line) answer → IsAnswerLine answer (line ++ 10 ∷ [])
+answer_line line is spells = record { line = line; is_short = is_short line is; spells = spells; ended = refl }
 
 pub none_line : IsAnswerLine None (codes "--\n")
-none_line = record {
-  line = codes "--";
-  is_short = record {
-    short = omega arith;
-    inside = All-from_recursion (λ byte. byte ≢ 10) (codes "--") ((λ e. cc), ((λ e. cc), tt));
-  };
-  spells = refl;
-  ended = refl;
-}
+none_line = answer_line (codes "--") (omega arith) refl
 
 one_line : IsAnswerLine (Some 1) (codes "01\r\n")
-one_line = record {
-  line = codes "01\r";
-  is_short = record {
-    short = omega arith;
-    inside = All-from_recursion (λ byte. byte ≢ 10) (codes "01\r") ((λ e. cc), ((λ e. cc), ((λ e. cc), tt)));
-  };
-  spells = (refl, ((omega arith, (omega arith, tt)), refl));
-  ended = refl;
-}
+one_line = answer_line (codes "01\r") (omega arith) (omega arith)
 
 pub kept_line : reply_line 7 (replies.Kept DoubtOpen) ≡ codes "reply 7 kept 5 DoubtOpen\n"
 kept_line = rw (decimal_digit 7 (omega arith), decimal_digit 5 (omega arith)) refl
@@ -82,20 +57,16 @@ taken_line = rw (decimal_digit 1 (omega arith)) refl
 pub first_next : IsNext empty begun (Sent (Dtr1 1) None)
 first_next = record { work = tt; may = (5, refl); planned = first_planned.1 }
 
+two_heard : AreAnswers half_tried (codes "--\n01\r\n")
+two_heard = (_, _, (_, _, refl, none_line, refl), one_line, refl)
+
 pub two_driven : IsDriven empty half_tried before_two after_two
 two_driven = record {
   legal = ((begun_legal, (5, refl)), refl);
   planned = next_frame_planned.0;
   in_turn = (tt, (tt, (tt, (tt, (refl, tt)))));
   in_range = (first_is_record, tt);
-  text = record {
-    heard = codes "--\n01\r\n";
-    lines = (codes "--\n", codes "01\r\n", ([], codes "--\n", refl, none_line, refl), one_line, refl);
-    journal = refl;
-    link = refl;
-    answers = refl;
-    out = sym taken_line;
-  };
+  text = record { heard = _; lines = two_heard; journal = refl; link = refl; answers = refl; out = sym taken_line };
 }
 
 pub not_another_frame : IsNext empty begun (Sent (Dtr0 0) None) → ⊥
@@ -103,13 +74,10 @@ not_another_frame next = not_another_first (first_planned.0, next.planned)
 
 pub no_record : (entry : Record) → IsNext empty begun (Kept entry) → ⊥
 no_record (Began order moment) next = absurd next.may.whole.0.1
-no_record (Opened unit) next = let planned = next.planned in none_ended 5 _ _ planned.0 planned.1
-no_record (Ended code) next = let planned = next.planned in none_ended 5 _ _ planned.0 planned.1
-no_record (Closed unit) next = let planned = next.planned in none_ended 5 _ _ planned.0 planned.1
+no_record _ next = none_ended 5 _ _ next.planned.0 next.planned.1
 
 pub no_record_broken : (rest : List (Contents × ℕ)) (old new : Streams)
-    → BrokenOff empty begun rest faults.Journal old new
-    → ⊥
+    → BrokenOff empty begun rest faults.Journal old new → ⊥
 no_record_broken rest old new (entry, next, cut) = no_record entry next
 
 -- Which happenings a drive makes
@@ -136,34 +104,19 @@ pub each_its_own : (fault : LineFault)
     × FailedAs faults.Link false false true false × FailedAs faults.Out false false false true
     × FailedAs faults.End false false false false × FailedAs faults.NoMemory false false false false
     × FailedAs (faults.Line fault) false false false false × FailedAs faults.TooLong false false false false
-each_its_own fault = (
-  (refl, refl, refl, refl),
-  (refl, inl (refl, refl), refl),
-  (refl, inr (refl, refl), refl),
-  (refl, refl, refl, refl),
-  (refl, refl, refl, refl),
-  (refl, refl, refl, refl),
-  (refl, refl, refl, refl),
-  (refl, refl, refl, refl),
-)
-
-failed_not : (failed : Bool) → failed ≡ true → not failed ≡ false
-failed_not failed is = ap not is
+each_its_own fault = search (inl, inr)
 
 pub journal_alone : (journal link_out link_in out : Bool) → FailedAs faults.Journal journal link_out link_in out
     → NoneFailed (not journal) link_out link_in out
-journal_alone journal link_out link_in out came = (failed_not journal came.0, came.1, came.2, came.3)
+journal_alone journal link_out link_in out came = grind arith
 
 pub one_of_the_link : (journal link_out link_in out : Bool) → FailedAs faults.Link journal link_out link_in out
     → NoneFailed journal (not link_out) link_in out ⊎ NoneFailed journal link_out (not link_in) out
-one_of_the_link journal link_out link_in out (kept, inl (failed, heard), written) =
-    inl (kept, failed_not link_out failed, heard, written)
-one_of_the_link journal link_out link_in out (kept, inr (sent, failed), written) =
-    inr (kept, sent, failed_not link_in failed, written)
+one_of_the_link journal link_out link_in out came = grind arith
 
 pub out_alone : (journal link_out link_in out : Bool) → FailedAs faults.Out journal link_out link_in out
     → NoneFailed journal link_out link_in (not out)
-out_alone journal link_out link_in out came = (came.0, came.1, came.2, failed_not out came.3)
+out_alone journal link_out link_in out came = grind arith
 
 pub none_else : (fault : LineFault) (journal link_out link_in out : Bool)
     → (FailedAs faults.End journal link_out link_in out → NoneFailed journal link_out link_in out)

@@ -1,5 +1,5 @@
 -- Two drives over a store, one after the other, are sittings, and what is near them is not.
-use Rattle.std.proofs.Common.{◌≡◌, refl, sym, ap, inl, inr, ℕ, List, [], ◌∷◌, Option, Some, None, take, drop, arith}
+use Rattle.std.proofs.Common.{◌≡◌, ◌≤◌, refl, sym, ap, inl, inr, ℕ, List, [], ◌∷◌, Option, Some, None, take, arith}
 use Rattle.std.specs.Prelude.{length}
 use Rattle.dali_bus.specs.World.{Gear}
 use Rattle.dali_bus.specs.Carry.{Carry, MayHear}
@@ -8,7 +8,8 @@ use Rattle.dali_journal.specs.declared.record.Record.TheVariants.{Began}
 use Rattle.dali_journal.specs.declared.version.Version.TheVariants.{Two}
 use Rattle.dali_journal.specs.Spelling.{spelling}
 use Rattle.dali_journal.specs.JournalState.{AreKept}
-use Rattle.dali_journal.specs.Loading.{IsTorn}
+use Rattle.dali_journal.specs.Loading.{IsTorn, IsLoadable}
+use Rattle.dali_engine.proofs.StopLemmas.{cut_of_some}
 use Rattle.dali_trace.specs.declared.happening.Happening.{Happening}
 use Rattle.dali_trace.specs.declared.happening.Happening.TheVariants.{Sent, Kept}
 use Rattle.dali_trace.specs.Legal.{IsFinished}
@@ -27,11 +28,13 @@ use Rattle.dali_drive.specs.Stored.{IsBegun, IsPartBehind}
 use Rattle.dali_drive.specs.Sittings.{MayHaveHappened, KeptWhereWhole, BrokeOff}
 use Rattle.dali_drive.specs.Kills.{WasKilled}
 use Rattle.dali_drive.specs.Repeats.{IsSameFile, HasSat, HaveSat, ActOnce}
-use Rattle.dali_drive.specs.WorkedSittings.{bare_file, begun_file, torn_file, before_on, after_taken, after_begun, amid_frame}
-use Rattle.dali_drive.specs.WorkedSittings.{first_sitting, second_sitting, second_without_the_frame, both_sittings, worlds}
+use Rattle.dali_drive.specs.WorkedSittings.{bare_file, begun_file, torn_file, before_on, after_taken, after_begun}
+use Rattle.dali_drive.specs.WorkedSittings.{amid_frame, first_sitting, second_sitting, second_without_the_frame}
+use Rattle.dali_drive.specs.WorkedSittings.{both_sittings, worlds}
 use Rattle.dali_drive.proofs.KillLemmas.{one_records}
 use Rattle.dali_drive.proofs.RepeatLemmas.{sat_so, loads_still, act_once}
 use Rattle.dali_drive.proofs.WorkedDriveLemmas.{first_is_record, first_next, taken_line, no_record}
+use Rattle.dali_drive.proofs.SittingLemmas.{broke_off}
 
 none_kept : AreKept Two 10 []
 none_kept = record { in_range = tt; whole = (tt, omega arith) }
@@ -43,49 +46,23 @@ begun_loads : Loads 10 (Began first_order 7 ∷ []) begun_file
 begun_loads = whole_loads 10 (Began first_order 7 ∷ []) one_kept
 
 torn_is : IsTorn Two torn_file [] 4
-torn_is = record {
-  rest = take 5 (spelling Two (Began first_order 7));
-  spelled = refl;
-  cut = (Began first_order 7, (first_is_record, drop 5 (spelling Two (Began first_order 7)), (λ none. cc), refl));
-  counts = refl;
-}
+torn_is =
+    let spelled = spelling Two (Began first_order 7) in
+    let cut = cut_of_some (Began first_order 7) spelled 5 refl first_is_record (omega arith) in
+    record { rest = take 5 spelled; spelled = refl; cut = cut; counts = refl }
 
 torn_loads : Loads 10 [] torn_file
 torn_loads = record { version = Two; len = 4; kept = none_kept; loadable = torn_is }
 
-abbrev begun_on_none : IsBegun 10 100 (before_on [])
-begun_on_none = record {
+abbrev begun_on : (file : List ℕ) (counted : ℕ) → length file ≤ 100 → IsLoadable Two file [] counted
+    → IsBegun 10 100 (before_on file)
+begun_on file counted within holds = record {
   journal = record { records = []; limit = 10; room = 0; numbers = []; index_room = 0 };
   opened = record {
     version = Two;
-    counted = 0;
-    total = 0;
-    found = record {
-      bytes = [];
-      shown = refl;
-      within = omega arith;
-      total_is = refl;
-      loaded = (refl, none_kept, (refl, refl, refl));
-    };
-  };
-  middle = Some bare_file;
-  written = refl;
-}
-
-abbrev begun_on_torn : IsBegun 10 100 (before_on torn_file)
-begun_on_torn = record {
-  journal = record { records = []; limit = 10; room = 0; numbers = []; index_room = 0 };
-  opened = record {
-    version = Two;
-    counted = 4;
-    total = 9;
-    found = record {
-      bytes = torn_file;
-      shown = refl;
-      within = omega arith;
-      total_is = refl;
-      loaded = (refl, none_kept, torn_is);
-    };
+    counted = counted;
+    total = length file;
+    found = record { bytes = file; shown = refl; within = within; total_is = refl; loaded = (refl, none_kept, holds) };
   };
   middle = Some bare_file;
   written = refl;
@@ -99,14 +76,7 @@ taken_driven = record {
   planned = first_planned.0.0;
   in_turn = (tt, (refl, tt));
   in_range = tt;
-  text = record {
-    heard = [];
-    lines = refl;
-    journal = refl;
-    link = refl;
-    answers = refl;
-    out = sym taken_line;
-  };
+  text = record { heard = []; lines = refl; journal = refl; link = refl; answers = refl; out = sym taken_line };
 }
 
 begun_driven : IsDriven empty begun (before_on bare_file) after_begun
@@ -115,14 +85,7 @@ begun_driven = record {
   planned = first_planned.0;
   in_turn = (tt, (tt, (refl, tt)));
   in_range = (first_is_record, tt);
-  text = record {
-    heard = [];
-    lines = refl;
-    journal = refl;
-    link = refl;
-    answers = refl;
-    out = sym taken_line;
-  };
+  text = record { heard = []; lines = refl; journal = refl; link = refl; answers = refl; out = sym taken_line };
 }
 
 begun_next : IsNext empty taken (Kept (Began first_order 7))
@@ -135,7 +98,7 @@ first_killed = record {
   first = before_on [];
   now = after_taken;
   is_found = refl;
-  begun = begun_on_none;
+  begun = begun_on [] 0 (omega arith) (refl, refl, refl);
   older = taken;
   driven = taken_driven;
   past = taken;
@@ -175,37 +138,18 @@ frame_broken = record {
 -- after the begun order no record is next, so none counts
 stopped_amid_frame : (past : List Happening) → MayHaveHappened empty begun Link past → IsFinished past
     → BrokeOff 10 100 torn_file (record { start = empty; past = past }) begun_file
-stopped_amid_frame past happened finished = record {
-  orders = (first_order, 7) ∷ [];
-  fault = Link;
-  first = before_on torn_file;
-  last = amid_frame;
-  is_found = refl;
-  begun = begun_on_torn;
-  drive = frame_broken;
-  is_left = ([], [], refl, refl);
-  past = past;
-  happened = happened;
-  finished = finished;
-  counts = λ entry next. absurd (no_record entry next);
-  is = refl;
-}
+stopped_amid_frame past happened finished =
+    broke_off {first = before_on torn_file} refl (begun_on torn_file 4 (omega arith) torn_is) frame_broken begun_file
+    ([], [], refl, refl) past happened finished (λ entry next. absurd (no_record entry next))
 
 pub second_broke_off : BrokeOff 10 100 torn_file second_sitting begun_file
-second_broke_off =
-    stopped_amid_frame first_frame (inr (Sent (Dtr1 1) None, (Dtr1 1, None, refl, first_next), refl)) tt
+second_broke_off = stopped_amid_frame first_frame (inr (Sent (Dtr1 1) None, (Dtr1 1, None, refl, first_next), refl)) tt
 
 pub or_without_the_frame : BrokeOff 10 100 torn_file second_without_the_frame begun_file
 or_without_the_frame = stopped_amid_frame begun (inl refl) tt
 
 pub both_sat : HaveSat 10 100 [] (second_sitting ∷ first_sitting ∷ []) begun_file
-both_sat = (
-  torn_file,
-  begun_file,
-  ([], torn_file, inl refl, inr (inr first_killed), inl refl),
-  inr (inl second_broke_off),
-  inl refl,
-)
+both_sat = (_, _, ([], _, inl refl, inr (inr first_killed), inl refl), inr (inl second_broke_off), inl refl)
 
 -- Along the worlds of a blank unit that hears no frame they act as one
 
@@ -216,74 +160,60 @@ unheard = record { units = λ address. same address (alone blank_unit address); 
   same address (Some gear) = inl refl
 
 pub both_along : Along (alone blank_unit) [] empty (alone blank_unit) both_sittings (alone blank_unit) worlds
-both_along = record {
-  locked = goes_along.3.locked;
-  fits = goes_along.3.fits;
-  only = goes_along.3.only;
-  chain = (unheard, (refl, (refl, (refl, (refl, (refl, (refl, refl)))))));
-}
+both_along = search (goes_along.3, unheard) depth 12
 
 pub both_act_once : ActOnce (alone blank_unit) [] empty (second_sitting ∷ first_sitting ∷ []) begun_file both_sittings
     (alone blank_unit) worlds
 both_act_once =
     act_once (alone blank_unit) [] empty 100 [] begun_file (second_sitting ∷ first_sitting ∷ []) both_sittings
-    (alone blank_unit) (alone blank_unit) worlds (whole_loads_none) both_sat refl tt both_along
-  where
-    whole_loads_none : Loads 10 [] []
-    whole_loads_none = record { version = Two; len = 0; kept = none_kept; loadable = (refl, refl, refl) }
+    (alone blank_unit) (alone blank_unit) worlds
+    (record { version = Two; len = 0; kept = none_kept; loadable = (refl, refl, refl) }) both_sat refl tt both_along
 
 -- What is near them and isn't so
 
+begun_not_bare : Loads 10 [] begun_file → ⊥
+begun_not_bare here = let never = one_records 10 begun_file (Began first_order 7 ∷ []) [] begun_loads here in cc
+
+torn_not_begun : Loads 10 (Began first_order 7 ∷ []) torn_file → ⊥
+torn_not_begun here = let never = one_records 10 torn_file [] (Began first_order 7 ∷ []) torn_loads here in cc
+
 -- a sitting from fewer records than were found
 pub not_from_fewer : (left : List ℕ) → HasSat 10 100 begun_file first_sitting left → ⊥
-not_from_fewer left sat =
-    let here : Loads 10 [] begun_file = (sat_so 10 100 begun_file first_sitting left sat).found_loads in
-    let never = one_records 10 begun_file (Began first_order 7 ∷ []) [] begun_loads here in cc
+not_from_fewer left sat = begun_not_bare (sat_so 10 100 begun_file first_sitting left sat).found_loads
 
 -- a record that is cut off and counts as kept, and one that is whole and doesn't
 pub not_kept_unless_whole : HasSat 10 100 [] second_without_the_frame torn_file → ⊥
-not_kept_unless_whole sat =
-    let here : Loads 10 (Began first_order 7 ∷ []) torn_file =
-    (sat_so 10 100 [] second_without_the_frame torn_file sat).left_loads in
-    let never = one_records 10 torn_file [] (Began first_order 7 ∷ []) torn_loads here in cc
+not_kept_unless_whole sat = torn_not_begun (sat_so 10 100 [] second_without_the_frame torn_file sat).left_loads
 
 pub kept_where_whole : HasSat 10 100 [] first_sitting begun_file → ⊥
-kept_where_whole sat =
-    let here : Loads 10 [] begun_file = (sat_so 10 100 [] first_sitting begun_file sat).left_loads in
-    let never = one_records 10 begun_file (Began first_order 7 ∷ []) [] begun_loads here in cc
+kept_where_whole sat = begun_not_bare (sat_so 10 100 [] first_sitting begun_file sat).left_loads
 
 pub not_counted_unless_whole : KeptWhereWhole empty taken begun torn_file → ⊥
-not_counted_unless_whole counts =
-    let never = ap (λ (l : List ℕ). length l) ((counts (Began first_order 7) begun_next).0 refl) in omega (arith, never)
+not_counted_unless_whole counts = omega (arith, ap (length {A = ℕ}) ((counts (Began first_order 7) begun_next).0 refl))
 
 pub counted_where_whole : KeptWhereWhole empty taken taken begun_file → ⊥
 counted_where_whole counts =
-    let never = ap (λ (l : List Happening). length l) ((counts (Began first_order 7) begun_next).1 refl) in
-    omega (arith, never)
+    omega (arith, ap (length {A = Happening}) ((counts (Began first_order 7) begun_next).1 refl))
 
 -- a file of other records is no same one
 pub no_same_file : IsSameFile 10 begun_file torn_file → ⊥
-no_same_file same =
-    let here = loads_still 10 (Began first_order 7 ∷ []) begun_file torn_file same begun_loads in
-    let never = one_records 10 torn_file [] (Began first_order 7 ∷ []) torn_loads here in cc
+no_same_file same = torn_not_begun (loads_still 10 (Began first_order 7 ∷ []) begun_file torn_file same begun_loads)
 
 -- a fault breaks off a step of its own, and want of memory none
 pub no_step_without_memory : MayHaveHappened empty begun NoMemory first_frame → ⊥
-no_step_without_memory (inl same) =
-    let never = ap (λ (l : List Happening). length l) same in omega (arith, never)
+no_step_without_memory (inl same) = omega (arith, ap (length {A = Happening}) same)
 no_step_without_memory (inr (next, step, same)) = absurd step
 
 pub no_record_of_the_link : MayHaveHappened empty taken Link begun → ⊥
-no_record_of_the_link (inl same) = let never = ap (λ (l : List Happening). length l) same in omega (arith, never)
+no_record_of_the_link (inl same) = omega (arith, ap (length {A = Happening}) same)
 no_record_of_the_link (inr (next, (frame, answer, is, may), same)) =
     let kept : next ≡ Kept (Began first_order 7) = cc in cc
 
 -- what was kept before a step that was broken off may not be lost, nor more be left than was put
 pub none_lost : LeavesBetween (Some begun_file) (Some begun_file) (λ c. c ≡ torn_file) → ⊥
-none_lost left = let b = left torn_file refl in
-    let never = ap (λ (l : List ℕ). length l) b.2 in omega (arith, never)
+none_lost left = omega (arith, ap (length {A = ℕ}) (left torn_file refl).2)
 
 pub no_part_of_fewer : IsPartBehind 10 (Some begun_file) (Some begun_file) torn_file → ⊥
 no_part_of_fewer (records, loads, (more, rest, front, whole)) =
     let same = one_records 10 begun_file (Began first_order 7 ∷ []) records begun_loads loads in
-    let never = ap (λ (l : List ℕ). length l) (rw same at front) in omega (arith, never)
+    omega (arith, ap (length {A = ℕ}) (rw same at front))

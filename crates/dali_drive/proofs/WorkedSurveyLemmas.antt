@@ -1,102 +1,80 @@
--- A scan of two units by hand, and what is near it and isn't one.
-use Rattle.std.proofs.Common.{ap, ◌≡◌, ◌≢◌, ◌∙◌, inl, inr, refl, sym, append_assoc, ℕ, zero, suc, List, [], ◌∷◌, ◌++◌}
-use Rattle.std.proofs.Common.{Some, None, codes}
-use Rattle.std.proofs.Common.{Option, true, is_some, get_or, take, drop, length, arith}
-use Rattle.std.proofs.Common.{◌≤◌, ◌+◌, Bool, false, if◌then◌else◌}
+-- A scan of two units and two orders verified by hand, frames that are broken off, and what is near them and isn't so.
+use Rattle.std.proofs.Common.{◌≡◌, inl, refl, sym, append_assoc, ℕ, zero, suc, List, [], ◌∷◌, ◌++◌, Some, None, codes}
+use Rattle.std.proofs.Common.{true, is_some, take, length, arith, ◌≤◌, append-nil, take-append-drop, inr, false}
 use Rattle.std.proofs.lemmas.Fmt.{decimal_digit}
 use Rattle.std.proofs.lemmas.List.{length-map}
-use Rattle.std.proofs.lemmas.List.Elements.{All-from_recursion}
-use Rattle.std.specs.Io.BufRead.{strip_last}
 use Rattle.dali_frame.specs.declared.forward.Frame.TheVariants.{Dtr0, Dtr1, AskDtr0, AskDtr1, Read}
-use Rattle.dali_frame.specs.Hex.{SpellsHexNumber, byte_digits}
 use Rattle.dali_write.specs.Exchanges.{Exchange}
 use Rattle.dali_write.specs.WorkedAccesses.{sent}
-use Rattle.dali_write.specs.declared.request.Wish.TheVariants.{Nothing, Exactly, Anything}
-use Rattle.dali_write.specs.Tries.{Missed, Misses}
+use Rattle.dali_write.specs.declared.request.Wish.TheVariants.{Nothing, Exactly}
+use Rattle.dali_write.specs.Tries.{Misses}
 use Rattle.dali_read.specs.declared.finding.Finding.TheVariants.{Same, Other, Short, Format}
-use Rattle.dali_read.specs.Blocks.{Fits, block_requests, Succeeds}
-use Rattle.dali_read.specs.Places.{first_block, last_course}
-use Rattle.dali_read.specs.Readings.{Course, Ends, Done}
-use Rattle.dali_drive.specs.Lines.{IsAnswerLine}
-use Rattle.dali_drive.specs.Transcript.{Streams, AreAnswers}
+use Rattle.dali_read.specs.Blocks.{Fits, block_requests, Succeeds, IsBlockRead}
+use Rattle.dali_read.specs.Places.{first_block, last_course, block, order_course}
+use Rattle.dali_read.specs.Readings.{Course, Ends, Done, IsRead, InTurn, bytes_in, told_in}
+use Rattle.dali_drive.specs.Lines.{IsAnswerLine, link_line}
+use Rattle.dali_drive.specs.Transcript.{Streams, AreAnswers, link_shown}
 use Rattle.dali_drive.specs.UnitRead.{LinkText, UnitReadBroke}
 use Rattle.dali_drive.specs.SurveyLines.{last_line, units_line, bytes_line, silent_line, order_head, finding_line}
 use Rattle.dali_drive.specs.SurveyLines.{order_silent_line}
-use Rattle.dali_drive.specs.Surveys.{Report, Surveyed, IsScanReport, link_of}
-use Rattle.dali_drive.specs.WorkedSurveys.{missed, length_read, silent_unit, found_unit, two_units}
-use Rattle.dali_drive.specs.WorkedSurveys.{before_two_units, after_two_units, near_order, far_order, same_order}
-use Rattle.dali_drive.specs.WorkedSurveys.{silent_order}
-use Rattle.dali_drive.specs.WorkedSurveys.{amid_third_unit, silent_unit_told, before_one_unit, one_unit_and}
+use Rattle.dali_drive.specs.Surveys.{Report, Surveyed, IsScanReport, link_of, Reported, BreaksReport, TellsLast, IsScan}
+use Rattle.dali_drive.specs.Surveys.{BreaksScan, ScanBroke, items_in, all_told, lines_in, answered, addresses_below}
+use Rattle.dali_drive.specs.Surveys.{IsOrderReport, IsSame, TellsOrder, IsVerified, VerifyBroke}
+use Rattle.dali_drive.specs.WorkedSurveys.{missed, length_read, silent_unit, found_unit, two_units, before_two_units}
+use Rattle.dali_drive.specs.WorkedSurveys.{after_two_units, near_order, far_order, same_order, silent_order}
+use Rattle.dali_drive.specs.WorkedSurveys.{amid_third_unit, silent_unit_told, before_one_unit, one_unit_and, byte_read}
+use Rattle.dali_drive.specs.WorkedSurveys.{other_order, short_order, before_two_orders, after_two_orders}
+use Rattle.dali_drive.specs.WorkedSurveys.{after_near_order, amid_far_order, before_frame, after_frame}
 use Rattle.dali_trace.specs.declared.fault.DriveFault.{DriveFault}
 use Rattle.dali_drive.specs.Driven.{BreaksFrame}
-use Rattle.dali_drive.specs.Surveys.{Reported, BreaksReport, TellsLast, IsScan, BreaksScan, ScanBroke}
-use Rattle.dali_drive.specs.Surveys.{items_in, all_told, lines_in, answered, addresses_below}
 use Rattle.dali_write.specs.Requests.{request}
-use Rattle.dali_drive.proofs.ReadingLemmas.{told_nothing, as_sent}
-use Rattle.dali_drive.proofs.WorkedDriveLemmas.{none_line}
+use Rattle.dali_drive.proofs.ReadingLemmas.{told_nothing, as_sent, answers_both, reading_breaks, block_breaks}
+use Rattle.dali_drive.proofs.ReadingLemmas.{try_breaks}
+use Rattle.dali_drive.proofs.WorkedDriveLemmas.{none_line, answer_line, is_short}
+use Rattle.dali_trace.specs.declared.fault.DriveFault.TheVariants as faults
+use Rattle.dali_frame.specs.declared.forward.Frame.{Frame}
+use Rattle.dali_read.specs.declared.block.Block.{Block}
+use Rattle.dali_read.specs.Findings.{IsFound}
 use Rattle.dali_trace.specs.declared.fault.DriveFault.TheVariants as faults
 
 -- The lines
 
-last_told : last_line 1 0x77 ≡ codes "unit 1 last 77\n"
-last_told = rw (decimal_digit 1 (omega arith)) refl
-
 pub lines_are : (last_line 7 0xFE ≡ codes "unit 7 last FE\n") × (units_line 0 ≡ codes "units 0\n")
     × (bytes_line 5 9 ≡ codes "unit 5 bytes 9\n") × (silent_line 6 ≡ codes "unit 6 silent\n")
-lines_are = (
-  rw (decimal_digit 7 (omega arith)) refl,
-  rw (decimal_digit 0 (omega arith)) refl,
-  rw (decimal_digit 5 (omega arith), decimal_digit 9 (omega arith)) refl,
-  rw (decimal_digit 6 (omega arith)) refl,
-)
+lines_are = search (decimal_digit, arith)
 
 pub near_head : order_head near_order ≡ codes "order 7 unit 1"
-near_head = rw (decimal_digit 7 (omega arith), decimal_digit 1 (omega arith)) refl
+near_head = search (decimal_digit, arith)
 
 pub far_head : order_head far_order ≡ codes "order 8 unit 0"
-far_head = rw (decimal_digit 8 (omega arith), decimal_digit 0 (omega arith)) refl
+far_head = search (decimal_digit, arith)
 
 pub findings_are : (finding_line near_order Same ≡ codes "order 7 unit 1 same\n")
     × (finding_line near_order (Other 0x0C 0x5A) ≡ codes "order 7 unit 1 other 0C 5A\n")
     × (finding_line near_order Short ≡ codes "order 7 unit 1 short\n")
     × (finding_line near_order Format ≡ codes "order 7 unit 1 format\n")
     × (order_silent_line far_order ≡ codes "order 8 unit 0 silent\n")
-findings_are = (
-  rw (decimal_digit 7 (omega arith), decimal_digit 1 (omega arith)) refl,
-  rw (decimal_digit 7 (omega arith), decimal_digit 1 (omega arith)) refl,
-  rw (decimal_digit 7 (omega arith), decimal_digit 1 (omega arith)) refl,
-  rw (decimal_digit 7 (omega arith), decimal_digit 1 (omega arith)) refl,
-  rw (decimal_digit 8 (omega arith), decimal_digit 0 (omega arith)) refl,
-)
+findings_are = search (decimal_digit, arith)
 
 -- What came back
 
-byte_line : (c d byte : ℕ) → c ≢ 10 → d ≢ 10 → strip_last 13 (c ∷ d ∷ []) ≡ c ∷ d ∷ []
-    → SpellsHexNumber (c ∷ d ∷ []) byte → IsAnswerLine (Some byte) (c ∷ d ∷ 10 ∷ [])
-byte_line c d byte one two whole spells = record {
-  line = c ∷ d ∷ [];
-  is_short = record { short = omega arith; inside = All-from_recursion (λ b. b ≢ 10) (c ∷ d ∷ []) (one, (two, tt)) };
-  spells = rw whole (refl, spells);
-  ended = refl;
-}
-
 pub line_00 : IsAnswerLine (Some 0x00) (codes "00\n")
-line_00 = byte_line 48 48 0x00 (λ e. cc) (λ e. cc) refl ((omega arith, (omega arith, tt)), refl)
+line_00 = answer_line (codes "00") (omega arith) (omega arith)
 
 pub line_01 : IsAnswerLine (Some 0x01) (codes "01\n")
-line_01 = byte_line 48 49 0x01 (λ e. cc) (λ e. cc) refl ((omega arith, (omega arith, tt)), refl)
+line_01 = answer_line (codes "01") (omega arith) (omega arith)
 
 pub line_03 : IsAnswerLine (Some 0x03) (codes "03\n")
-line_03 = byte_line 48 51 0x03 (λ e. cc) (λ e. cc) refl ((omega arith, (omega arith, tt)), refl)
+line_03 = answer_line (codes "03") (omega arith) (omega arith)
 
 pub line_04 : IsAnswerLine (Some 0x04) (codes "04\n")
-line_04 = byte_line 48 52 0x04 (λ e. cc) (λ e. cc) refl ((omega arith, (omega arith, tt)), refl)
+line_04 = answer_line (codes "04") (omega arith) (omega arith)
 
 pub line_77 : IsAnswerLine (Some 0x77) (codes "77\n")
-line_77 = byte_line 55 55 0x77 (λ e. cc) (λ e. cc) refl ((omega arith, (omega arith, tt)), refl)
+line_77 = answer_line (codes "77") (omega arith) (omega arith)
 
 pub line_A5 : IsAnswerLine (Some 0xA5) (codes "A5\n")
-line_A5 = byte_line 65 53 0xA5 (λ e. cc) (λ e. cc) refl ((omega arith, (omega arith, tt)), refl)
+line_A5 = answer_line (codes "A5") (omega arith) (omega arith)
 
 -- a read of unit 1, by the lines that tell where DTR0 stands, the byte and where it stands then
 pub read_heard : (told : List Exchange) (location byte after : ℕ) (heard place read moved : List ℕ)
@@ -107,48 +85,10 @@ pub read_heard : (told : List Exchange) (location byte after : ℕ) (heard place
     ∷ told))
     (heard ++ codes "--\n01\n--\n" ++ place ++ read ++ moved ++ codes "01\n")
 read_heard told location byte after heard place read moved at is next lines =
-    let one = heard ++ codes "--\n" in
-    let two = heard ++ codes "--\n01\n" in
-    let three = heard ++ codes "--\n01\n--\n" in
-    let four = three ++ place in
-    let five = four ++ read in
-    let six = five ++ moved in (
-      six,
-      codes "01\n",
-      (
-        five,
-        moved,
-        (
-          four,
-          read,
-          (
-            three,
-            place,
-            (
-              two,
-              codes "--\n",
-              (
-                one,
-                codes "01\n",
-                (heard, codes "--\n", lines, none_line, refl),
-                line_01,
-                sym (append_assoc heard (codes "--\n") (codes "01\n")),
-              ),
-              none_line,
-              sym (append_assoc heard (codes "--\n01\n") (codes "--\n")),
-            ),
-            at,
-            refl,
-          ),
-          is,
-          refl,
-        ),
-        next,
-        refl,
-      ),
-      line_01,
-      refl,
-    )
+    let selected : AreAnswers (as_sent (sent (Dtr0 location) None ∷ sent (AskDtr1 1) (Some 1) ∷ sent (Dtr1 1) None
+    ∷ told)) (heard ++ codes "--\n01\n--\n") =
+    (_, _, (_, _, (_, _, lines, none_line, refl), line_01, refl), none_line, simp append_assoc) in
+    (_, _, (_, _, (_, _, (_, _, selected, at, refl), is, refl), next, refl), line_01, refl)
 
 abbrev pub lines_of : ℕ → List ℕ → List ℕ
 lines_of zero heard = heard
@@ -157,101 +97,59 @@ lines_of (suc tries) heard = lines_of tries heard ++ codes "--\n" ++ codes "--\n
 pub missed_heard : (tries : ℕ) (told : List Exchange) (heard : List ℕ) → AreAnswers (as_sent told) heard
     → AreAnswers (as_sent (missed tries ++ told)) (lines_of tries heard)
 missed_heard zero told heard lines = lines
-missed_heard (suc tries) told heard lines = (
-  lines_of tries heard ++ codes "--\n",
-  codes "--\n",
-  (lines_of tries heard, codes "--\n", missed_heard tries told heard lines, none_line, refl),
-  none_line,
-  refl,
-)
+missed_heard (suc tries) told heard lines =
+    (_, _, (_, _, missed_heard tries told heard lines, none_line, refl), none_line, refl)
 
 -- Unit 0 is silent, and unit 1 answers
-
-one_missed : Missed (block_requests 0 first_block) (sent (AskDtr1 0) None ∷ sent (Dtr1 1) None ∷ [])
-one_missed = (Exactly 1, drop 2 (block_requests 0 first_block), (λ e. cc), (Nothing, tt, refl))
 
 all_missed : (tries : ℕ) → Misses (block_requests 0 first_block) tries (missed tries)
 all_missed zero = refl
 all_missed (suc tries) =
-    (sent (AskDtr1 0) None ∷ sent (Dtr1 1) None ∷ [], missed tries, refl, one_missed, all_missed tries)
+    let older = all_missed tries in
+    (sent (AskDtr1 0) None ∷ sent (Dtr1 1) None ∷ [], _, refl, (Exactly 1, _, (λ e. cc), (Nothing, tt, refl)), older)
 
 pub first_fits : Fits first_block
-first_fits = record { some = omega arith; few = omega arith; within = omega arith }
+first_fits = omega arith
 
 pub silent_ends : (course : Course) → course [] ≡ Some first_block → Ends 0 course None (missed 8)
-silent_ends course next = record {
-  done = [];
-  in_turn = tt;
-  block = first_block;
-  fits = first_fits;
-  next = next;
-  missed = missed 8;
-  fails = all_missed 8;
-  told_are = refl;
-}
+silent_ends course next =
+    let fits = first_fits in let fails = all_missed 8 in
+    record { done = []; in_turn = tt; block = _; fits = fits; next = next; missed = _; fails = fails; told_are = refl }
 
 pub silent_scanned : IsScanReport silent_unit
 silent_scanned = (silent_ends last_course refl, refl)
 
+-- a block that was read at once, and a reading that came to its end
+at_once : {unit : ℕ} {block : Block} {bytes : List ℕ} {told : List Exchange} → IsBlockRead unit block bytes told
+    → Succeeds unit block bytes told
+at_once {told = told} read =
+    let same = sym (append-nil told) in
+    record { tried = told; missed = []; misses = 0; parts = same; read = read; few = omega arith; misses_are = refl }
+
+is_read : {unit : ℕ} {course : Course} (done : List Done) → InTurn unit course done → course (bytes_in done) ≡ None
+    → IsRead unit course (bytes_in done) (told_in done)
+is_read done turn over = grind arith
+
 pub length_told : Succeeds 1 first_block (0x77 ∷ []) length_read
-length_told = record {
-  tried = length_read;
-  missed = [];
-  misses = 0;
-  parts = refl;
-  read = (
-    (
-      Exactly 1,
-      refl,
-      (
-        Exactly 1,
-        refl,
-        (
-          Anything,
-          refl,
-          (Exactly 0, refl, (Nothing, tt, (Exactly 1, refl, (Nothing, tt, refl)))),
-        ),
-      ),
-    ),
-    refl,
-  );
-  few = omega arith;
-  misses_are = refl;
-}
+length_told =
+    at_once ((_, search, (_, search, (_, search, (_, search, (_, search, (_, search, (_, search, refl))))))), refl)
 
 abbrev pub first_done : Done
 first_done = record { block = first_block; bytes = 0x77 ∷ []; told = length_read }
 
-found_ends : Ends 1 last_course (Some (0x77 ∷ [])) length_read
-found_ends = record {
-  done = first_done ∷ [];
-  in_turn = (tt, first_fits, refl, length_told);
-  bytes_are = refl;
-  told_are = refl;
-  over = refl;
-}
-
 pub found_scanned : IsScanReport found_unit
-found_scanned = (found_ends, (0x77, refl, sym last_told))
+found_scanned =
+    (is_read (first_done ∷ []) (tt, first_fits, refl, length_told) refl, (0x77, refl, search (decimal_digit, arith)))
+
+length_heard : AreAnswers (as_sent length_read) (codes "--\n01\n--\n00\n77\n01\n01\n")
+length_heard =
+    read_heard [] 0x00 0x77 0x01 [] (codes "00\n") (codes "77\n") (codes "01\n") line_00 line_77 line_01 refl
 
 two_heard : AreAnswers (as_sent (length_read ++ missed 8)) (lines_of 8 [] ++ codes "--\n01\n--\n00\n77\n01\n01\n")
-two_heard =
-    read_heard (missed 8) 0x00 0x77 0x01 (lines_of 8 []) (codes "00\n") (codes "77\n") (codes "01\n") line_00 line_77
-    line_01 (missed_heard 8 [] [] refl)
+two_heard = answers_both length_read (missed 8) (lines_of 8 []) _ (missed_heard 8 [] [] refl) length_heard
 
 pub two_surveyed : Surveyed IsScanReport two_units before_two_units after_two_units
-two_surveyed = record {
-  each = (found_scanned, (silent_scanned, tt));
-  link = record {
-    heard = codes "--\n--\n--\n--\n--\n--\n--\n--\n--\n--\n--\n--\n--\n--\n--\n--\n--\n01\n--\n00\n77\n01\n01\n";
-    lines = two_heard;
-    journal = tt;
-    link = refl;
-    answers = refl;
-    out = tt;
-  };
-  out = refl;
-}
+two_surveyed = search (arith, found_scanned, silent_scanned, two_heard)
 
 -- of a small survey: what its reports are for, their exchanges and lines, and how many units answered
 pub two_units_are : (items_in two_units ≡ 1 ∷ 0 ∷ []) × (all_told two_units ≡ length_read ++ missed 8)
@@ -264,7 +162,7 @@ lines_in_turn = refl
 
 -- a silent unit has no line, and a unit that answers just its own
 pub no_silent_line : Surveyed IsScanReport two_units before_two_units silent_unit_told → ⊥
-no_silent_line s = let never = ap (λ (l : List ℕ). length l) s.out in omega (arith, never)
+no_silent_line surveyed = grind arith
 
 pub not_silent_with_a_line : TellsLast 0 None (codes "unit 0 last 00\n") → ⊥
 not_silent_with_a_line is = cc
@@ -275,110 +173,41 @@ not_two_bytes line (last, one, is) = cc
 -- where a reading is broken off in its first frame
 pub frame_broke : {fault : DriveFault} {old new : Streams} (unit : ℕ) (course : Course) → course [] ≡ Some first_block
     → BreaksFrame (Dtr1 1) fault old new → UnitReadBroke unit course fault old new
-frame_broke {fault} {old} {new} unit course next broken = record {
-  told = [];
-  frame = Dtr1 1;
-  reading = record {
-    done = [];
-    in_turn = tt;
-    block = first_block;
-    fits = first_fits;
-    next = next;
-    tried = [];
-    stands = record {
-      tried = [];
-      missed = [];
-      misses = 0;
-      next = request (Dtr1 1) Nothing;
-      left = drop 1 (block_requests unit first_block);
-      parts = refl;
-      few = omega arith;
-      misses_are = refl;
-      try = refl;
-      frame_is = refl;
-    };
-    told_are = refl;
-  };
-  broke = record { middle = old; text = told_nothing old; broken = broken };
-}
+frame_broke {old = old} unit course next broken =
+    let text = told_nothing old in
+    reading_breaks unit course [] _ _ _ first_block _
+    (record { done = []; in_turn = tt; bytes_are = refl; text = text }) first_fits next
+    (block_breaks unit first_block 0 _ _ _ _ (record { told = []; misses_are = refl; text = text }) (omega arith)
+    (try_breaks unit first_block [] 0 _ _ _ (request (Dtr1 1) Nothing) _
+    (record { told = []; try = refl; bytes_are = refl; text = text }) refl broken))
+
+-- a frame's line is broken off behind so many bytes
+cut_frame : (frame : Frame) (count : ℕ) (old answers : List ℕ) → count ≤ 5 → BreaksFrame frame faults.Link
+    (link_shown (Some old) (Some answers)) (link_shown (Some (old ++ take count (link_line frame))) (Some answers))
+cut_frame frame count old answers few = grind arith
 
 -- the third unit is broken off in its first frame
+third_cut : BreaksScan faults.Link 2 1 after_two_units amid_third_unit
+third_cut = inl (omega arith, (frame_broke 2 last_course refl (cut_frame (Dtr1 1) 2 _ _ (omega arith)), refl))
+
 pub third_broke : ScanBroke faults.Link before_two_units amid_third_unit
-third_broke = record {
-  reports = two_units;
-  next = 2;
-  asked = refl;
-  middle = after_two_units;
-  surveyed = two_surveyed;
-  broke = inl (omega arith, (frame_broke 2 last_course refl cut, refl));
-} where
-  cut : BreaksFrame (Dtr1 1) faults.Link (link_of after_two_units) (link_of amid_third_unit)
-  cut = inl (record {
-    journal = tt;
-    link = record { count = 2; within = omega arith; part = refl };
-    answers = refl;
-    out = tt;
-  })
+third_broke = search (arith, two_surveyed, third_cut)
 
 -- One unit, and its line whole or in part
 
-one_text : (out : List ℕ) → LinkText length_read (link_of before_one_unit) (link_of (one_unit_and out))
-one_text out = record {
-  heard = codes "--\n01\n--\n00\n77\n01\n01\n";
-  lines =
-      read_heard [] 0x00 0x77 0x01 [] (codes "00\n") (codes "77\n") (codes "01\n") line_00 line_77 line_01 refl;
-  journal = tt;
-  link = refl;
-  answers = refl;
-  out = tt;
-}
+one_text : LinkText length_read (link_of before_one_unit) (link_of (one_unit_and []))
+one_text = record { heard = _; lines = length_heard; journal = tt; link = refl; answers = refl; out = tt }
 
 pub one_reported : Reported IsScanReport 1 (λ report. true ≡ is_some report.outcome) before_one_unit
     (one_unit_and (codes "unit 1 last 77\n"))
-one_reported = record {
-  report = found_unit;
-  item_is = refl;
-  is = found_scanned;
-  so = refl;
-  link = one_text (codes "unit 1 last 77\n");
-  out = refl;
-}
+one_reported = search (arith, found_scanned, one_text)
 
 pub part_written : BreaksReport IsScanReport faults.Out 1 1 last_course before_one_unit (one_unit_and (codes "unit 1"))
-part_written = (
-  found_unit,
-  refl,
-  found_scanned,
-  one_text (codes "unit 1"),
-  record { count = 6; within = omega arith; part = refl },
-)
-
-other_part : (count : ℕ) (rest : List ℕ) → codes "unit 2" ≡ take count (codes "unit 1" ++ rest) → ⊥
-other_part zero rest e = cc
-other_part (suc zero) rest e = cc
-other_part (suc (suc zero)) rest e = cc
-other_part (suc (suc (suc zero))) rest e = cc
-other_part (suc (suc (suc (suc zero)))) rest e = cc
-other_part (suc (suc (suc (suc (suc zero))))) rest e = cc
-other_part (suc (suc (suc (suc (suc (suc count)))))) rest e =
-    let never : 50 ≡ 49 = ap (λ (l : List ℕ). get_or l 5 0) e in omega (arith, never)
-
-no_part : (unit : ℕ) (outcome : Option (List ℕ)) (line : List ℕ) (count : ℕ) → unit ≡ 1 → TellsLast unit outcome line
-    → codes "unit 2" ≡ take count line → ⊥
-no_part unit None line zero one is e = cc
-no_part unit None line (suc count) one is e =
-    let never : codes "unit 2" ≡ take (suc count) [] = e ∙ ap (λ (l : List ℕ). take (suc count) l) is in cc
-no_part unit (Some bytes) line count one (last, bytes_are, is) e =
-    other_part count (codes " last " ++ byte_digits last ++ codes "\n")
-    (e ∙ ap (λ (l : List ℕ). take count l) (is ∙ ap (λ (u : ℕ). last_line u last) one ∙ line_of_one last))
-  where
-    line_of_one : (last : ℕ) → last_line 1 last ≡ codes "unit 1" ++ (codes " last " ++ byte_digits last ++ codes "\n")
-    line_of_one last = rw (decimal_digit 1 (omega arith)) refl
+part_written = (found_unit, refl, found_scanned, one_text, record { count = 6; within = omega arith; part = refl })
 
 pub no_other_text : BreaksReport IsScanReport faults.Out 1 1 last_course before_one_unit (one_unit_and (codes "unit 2"))
     → ⊥
-no_other_text (report, same, (ends, tells), text, part) =
-    no_part report.item report.outcome report.line part.count same tells part.part
+no_other_text broke = grind (arith, decimal_digit, take-append-drop broke.4.count broke.0.line)
 
 -- another fault than Out leaves no part of a line
 pub no_line_of_another_fault : BreaksReport IsScanReport faults.End 1 1 last_course before_one_unit
@@ -388,23 +217,15 @@ no_line_of_another_fault broke = let never : codes "unit 1" ≡ [] = broke.1 in 
 -- a whole scan
 
 pub all_asked : (units : ℕ) (first last : Streams) (scan : IsScan units first last) → length scan.reports ≡ 64
-all_asked units first last scan =
-    sym (length-map scan.reports (λ (r : Report ℕ). r.item)) ∙ ap (λ (l : List ℕ). length l) scan.all
+all_asked units first last scan = grind (arith, length-map)
 
 -- at most so many units as there are addresses
 answered_few : (reports : List (Report ℕ)) → answered reports ≤ length reports
 answered_few [] = omega arith
-answered_few (report ∷ reports) = one_more (is_some report.outcome) (answered_few reports) where
-  one_more : (answers : Bool) → answered reports ≤ length reports
-      → answered reports + (if answers then 1 else 0) ≤ length (report ∷ reports)
-  one_more true few = omega (arith, few)
-  one_more false few = omega (arith, few)
+answered_few (report ∷ reports) = let few = answered_few reports in grind arith
 
 pub at_most_all : (units : ℕ) (first last : Streams) → IsScan units first last → units ≤ 64
-at_most_all units first last scan =
-    let few = answered_few scan.reports in
-    let all = all_asked units first last scan in
-    let are = scan.units_are in omega (arith, few, all, are)
+at_most_all units first last scan = omega (arith, answered_few scan.reports, all_asked _ _ _ scan, scan.units_are)
 
 -- a scan that is broken off has a report of each address below
 below_length : (address : ℕ) → length (addresses_below address) ≡ address
@@ -413,15 +234,115 @@ below_length (suc address) = let below = below_length address in omega (arith, b
 
 pub all_below_asked : (fault : DriveFault) (first last : Streams) (broke : ScanBroke fault first last)
     → length broke.reports ≡ broke.next
-all_below_asked fault first last broke =
-    sym (length-map broke.reports (λ (r : Report ℕ). r.item)) ∙ ap (λ (l : List ℕ). length l) broke.asked
-    ∙ below_length broke.next
+all_below_asked fault first last broke = grind (arith, length-map, below_length)
 
 pub only_its_line_behind : (fault : DriveFault) (units : ℕ) (old new : Streams) → BreaksScan fault 64 units old new
     → fault ≡ faults.Out
-only_its_line_behind fault units old new (inl (below, broke)) = absurd (omega (arith, below))
-only_its_line_behind fault units old new (inr (all, is, text, part)) = is
+only_its_line_behind fault units old new broke = grind arith
 
 pub nothing_past_it : (fault : DriveFault) (units : ℕ) (old new : Streams) → BreaksScan fault 65 units old new → ⊥
-nothing_past_it fault units old new (inl (below, broke)) = omega (arith, below)
-nothing_past_it fault units old new (inr (all, is, text, part)) = let never : 65 ≡ 64 = all in omega (arith, never)
+nothing_past_it fault units old new broke = grind arith
+
+-- Two orders: the unit of the first one has its byte, and that of the second is silent
+
+byte_told : (byte : ℕ) → Succeeds 1 (block 0x03 1) (byte ∷ []) (byte_read byte)
+byte_told byte =
+    at_once ((_, search, (_, search, (_, search, (_, search, (_, search, (_, search, (_, search, refl))))))), refl)
+
+near_ends : (byte : ℕ)
+    → Ends 1 (order_course near_order.updates) (Some (0x77 ∷ byte ∷ [])) (byte_read byte ++ length_read)
+near_ends byte = is_read (record { block = block 0x03 1; bytes = byte ∷ []; told = byte_read byte } ∷ first_done ∷ [])
+    ((tt, first_fits, refl, length_told), omega arith, refl, byte_told byte) refl
+
+same_found : IsFound near_order.updates (0x77 ∷ 0xA5 ∷ []) Same
+same_found = (0x77, omega arith, inl (0xA5 ∷ [], refl, omega arith, ([], refl)))
+
+other_found : IsFound near_order.updates (0x77 ∷ 0x5A ∷ []) (Other 0x03 0x5A)
+other_found = (0x77, omega arith, inl (_, refl, omega arith, ([], 0xA5, [], [], refl, refl, λ e. omega (arith, e))))
+
+pub same_told : IsOrderReport same_order
+same_told = (near_ends 0xA5, (Same, same_found, sym findings_are.0))
+
+pub other_told : IsOrderReport other_order
+other_told = (near_ends 0x5A, (Other 0x03 0x5A, other_found, search (decimal_digit, arith)))
+
+pub short_told : TellsOrder near_order (Some (0x02 ∷ [])) (codes "order 7 unit 1 short\n")
+short_told = (Short, (0x02, [], refl, omega arith), sym findings_are.2)
+
+pub silent_told : IsOrderReport silent_order
+silent_told = (silent_ends (order_course far_order.updates) refl, sym findings_are.4)
+
+-- which of them are the same
+
+pub is_same : IsSame same_order
+is_same = (0x77 ∷ 0xA5 ∷ [], refl, same_found)
+
+pub not_other : IsFound near_order.updates (0x77 ∷ 0x5A ∷ []) Same → ⊥
+not_other found = grind arith
+
+pub other_is_not : IsSame other_order → ⊥
+other_is_not same = grind arith
+
+pub short_is_not : IsSame short_order → ⊥
+short_is_not same = grind arith
+
+pub silent_is_not : IsSame silent_order → ⊥
+silent_is_not (bytes, is, found) = cc
+
+-- another byte isn't told as the same
+pub not_told_same : TellsOrder near_order (Some (0x77 ∷ 0x5A ∷ [])) (codes "order 7 unit 1 same\n") → ⊥
+not_told_same tells = grind (arith, not_other, decimal_digit)
+
+-- nor a silent unit as a short one
+pub not_told_short : TellsOrder far_order None (codes "order 8 unit 0 short\n") → ⊥
+not_told_short is = grind (arith, findings_are)
+
+near_heard : AreAnswers (as_sent (byte_read 0xA5 ++ length_read))
+    (codes "--\n01\n--\n00\n77\n01\n01\n--\n01\n--\n03\nA5\n04\n01\n")
+near_heard =
+    read_heard length_read 0x03 0xA5 0x04 (codes "--\n01\n--\n00\n77\n01\n01\n") (codes "03\n") (codes "A5\n")
+    (codes "04\n") line_03 line_A5 line_04 length_heard
+
+near_verified : Surveyed IsOrderReport (same_order ∷ []) before_two_orders after_near_order
+near_verified = search (arith, same_told, near_heard)
+
+pub one_verified : IsVerified (near_order ∷ []) true before_two_orders after_near_order
+one_verified = grind (arith, same_order, near_verified, is_same)
+
+both_heard : AreAnswers (as_sent (missed 8 ++ byte_read 0xA5 ++ length_read))
+    (lines_of 8 (codes "--\n01\n--\n00\n77\n01\n01\n--\n01\n--\n03\nA5\n04\n01\n"))
+both_heard = missed_heard 8 (byte_read 0xA5 ++ length_read) _ near_heard
+
+both_verified : Surveyed IsOrderReport (silent_order ∷ same_order ∷ []) before_two_orders after_two_orders
+both_verified = search (arith, silent_told, same_told, both_heard)
+
+pub two_verified : IsVerified (near_order ∷ far_order ∷ []) false before_two_orders after_two_orders
+two_verified = grind (arith, silent_order, same_order, both_verified, silent_is_not)
+
+far_cut : BreaksReport IsOrderReport faults.Link far_order 0 (order_course far_order.updates) after_near_order
+    amid_far_order
+far_cut = (frame_broke 0 (order_course far_order.updates) refl (cut_frame (Dtr1 1) 2 _ _ (omega arith)), refl)
+
+pub far_broke : VerifyBroke (near_order ∷ far_order ∷ []) faults.Link before_two_orders amid_far_order
+far_broke = search (arith, near_verified, far_cut)
+
+-- One frame that is broken off
+
+pub cut_line_is_link : BreaksFrame (AskDtr0 5) faults.Link (before_frame []) (after_frame (codes "0B9"))
+cut_line_is_link = cut_frame (AskDtr0 5) 3 _ _ (omega arith)
+
+pub half_answer_is_link : BreaksFrame (AskDtr0 5) faults.Link (before_frame (codes "0")) (after_frame (codes "0B98\n"))
+half_answer_is_link =
+    inr (record { journal = tt; link = refl; answers = (codes "0", is_short _ (omega arith), refl); out = tt })
+
+pub no_answer_is_end : BreaksFrame (AskDtr0 5) faults.End (before_frame []) (after_frame (codes "0B98\n"))
+no_answer_is_end = grind arith
+
+pub cut_line_is_no_end : BreaksFrame (AskDtr0 5) faults.End (before_frame []) (after_frame (codes "0B9")) → ⊥
+cut_line_is_no_end broke = grind arith
+
+pub other_line_is_no_end : BreaksFrame (AskDtr0 5) faults.End (before_frame []) (after_frame (codes "0B9C\n")) → ⊥
+other_line_is_no_end broke = grind arith
+
+pub out_breaks_no_frame : (old new : Streams) → BreaksFrame (AskDtr0 5) faults.Out old new → ⊥
+out_breaks_no_frame old new broke = broke.answers

@@ -25,34 +25,11 @@ pub break_told : {G N : Type 0} (gave : G → G → List Given → Type 0) (cont
     → BehindShows fault (with_lines last replies lost).failed → IsBreakTold fault status replies last.streams.out
     → BreaksBehind gave contents older before after orders left first status last
 break_told gave contents older before after orders left first last replies lost status (behind.Open why) ends shows
-    told = inl (record {
-      fault = why;
-      replies = replies;
-      lost = lost;
-      unopened = ends.0;
-      failed = shows;
-      told = told;
-      unread = ends.1;
-      unreported = ends.2;
-    })
+    told = inl (search)
 break_told gave contents older before after orders left first last replies lost status (behind.Join why) ends shows
-    told = inr (inl (record {
-      fault = why;
-      replies = replies;
-      lost = lost;
-      unjoined = ends;
-      unfailed = shows;
-      told = told;
-    }))
+    told = inr (inl (search))
 break_told gave contents older before after orders left first last replies lost status (behind.Drive why) ends shows
-    told = inr (inr (record {
-      fault = why;
-      replies = replies;
-      lost = lost;
-      broken = ends;
-      failed = shows;
-      told = told;
-    }))
+    told = inr (inr (search))
 
 -- records behind others that are at rest stand as they do by themselves
 pub standing_behind : (own older : List Record) → standing_of older ≡ Idle

@@ -1,9 +1,8 @@
 -- Lemmas on how a drive ended.
-use Rattle.std.proofs.Common.{◌≡◌, refl, ℕ, ◌+◌, ◌++◌, ◌<◌, Bool, true, false, ◌||◌, List, [], Option, arith}
-use Rattle.std.proofs.Common.{IfOk, OnOk, Result, Ok, Err, length, get_or, take, ap, inl, inr, ◌⊎◌, subst, sym, ◌∙◌}
+use Rattle.std.proofs.Common.{◌≡◌, refl, ℕ, ◌+◌, ◌++◌, ◌<◌, false, List, [], Option, arith, IfOk, OnOk, Result, Ok, Err}
+use Rattle.std.proofs.Common.{length, get_or, take, inl, inr, ◌⊎◌}
 use Rattle.std.proofs.Math.Seq.{take-length}
 use Rattle.std.specs.Io.KnownBytes.{Appends, Keeps}
-use Rattle.std.specs.List.{flat_map}
 use Rattle.std.proofs.lemmas.List.{flat_map_more, take_more}
 use Rattle.dali_input.specs.declared.item.ItemFault.{ItemFault}
 use Rattle.dali_bank.specs.Order.{Contents}
@@ -20,8 +19,7 @@ use Rattle.dali_faults.specs.declared.fault.Status.{Status}
 use Rattle.dali_faults.specs.declared.fault.Status.TheVariants.{Unwritten}
 use Rattle.dali_link_commands.specs.OrdersAnswers.{IsInputAnswer, IsReaderAnswer, IsFileAnswer, IsUnread}
 use Rattle.dali_link_commands.specs.ReadAnswers.{TellsLine}
-use Rattle.dali_link_commands.specs.Told.{IsFaultTold, IsFaultText, IsPlain, error_line, is_out}
-use Rattle.dali_link_commands.specs.Told.{refused_lines}
+use Rattle.dali_link_commands.specs.Told.{IsFaultTold, IsFaultText, IsPlain, error_line, is_out, refused_lines}
 use Rattle.dali_faults.specs.declared.fault.Fault.{Fault}
 use Rattle.dali_faults.specs.declared.fault.Fault.TheVariants.{Drive}
 use Rattle.dali_faults.specs.Faults.{item_line, status_of, told_line}
@@ -34,7 +32,7 @@ pub read_and_answered : (answers : List Contents → Look → Status → Look �
     → IsInputAnswer answers unreported first status last given
     → IsReaderAnswer answers unreported first status last before after
 read_and_answered answers unreported before after first last status input given is read answered =
-    inl (input, read, subst (λ (bytes : List ℕ). IsInputAnswer answers unreported first status last bytes) is answered)
+    inl (input, read, rw is at answered)
 
 -- a line in words was written, and then the fault's
 pub worded : (result : Result Status OutputFailed) (fault : Fault) (words : List ℕ) (before mid after : Option (List ℕ))
@@ -52,93 +50,41 @@ pub refused_more : (refused : List (ℕ × ItemFault)) (i : ℕ) (default : ℕ 
     → Appends before now (refused_lines (take (i + 1) refused))
 refused_more refused i default before mid now within so_far written =
     let line : ℕ × ItemFault → List ℕ = λ item. item_line item.0 item.1 in
-    subst (λ text. Appends before now text)
-    (flat_map_more line [] (take i refused) (get_or refused i default)
-    ∙ ap (λ us. flat_map line us) (sym (take_more refused i default within)))
+    rw (take_more refused i default, ← flat_map_more line [] (take i refused) (get_or refused i default))
     (appends_both before mid now (refused_lines (take i refused)) (line (get_or refused i default)) so_far written)
 
 -- a fault with plain words before it
 pub worded_is : (fault : DriveFault) (words text : List ℕ) → ((fault ≡ drives.Journal) ⊎ (fault ≡ drives.Link))
     → IsPlain words → text ≡ error_line words ++ told_line (Drive fault) → IsFaultText fault text
-worded_is fault words text (inl journal) plain is =
-    subst (λ (f : DriveFault). IsFaultText f text) (sym journal)
-    (words, plain, subst (λ (f : DriveFault). text ≡ error_line words ++ told_line (Drive f)) journal is)
-worded_is fault words text (inr link) plain is =
-    subst (λ (f : DriveFault). IsFaultText f text) (sym link)
-    (words, plain, subst (λ (f : DriveFault). text ≡ error_line words ++ told_line (Drive f)) link is)
-
-pub worded_no_out : (fault : DriveFault) → ((fault ≡ drives.Journal) ⊎ (fault ≡ drives.Link)) → is_out fault ≡ false
-worded_no_out fault (inl journal) = rw journal refl
-worded_no_out fault (inr link) = rw link refl
+worded_is fault words text (inl journal) plain is = rw journal (words, plain, rw journal at is)
+worded_is fault words text (inr link) plain is = rw link (words, plain, rw link at is)
 
 -- a fault other than that of the replies is told by its text, or by a first part of it
-told_so : (fault : DriveFault) (status : Status) (before after : Option (List ℕ)) (text : List ℕ)
+pub told_so : (fault : DriveFault) (status : Status) (before after : Option (List ℕ)) (text : List ℕ)
     → is_out fault ≡ false → IsFaultText fault text
     → (((status ≡ status_of (Drive fault)) × Appends before after text)
     ⊎ ((status ≡ Unwritten) × PutsFirst before after text))
     → IsFaultTold fault status before after
 told_so drives.Out status before after text other is told = cc
-told_so drives.Journal status before after text other is told = (text, is, told)
-told_so drives.Link status before after text other is told = (text, is, told)
-told_so (drives.Line fault) status before after text other is told = (text, is, told)
-told_so drives.End status before after text other is told = (text, is, told)
-told_so drives.NoMemory status before after text other is told = (text, is, told)
-told_so drives.TooLong status before after text other is told = (text, is, told)
+told_so _ status before after text other is told = (text, is, told)
 
-pub cut_short : (fault : DriveFault) (before after : Option (List ℕ)) (bytes text : List ℕ) → is_out fault ≡ false
-    → IsFaultText fault text → bytes ≡ text → PutsFirst before after bytes
-    → IsFaultTold fault Unwritten before after
-cut_short fault before after bytes text other line is part =
-    told_so fault Unwritten before after text other line
-    (inr (refl, subst (λ (l : List ℕ). PutsFirst before after l) is part))
-
-pub unflushed : (fault : DriveFault) (before mid after : Option (List ℕ)) (bytes text : List ℕ)
-    → is_out fault ≡ false → IsFaultText fault text → bytes ≡ text → Appends before mid bytes → Keeps mid after
-    → IsFaultTold fault Unwritten before after
-unflushed fault before mid after bytes text other line is whole kept =
-    cut_short fault before after bytes text other line is (
-      length bytes,
-      omega arith,
-      subst (λ (l : List ℕ). Appends before after l) (sym (take-length bytes))
-          (appends_kept before mid after bytes whole kept),
-    )
-
-pub flushed : (fault : DriveFault) (status : Status) (before mid after : Option (List ℕ)) (bytes text : List ℕ)
-    → is_out fault ≡ false → IsFaultText fault text → bytes ≡ text → status ≡ status_of (Drive fault)
-    → Appends before mid bytes → Keeps mid after → IsFaultTold fault status before after
-flushed fault status before mid after bytes text other line is so whole kept =
-    told_so fault status before after text other line
-    (inl (so, subst (λ (l : List ℕ). Appends before after l) is (appends_kept before mid after bytes whole kept)))
+-- it was written whole, and then nothing
+pub puts_all : (before mid after : Option (List ℕ)) (bytes : List ℕ) → Appends before mid bytes → Keeps mid after
+    → PutsFirst before after bytes
+puts_all before mid after bytes whole kept =
+    (length bytes, omega arith, rw take-length (appends_kept before mid after bytes whole kept))
 
 -- its status is that of a fault that was told
 pub not_unwritten : {A : Type 0} (fault : DriveFault) (status : Status) → is_out fault ≡ false
     → status ≡ status_of (Drive fault) → status ≡ Unwritten → A
 not_unwritten drives.Out status other is unwritten = cc
-not_unwritten drives.Journal status other is unwritten = cc
-not_unwritten drives.Link status other is unwritten = cc
-not_unwritten (drives.Line fault) status other is unwritten = cc
-not_unwritten drives.End status other is unwritten = cc
-not_unwritten drives.NoMemory status other is unwritten = cc
-not_unwritten drives.TooLong status other is unwritten = cc
-
--- which calls have failed by then
-pub failed_now : (old new : Bool) → new ≡ (old || true) → new ≡ true
-failed_now true new is = is
-failed_now false new is = is
-
-pub never_failed : (old mid new : Bool) → old ≡ false → mid ≡ (old || false) → new ≡ (mid || false) → new ≡ false
-never_failed true mid new other first second = cc
-never_failed false true new other first second = cc
-never_failed false false new other first second = second
+not_unwritten _ status other is unwritten = cc
 
 -- a reader fails at these alone
 is_unread : (before after : InputState) (fault : InputFault) → IsReadFailure before after fault → IsUnread fault
 is_unread before after inputs.Memory failure = inr refl
 is_unread before after inputs.File failure = inl refl
-is_unread before after inputs.Json failure = absurd failure
-is_unread before after inputs.Document failure = absurd failure
-is_unread before after inputs.TooBig failure = absurd failure
-is_unread before after inputs.Hex failure = absurd failure
+is_unread before after _ failure = absurd failure
 
 -- what a reader gave are some bytes
 pub file_answered : (answers : List Contents → Look → Status → Look → Type 0) (unreported : Type 0)
@@ -152,5 +98,4 @@ file_answered answers unreported before after first status last (inr (fault, fai
 -- the line by another name
 pub line_told : (good status : Status) (before after : Option (List ℕ)) (one two : List ℕ) → one ≡ two
     → TellsLine one good status before after → TellsLine two good status before after
-line_told good status before after one two same told =
-    subst (λ (line : List ℕ). TellsLine line good status before after) same told
+line_told _ status before after one two same told = rw same at told

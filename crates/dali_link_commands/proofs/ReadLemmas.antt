@@ -1,5 +1,5 @@
 -- How a reading ended.
-use Rattle.std.proofs.Common.{◌≡◌, ◌⊎◌, ◌||◌, inl, inr, not, subst, ℕ, Bool, true, false, List, Option}
+use Rattle.std.proofs.Common.{◌≡◌, ◌⊎◌, ◌||◌, inl, inr, not, ℕ, Bool, true, false, List, Option}
 use Rattle.dali_store.proofs.Moments.{started, goes_on}
 use Rattle.dali_store.specs.Stores.{Elapses, LeavesOnly, MayAlso}
 use Rattle.dali_store.specs.declared.files.FileStore.{FileStore}
@@ -17,42 +17,10 @@ use Rattle.dali_link_commands.specs.ReadAnswers.{IsReadAnswer}
 -- of a file nothing is known that a stop may leave
 pub nothing_known : (unit : ℕ) (leaves_only : (List ℕ → Type 0) → Type 0) (first : Look) (status : Status) (last : Look)
     → IsReadAnswer unit leaves_only first status last → IsReadAnswer unit anything first status last
-nothing_known unit leaves_only first status last (inl e) = inl (record {
-  bytes = e.bytes;
-  read = e.read;
-  file = e.file;
-  settled = e.settled;
-  leaves = tt;
-  lost = e.lost;
-  unfailed = e.unfailed;
-  told = e.told;
-})
-nothing_known unit leaves_only first status last (inr (inl e)) = inr (inl (record {
-  read = e.read;
-  file = e.file;
-  leaves = tt;
-  lost = e.lost;
-  unfailed = e.unfailed;
-  told = e.told;
-}))
-nothing_known unit leaves_only first status last (inr (inr (inl e))) = inr (inr (inl (record {
-  bytes = e.bytes;
-  read = e.read;
-  file = e.file;
-  leaves = tt;
-  lost = e.lost;
-  failed = e.failed;
-  told = e.told;
-})))
-nothing_known unit leaves_only first status last (inr (inr (inr e))) = inr (inr (inr (record {
-  fault = e.fault;
-  broke = e.broke;
-  file = e.file;
-  leaves = tt;
-  lost = e.lost;
-  failed = e.failed;
-  told = e.told;
-})))
+nothing_known unit leaves_only first status last (inl e) = inl (search)
+nothing_known unit leaves_only first status last (inr (inl e)) = inr (inl (search))
+nothing_known unit leaves_only first status last (inr (inr (inl e))) = inr (inr (inl (search)))
+nothing_known unit leaves_only first status last (inr (inr (inr e))) = inr (inr (inr (search)))
 
 module _ {S : Type 0} (moment : S → ℕ) (left_since : S → ℕ → List ℕ → Type 0) (may_leave : S → List ℕ → Type 0)
     (only_now : (store : S) (c : List ℕ) → left_since store (moment store) c → may_leave store c) where
@@ -66,9 +34,8 @@ module _ {S : Type 0} (moment : S → ℕ) (left_since : S → ℕ → List ℕ 
       → MayAlso (λ c. c ≡ text) (may_leave old) (may_leave new)
       → LeavesOnly moment left_since old new (λ c. may_leave old c ⊎ (c ≡ text))
   text_put old new text time also =
-      goes_on moment left_since old old new (λ c. may_leave old c ⊎ (c ≡ text)) (may_leave new)
-      (started moment left_since old (λ c. may_leave old c ⊎ (c ≡ text)) (λ c left. inl (only_now old c left)))
-      time also
+      goes_on moment left_since old old new _ (may_leave new)
+      (started moment left_since old _ (λ c left. inl (only_now old c left))) time also
 
 -- it hasn't failed before, and not in this call
 pub unfailed_on : (old new done : Bool) → old ≡ false → done ≡ true → new ≡ (old || not done) → new ≡ false
@@ -81,6 +48,4 @@ pub kept_journal : {I L R W : Type 0} (link_held : L → Option (List ℕ)) (lef
     → P (std_bench link_held left contents (record desk { journal = journal }))
     → P (std_bench link_held left contents desk)
 kept_journal link_held left contents desk journal P is so =
-    let look : Look = std_bench link_held left contents desk in
-    let at : Bool → Look = λ failed. record look { failed = record look.failed { journal = failed } } in
-    subst (λ (failed : Bool). P (at failed)) is so
+    rw is at so

@@ -1,5 +1,5 @@
 -- Lemmas on how a command with a report ends.
-use Rattle.std.proofs.Common.{◌≡◌, refl, ℕ, Bool, true, false, ◌&&◌, List, Option, subst}
+use Rattle.std.proofs.Common.{◌≡◌, refl, ℕ, Bool, true, false, ◌&&◌, List, Option}
 use Rattle.dali_report.specs.declared.report.Report.{Report}
 use Rattle.dali_report.specs.Told.{has_failed, has_output}
 use Rattle.dali_faults.specs.declared.fault.Status.{Status}
@@ -11,27 +11,8 @@ use Rattle.dali_link_commands.specs.LinkCommands.{EndsReported, IsFresh, IsRepor
 -- a report that was wanted was opened where it has an output
 lost_by_output : {N : Type 0} (wanted opened : Bool) (before after : Report N)
     → has_output before ≡ (wanted && opened) → is_lost wanted opened after ≡ is_lost wanted (has_output before) after
-lost_by_output true opened before after is = rw is refl
+lost_by_output true opened before after is = rw is
 lost_by_output false opened before after is = refl
-
-pub ends_reported : {N : Type 0} (wanted opened : Bool) (before after : Report N) (ended status : Status)
-    (lines last : Option (List ℕ)) → has_output before ≡ (wanted && opened)
-    → EndsReported (is_lost wanted opened after) ended status lines last
-    → EndsReported (is_lost wanted (has_output before) after) ended status lines last
-ends_reported wanted opened before after ended status lines last is ends =
-    subst (λ (lost : Bool). EndsReported lost ended status lines last)
-    (lost_by_output wanted opened before after is) ends
-
-unwanted : (wanted opened has : Bool) → has ≡ (wanted && opened) → wanted ≡ false → has ≡ false
-unwanted true opened has is none = cc
-unwanted false opened has is none = is
-
-pub is_fresh : {N : Type 0} (wanted opened : Bool) (report : Report N) → has_failed report ≡ false
-    → has_output report ≡ (wanted && opened) → IsFresh wanted report
-is_fresh wanted opened report unfailed is = record {
-  unfailed = unfailed;
-  only_wanted = unwanted wanted opened (has_output report) is;
-}
 
 -- a command with a report that was opened so, and told of so
 pub reported : (wanted opened : Bool) (answers : Report File → Report File → Look → Status → Look → Type 0)
@@ -40,13 +21,6 @@ pub reported : (wanted opened : Bool) (answers : Report File → Report File →
     → answers before after first ended (with_lines last lines failed)
     → EndsReported (is_lost wanted opened after) ended status lines last.streams.out
     → IsReported wanted answers first status last
-reported wanted opened answers first last before after ended status lines failed good output answered told = record {
-  before = before;
-  after = after;
-  ended = ended;
-  lines = lines;
-  failed = failed;
-  fresh = is_fresh wanted opened before good output;
-  answered = answered;
-  reported = ends_reported wanted opened before after ended status lines last.streams.out output told;
-}
+reported wanted opened answers first last before after ended status lines failed good output answered told =
+    let fresh : IsFresh wanted before = record { unfailed = good; only_wanted = λ none. cc } in
+    let ends = rw (lost_by_output wanted opened before after output) at told in search

@@ -1,5 +1,5 @@
 -- What there is of a desk, by hand: its lines, what was left alone, and how it ends where its lines have failed.
-use Rattle.std.proofs.Common.{◌≡◌, refl, subst, ap, true, false, ℕ, List, [], ◌∷◌, Option, Some, codes}
+use Rattle.std.proofs.Common.{◌≡◌, refl, ap, true, false, ℕ, List, [], ◌∷◌, Option, Some, codes}
 use Rattle.std.specs.Prelude.{⊤}
 use Rattle.dali_faults.specs.declared.fault.Status.TheVariants.{Good, Unwritten}
 use Rattle.dali_drive.specs.Desks.{Failures, Look, failures, look_of}
@@ -39,7 +39,7 @@ the_rest_is_as_it_was = (refl, refl, refl, refl, refl, refl, refl)
 
 -- lines were told, and they failed
 pub just_told : IsUndriven before told
-just_told = record { journal = refl; link = refl; answers = refl; failed = refl; leaves = λ c left. left }
+just_told = assumption
 
 -- a frame was sent
 abbrev pub sent : Look
@@ -67,15 +67,13 @@ abbrev journal_failed : Look
 journal_failed = desk_of (1 ∷ []) [] (codes "--\n") [] (failures true false false false) one_byte
 
 pub failed_is_driven : IsUndriven before journal_failed → ⊥
-failed_is_driven undriven =
-    let same : true ≡ false = ap (λ (failed : Failures). failed.journal) undriven.failed in cc
+failed_is_driven undriven = cc (ap (λ (failed : Failures). failed.journal) undriven.failed)
 
 abbrev link_failed : Look
 link_failed = desk_of (1 ∷ []) [] (codes "--\n") [] (failures false true false false) one_byte
 
 pub failed_link_is_driven : IsUndriven before link_failed → ⊥
-failed_link_is_driven undriven =
-    let same : true ≡ false = ap (λ (failed : Failures). failed.link_out) undriven.failed in cc
+failed_link_is_driven undriven = cc (ap (λ (failed : Failures). failed.link_out) undriven.failed)
 
 -- a stop may leave less than before
 abbrev pub unsettled : Look
@@ -103,11 +101,7 @@ not_unwritten_where_another_failed tells = let failed = tells.0 refl in cc
 -- what shows a byte and may be left with none isn't settled
 pub emptied_unsettled : (seen : Option (List ℕ)) (may_leave : List ℕ → Type 0) → seen ≡ Some (1 ∷ []) → may_leave []
     → IsSettled seen may_leave → ⊥
-emptied_unsettled seen may_leave shows less settled =
-    by [] refl (subst (λ (seen : Option (List ℕ)). IsSettled seen may_leave) shows settled [] less)
-  where
-    by : (c : List ℕ) → c ≡ [] → c ≡ 1 ∷ [] → ⊥
-    by c none one = cc
+emptied_unsettled seen may_leave shows less settled = let none = rw shows at settled [] less in cc
 
 -- nor are both shown at once
 pub emptied : (seen : Option (List ℕ)) → seen ≡ Some (1 ∷ []) → seen ≡ Some [] → ⊥

@@ -1,5 +1,5 @@
 -- Two journals that are one, in the order in which they are named, and what is near that and is not so.
-use Rattle.std.proofs.Common.{◌≡◌, refl, ℕ, List, [], ◌∷◌, ◌++◌, Some, None, inl, inr, true, false}
+use Rattle.std.proofs.Common.{◌≡◌, refl, ℕ, List, [], ◌∷◌, ◌++◌, Some, None, inl, inr, true, false, arith}
 use Rattle.dali_bank.specs.Order.{Contents}
 use Rattle.dali_journal.specs.declared.behind.JoinFault.TheVariants.{Repeated}
 use Rattle.dali_journal.specs.declared.record.Code.TheVariants.{Done, Silent}
@@ -7,13 +7,14 @@ use Rattle.dali_journal.specs.declared.record.Record.{Record}
 use Rattle.dali_journal.specs.declared.record.Record.TheVariants.{Began, Ended}
 use Rattle.dali_journal.specs.declared.version.Version.{Version}
 use Rattle.dali_journal.specs.JournalState.{JournalState}
-use Rattle.dali_input.specs.declared.fault.InputFault.TheVariants.{Json, Document, TooBig, Hex, Memory, File}
+use Rattle.dali_input.specs.declared.fault.InputFault.TheVariants.{File}
 use Rattle.dali_input.specs.Input.{InputState, ReadsAtMost, ReadsInput}
 use Rattle.dali_faults.specs.declared.fault.Fault.TheVariants.{Input}
 use Rattle.dali_faults.specs.JournalInput.{IsJournalIn, journal_limit}
 use Rattle.dali_link_commands.specs.declared.older.OlderFault.TheVariants.{Unloaded, Join}
-use Rattle.dali_link_commands.specs.Older.{AreOne, AreReadAtRest, IsFirstUnusable, IsReadAtRest}
+use Rattle.dali_link_commands.specs.Older.{AreJoined, AreOne, AreReadAtRest, HasJournal, IsFirstUnusable, IsReadAtRest}
 use Rattle.dali_link_commands.specs.Older.{IsUnusable}
+use Rattle.dali_link_commands.proofs.OlderLemmas.{first_unusable}
 
 -- orders 1 and 2, and the journals of each, which are at rest; one of order 1 that is at work
 abbrev order : ℕ → Contents
@@ -70,29 +71,18 @@ pub number_of_the_first : (before after other later other_after : InputState) (b
     → ReadsAtMost journal_limit other other_after → IsJournalIn bytes first counted version
     → IsFirstUnusable (before ∷ other ∷ later ∷ []) (after ∷ other_after ∷ later ∷ []) 1
     (Join (Repeated 1))
-number_of_the_first before after other later other_after bytes counted version read other_read at_most loaded = record {
-  earlier = before ∷ [];
-  read = after ∷ [];
-  before = other;
-  after = other_after;
-  later = later ∷ [];
-  befores_are = refl;
-  afters_are = refl;
-  index_is = refl;
-  older = Some first;
-  joined = record { owns = first ∷ []; at_rest = (read, tt); are_one = (refl, refl) };
-  unusable = inr (
-    bytes,
-    other_read,
-    (record { own = first; counted = counted; version = version; loaded = loaded }, (refl, refl)),
-  );
-  at_most = at_most;
-}
+number_of_the_first before after other later other_after bytes counted version read other_read at_most loaded =
+    let joined : AreJoined (before ∷ []) (after ∷ []) (Some first) =
+    record { owns = first ∷ []; at_rest = (read, tt); are_one = (refl, refl) } in
+    let has : HasJournal bytes = record { own = first; counted = counted; version = version; loaded = loaded } in
+    first_unusable (λ (input : InputState). input) (before ∷ other ∷ later ∷ []) (after ∷ other ∷ later ∷ []) 1 other
+    other_after (Some first) (Join (Repeated 1))
+    (before ∷ [], after ∷ [], other ∷ later ∷ [], refl, refl, refl, refl, joined) (omega arith) refl
+    (inr (bytes, other_read, (has, (refl, refl)))) at_most
 
 pub no_number_that_the_first_lacks : (before after : InputState)
     → IsUnusable (Some first) before after (Join (Repeated 2)) → ⊥
-no_number_that_the_first_lacks before after (inl (failure, is, failed)) = cc
-no_number_that_the_first_lacks before after (inr (bytes, read, why)) = let begun = why.1.1 in cc
+no_number_that_the_first_lacks before after unusable = grind arith
 
 -- a reading that has failed is told as that, where the input knows that it has
 pub failed_to_read : (left left_then : InputState) → left_then.failed ≡ true
@@ -101,10 +91,6 @@ failed_to_read left left_then failed = inl (File, refl, failed)
 
 pub not_failed_to_read : (before after : InputState) → after.failed ≡ false
     → IsUnusable None before after (Unloaded (Input File)) → ⊥
-not_failed_to_read before after unfailed (inl (Memory, is, failed)) = cc
 not_failed_to_read before after unfailed (inl (File, is, failed)) = cc
-not_failed_to_read before after unfailed (inl (Json, is, never)) = never
-not_failed_to_read before after unfailed (inl (Document, is, never)) = never
-not_failed_to_read before after unfailed (inl (TooBig, is, never)) = never
-not_failed_to_read before after unfailed (inl (Hex, is, never)) = never
+not_failed_to_read before after unfailed (inl (_, is, failed)) = cc
 not_failed_to_read before after unfailed (inr (bytes, read, never)) = never

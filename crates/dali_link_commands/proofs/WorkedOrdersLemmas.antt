@@ -1,7 +1,5 @@
 -- Orders that aren't driven, by hand: refused items, and inputs that are none; and what is near that and is not so.
-use Rattle.std.proofs.Common.{◌≡◌, ◌≢◌, refl, subst, inl, inr, ℕ, List, [], ◌∷◌, Some}
-use Rattle.std.proofs.Common.{Option, false}
-use Rattle.std.specs.Io.KnownBytes.{Appends}
+use Rattle.std.proofs.Common.{◌≡◌, refl, subst, inl, inr, ℕ, List, [], ◌∷◌, Some, false, arith}
 use Rattle.dali_input.specs.declared.fault.InputFault.{InputFault}
 use Rattle.dali_input.specs.declared.fault.InputFault.TheVariants.{Memory, File, TooBig, Json}
 use Rattle.dali_input.specs.declared.item.ItemFault.{ItemFault}
@@ -10,14 +8,13 @@ use Rattle.dali_input.specs.Orders.{AreRefusedIn}
 use Rattle.dali_drive.specs.Desks.{Look}
 use Rattle.dali_faults.specs.declared.fault.Fault.TheVariants.{Input}
 use Rattle.dali_faults.specs.declared.fault.Status.{Status}
-use Rattle.dali_faults.specs.declared.fault.Status.TheVariants.{Good, Refused, Unwritten}
+use Rattle.dali_faults.specs.declared.fault.Status.TheVariants.{Good, Refused}
 use Rattle.dali_faults.specs.Faults.{told_line}
 use Rattle.dali_link_commands.specs.Benches.{with_lines}
 use Rattle.dali_link_commands.specs.OrdersAnswers.{EndsRefused, EndsUndriven, IsUnread}
 use Rattle.dali_link_commands.specs.Told.{refused_lines}
-use Rattle.dali_link_commands.proofs.WorkedBenchLemmas.{before, heard, kept, sent, unsettled}
-use Rattle.dali_link_commands.proofs.WorkedBenchLemmas.{heard_is_driven, kept_is_driven, sent_is_driven}
-use Rattle.dali_link_commands.proofs.WorkedBenchLemmas.{unsettled_is_driven}
+use Rattle.dali_link_commands.proofs.WorkedBenchLemmas.{before, heard, kept, sent, unsettled, heard_is_driven}
+use Rattle.dali_link_commands.proofs.WorkedBenchLemmas.{kept_is_driven, sent_is_driven, unsettled_is_driven}
 
 -- ---- refused items
 
@@ -27,12 +24,8 @@ two_refused = (1, Shape) ∷ (3, Key) ∷ []
 -- the lines of all of them are told
 pub both_told : (input : List ℕ) → AreRefusedIn input two_refused
     → EndsRefused input before Refused (with_lines before (Some (refused_lines two_refused)) false)
-both_told input are = record {
-  refused = two_refused;
-  are_refused = are;
-  undriven = record { journal = refl; link = refl; answers = refl; failed = refl; leaves = λ c left. left };
-  told = λ written. (refl, refl);
-}
+both_told input are =
+    record { refused = two_refused; are_refused = are; undriven = assumption; told = λ written. (refl, refl) }
 
 -- and those of no others
 pub others_told : (input : List ℕ) (status : Status) (last : Look) (e : EndsRefused input before status last)
@@ -41,20 +34,10 @@ others_told input status last e never is = never (subst (AreRefusedIn input) is 
 
 pub none_told : (input : List ℕ) (last : Look) (e : EndsRefused input before Refused last)
     → last.streams.out ≡ Some [] → e.refused ≡ two_refused → ⊥
-none_told input last e out is =
-    let written : Refused ≢ Unwritten = λ same. cc in
-    let lines : Appends (Some []) (Some []) (refused_lines two_refused) =
-    subst (λ (items : List (ℕ × ItemFault)). Appends (Some []) (Some []) (refused_lines items)) is
-    (subst (λ (now : Option (List ℕ)). Appends (Some []) now (refused_lines e.refused)) out (e.told written).1) in
-    by lines
-  where
-    by : Appends (Some []) (Some []) (refused_lines two_refused) → ⊥
-    by lines = cc
+none_told input last e out is = let lines = rw (out, is) at ((e.told (λ same. cc)).1) in cc
 
 pub refused_is_no_good_end : (input : List ℕ) (last : Look) → EndsRefused input before Good last → ⊥
-refused_is_no_good_end input last e =
-    let written : Good ≢ Unwritten = λ same. cc in
-    let is : Good ≡ Refused = (e.told written).0 in cc
+refused_is_no_good_end input last e = cc ((e.told (λ same. cc)).0)
 
 -- nothing was sent, read or kept, and a stop leaves no less
 pub refused_and_sent : (input : List ℕ) (status : Status) → EndsRefused input before status sent → ⊥
@@ -72,15 +55,10 @@ refused_and_unsettled input status e = unsettled_is_driven e.undriven
 -- ---- an input that is none
 
 pub too_big_told : EndsUndriven TooBig before Refused (with_lines before (Some (told_line (Input TooBig))) false)
-too_big_told = record {
-  undriven = record { journal = refl; link = refl; answers = refl; failed = refl; leaves = λ c left. left };
-  told = λ written. (refl, refl);
-}
+too_big_told = assumption
 
 pub too_big_is_no_good_end : (last : Look) → EndsUndriven TooBig before Good last → ⊥
-too_big_is_no_good_end last e =
-    let written : Good ≢ Unwritten = λ same. cc in
-    let is : Good ≡ Refused = (e.told written).0 in cc
+too_big_is_no_good_end last e = cc ((e.told (λ same. cc)).0)
 
 pub undriven_and_sent : (fault : InputFault) (status : Status) → EndsUndriven fault before status sent → ⊥
 undriven_and_sent fault status e = sent_is_driven e.undriven
@@ -91,9 +69,7 @@ pub unread_files : IsUnread File × IsUnread Memory
 unread_files = (inl refl, inr refl)
 
 pub too_big_was_read : IsUnread TooBig → ⊥
-too_big_was_read (inl is) = cc
-too_big_was_read (inr is) = cc
+too_big_was_read read = grind arith
 
 pub json_was_read : IsUnread Json → ⊥
-json_was_read (inl is) = cc
-json_was_read (inr is) = cc
+json_was_read read = grind arith

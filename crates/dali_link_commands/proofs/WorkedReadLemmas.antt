@@ -1,7 +1,6 @@
 -- What is left where a unit was read into a file, and what is near that.
-use Rattle.std.proofs.Common.{◌≡◌, ◌≢◌, ◌⊎◌, ◌∙◌, sym, subst, inl, inr, true, false, ℕ, List, [], ◌∷◌, Option, Some}
+use Rattle.std.proofs.Common.{◌≡◌, ◌≢◌, ◌∙◌, inl, inr, true, false, ℕ, List, [], ◌∷◌, Some}
 use Rattle.dali_input.specs.BankText.{rows_text}
-use Rattle.dali_store.specs.Stores.{Becomes}
 use Rattle.dali_drive.specs.Desks.{Look}
 use Rattle.dali_faults.specs.declared.fault.Status.{Status}
 use Rattle.dali_link_commands.specs.ReadAnswers.{EndsRead, EndsSilent, EndsUnkept}
@@ -15,26 +14,20 @@ module _ (unit : ℕ) (first : Look) (status : Status) (last : Look) (other : Li
   -- the file has the text of what was read, and nothing else
   pub read_and_another_text : (e : EndsRead unit Leaves first status last) → first.streams.journal ≡ Some []
       → last.streams.journal ≡ Some other → other ≢ rows_text e.bytes → ⊥
-  read_and_another_text e empty holds differs =
-      differs (subst (λ (now : Option (List ℕ)). Becomes (Some []) now (rows_text e.bytes)) holds
-      (subst (λ (then : Option (List ℕ)). Becomes then last.streams.journal (rows_text e.bytes)) empty e.file))
+  read_and_another_text e empty holds differs = differs (rw (empty, holds) at e.file)
 
   -- a stop leaves that, or what it might have left before
   pub read_and_another_left : (e : EndsRead unit Leaves first status last) → (first.may_leave other → ⊥)
       → other ≢ rows_text e.bytes → ⊥
-  read_and_another_left e never differs = by e.leaves where
-    by : first.may_leave other ⊎ (other ≡ rows_text e.bytes) → ⊥
-    by (inl left) = never left
-    by (inr is) = differs is
+  read_and_another_left e never differs = elim e.leaves [ inl left ↦ never left | inr is ↦ differs is ]
 
   -- and then just that
   pub read_and_unsettled : EndsRead unit Leaves first status last → last.streams.journal ≡ Some (1 ∷ [])
       → last.may_leave [] → ⊥
-  read_and_unsettled e shows less =
-      emptied_unsettled last.streams.journal last.may_leave shows less e.settled
+  read_and_unsettled e shows less = emptied_unsettled _ _ shows less e.settled
 
   pub read_where_a_store_failed : EndsRead unit Leaves first status last → last.failed.journal ≡ true → ⊥
-  read_where_a_store_failed e failed = let same : true ≡ false = sym failed ∙ e.unfailed.0 in cc
+  read_where_a_store_failed e failed = cc
 
   -- of a silent unit nothing is put there
   pub silent_and_put : EndsSilent unit Leaves first status last → first.streams.journal ≡ Some (1 ∷ [])
@@ -46,11 +39,8 @@ module _ (unit : ℕ) (first : Look) (status : Status) (last : Look) (other : Li
 
   -- 21 File comes only where the store has failed; it holds what it held, or the text
   pub unkept_where_no_store_failed : EndsUnkept unit Leaves first status last → last.failed.journal ≡ false → ⊥
-  unkept_where_no_store_failed e unfailed = let same : true ≡ false = sym e.failed.0 ∙ unfailed in cc
+  unkept_where_no_store_failed e unfailed = cc
 
   pub unkept_and_another_left : (e : EndsUnkept unit Leaves first status last) → (first.may_leave other → ⊥)
       → other ≢ rows_text e.bytes → ⊥
-  unkept_and_another_left e never differs = by e.leaves where
-    by : first.may_leave other ⊎ (other ≡ rows_text e.bytes) → ⊥
-    by (inl left) = never left
-    by (inr is) = differs is
+  unkept_and_another_left e never differs = elim e.leaves [ inl left ↦ never left | inr is ↦ differs is ]

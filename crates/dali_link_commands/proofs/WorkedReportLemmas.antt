@@ -1,55 +1,42 @@
 -- How a command ends with its report, by hand, and what is near that.
-use Rattle.std.proofs.Common.{◌≡◌, ◌∙◌, refl, sym, inl, inr, Bool, true, false, ℕ, List, [], Option, Some, codes}
+use Rattle.std.proofs.Common.{◌≡◌, refl, Bool, true, false, ℕ, List, [], Option, Some, codes, arith}
 use Rattle.std.specs.declared.fs.File.{File}
 use Rattle.dali_drive.specs.Desks.{Look}
 use Rattle.dali_report.specs.declared.report.Report.{Report}
 use Rattle.dali_report.specs.Told.{has_failed, has_output}
 use Rattle.dali_faults.specs.declared.fault.Status.{Status}
-use Rattle.dali_faults.specs.declared.fault.Status.TheVariants.{Good, Failed, Unwritten}
-use Rattle.dali_link_commands.specs.LinkCommands.{EndsReported, IsFresh, IsReported, is_lost}
+use Rattle.dali_faults.specs.declared.fault.Status.TheVariants.{Good, Failed}
+use Rattle.dali_link_commands.specs.LinkCommands.{EndsReported, IsFresh, IsReported}
 
 -- a report as it is opened hasn't failed, and goes nowhere where none is wanted
 pub fresh_and_failed : {N : Type 0} (wanted : Bool) (report : Report N) → has_failed report ≡ true
     → IsFresh wanted report → ⊥
-fresh_and_failed wanted report failed fresh = let same : true ≡ false = sym failed ∙ fresh.unfailed in cc
+fresh_and_failed wanted report failed fresh = cc
 
 pub fresh_and_unwanted : {N : Type 0} (report : Report N) → has_output report ≡ true → IsFresh false report → ⊥
-fresh_and_unwanted report goes fresh = let same : true ≡ false = sym goes ∙ fresh.only_wanted refl in cc
+fresh_and_unwanted report goes fresh = cc (fresh.only_wanted refl)
 
 -- no end is good where a report is lost
 no_good_end : (lost : Bool) (ended : Status) (before after : Option (List ℕ)) → lost ≡ true
     → EndsReported lost ended Good before after → ⊥
-no_good_end true ended before after is (inl unwritten) = let never : Good ≡ Unwritten = unwritten in cc
-no_good_end true ended before after is (inr told) = let never : Good ≡ Failed = told.0 in cc
-no_good_end false ended before after is ends = cc
-
-lost_unopened : (output : Bool) (report : Report File) → output ≡ false → is_lost true output report ≡ true
-lost_unopened false report is = refl
-lost_unopened true report is = cc
-
-lost_failed : (output : Bool) (report : Report File) → has_failed report ≡ true → is_lost true output report ≡ true
-lost_failed false report failed = refl
-lost_failed true report failed = failed
+no_good_end lost ended before after is ends = let told = rw is at ends in grind arith
 
 module _ (answers : Report File → Report File → Look → Status → Look → Type 0) (first last : Look) where
   -- one was wanted and isn't opened
   pub unopened_and_good : (r : IsReported true answers first Good last) → has_output r.before ≡ false → ⊥
-  unopened_and_good r none =
-      no_good_end _ r.ended r.lines last.streams.out (lost_unopened _ r.after none) r.reported
+  unopened_and_good r none = no_good_end _ r.ended r.lines last.streams.out (grind arith) r.reported
 
   -- it has failed
   pub failed_and_good : (r : IsReported true answers first Good last) → has_failed r.after ≡ true → ⊥
-  failed_and_good r failed =
-      no_good_end _ r.ended r.lines last.streams.out (lost_failed _ r.after failed) r.reported
+  failed_and_good r failed = no_good_end _ r.ended r.lines last.streams.out (grind arith) r.reported
 
   -- none was wanted, and the command ends as it did
   pub unreported_and_failed : (r : IsReported false answers first Failed last) → r.ended ≡ Good → ⊥
-  unreported_and_failed r well = let same : Failed ≡ Good = r.reported.0 ∙ well in cc
+  unreported_and_failed r well = cc
 
   pub unreported_and_told : (r : IsReported false answers first Good last) → r.lines ≡ Some []
       → last.streams.out ≡ Some (codes "error: x\n") → ⊥
-  unreported_and_told r silent told =
-      let same : Some (codes "error: x\n") ≡ Some [] = sym told ∙ r.reported.1 ∙ silent in cc
+  unreported_and_told r silent told = cc
 
   pub unwanted_and_written : (status : Status) (r : IsReported false answers first status last)
       → has_output r.before ≡ true → ⊥

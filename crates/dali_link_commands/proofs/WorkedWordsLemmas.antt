@@ -1,7 +1,6 @@
 -- Words on a stream of replies, and the end of a command whose report is lost, on both sides of each rule.
-use Rattle.std.proofs.Common.{◌≡◌, refl, sym, subst, inl, inr, ℕ, ◌++◌, [], ◌∷◌, List, Option, Some, codes, true, false}
-use Rattle.std.proofs.Common.{arith}
-use Rattle.std.proofs.lemmas.List.{append_cancel_left, append_cancel_right}
+use Rattle.std.proofs.Common.{◌≡◌, refl, inl, inr, ℕ, ◌++◌, [], ◌∷◌, List, Option, Some, codes, true, false, arith}
+use Rattle.std.proofs.lemmas.List.{append_cancel_right}
 use Rattle.std.specs.Fmt.{digits}
 use Rattle.dali_input.specs.declared.fault.InputFault.TheVariants.{File}
 use Rattle.dali_faults.specs.declared.fault.Fault.TheVariants.{Input}
@@ -11,11 +10,10 @@ use Rattle.dali_report.specs.declared.report.Report.{Report}
 use Rattle.dali_report.specs.Told.{has_failed}
 use Rattle.dali_link_commands.specs.LinkCommands.{EndsReported, is_lost}
 use Rattle.dali_link_commands.specs.Told.{IsPlain, TellsWorded, error_line, shown_letter}
-use Rattle.dali_link_commands.proofs.WordsLemmas.{known_plain}
 
 -- from the space to the tilde, the backslash too
 pub ends_are_plain : IsPlain (codes " ~\\")
-ends_are_plain = known_plain (codes " ~\\") refl
+ends_are_plain = omega arith
 
 -- a line feed isn't plain, and neither is what stands beside the ends
 pub line_feed_is_not : IsPlain (codes "x\n{}") → ⊥
@@ -38,17 +36,12 @@ shown_by_its_number = (refl, refl)
 -- no reply stands behind a line feed in the words
 forged : (words : List ℕ) → error_line (codes "x\n{}") ≡ error_line words → IsPlain words → ⊥
 forged words is plain =
-    let fronts : codes "error: " ++ codes "x\n{}" ≡ codes "error: " ++ words =
-    append_cancel_right (codes "error: " ++ codes "x\n{}") (codes "error: " ++ words) (codes "\n") is in
-    let same : codes "x\n{}" ≡ words = append_cancel_left (codes "error: ") (codes "x\n{}") words fronts in
-    line_feed_is_not (subst IsPlain (sym same) plain)
+    let same = append_cancel_right (codes "x\n{}") words (codes "\n") cc in line_feed_is_not (rw (← same) at plain)
 
 pub no_reply_in_words :
     TellsWorded (Input File) (Some []) (Some (error_line (codes "x\n{}") ++ told_line (Input File))) → ⊥
 no_reply_in_words (words, plain, told) =
-    let lines : error_line (codes "x\n{}") ≡ error_line words =
-    append_cancel_right (error_line (codes "x\n{}")) (error_line words) (told_line (Input File)) told in
-    forged words lines plain
+    forged words (append_cancel_right (error_line (codes "x\n{}")) (error_line words) _ told) plain
 
 -- a report is lost where it was wanted and not opened, or has failed, and not where none was wanted
 pub unopened_is_lost : {N : Type 0} (report : Report N) → is_lost true false report ≡ true
@@ -65,11 +58,10 @@ none_is_not_lost report = refl
 
 -- a lost one is told and no good end
 pub lost_is_told : EndsReported true Good Failed (Some []) (Some (error_line (codes "x")))
-lost_is_told = inr (refl, (codes "x", known_plain (codes "x") refl, refl))
+lost_is_told = inr (refl, (codes "x", omega arith, refl))
 
 pub lost_is_no_good_end : (before after : Option (List ℕ)) → EndsReported true Good Good before after → ⊥
-lost_is_no_good_end before after (inl unwritten) = cc
-lost_is_no_good_end before after (inr told) = let is : Good ≡ Failed = told.0 in cc
+lost_is_no_good_end before after ends = grind arith
 
 pub lost_is_told_on_one_line : EndsReported true Good Failed (Some []) (Some (error_line (codes "x\n{}"))) → ⊥
 lost_is_told_on_one_line (inl unwritten) = cc
@@ -80,7 +72,7 @@ pub good_ends_as_it_did : EndsReported false Good Good (Some []) (Some [])
 good_ends_as_it_did = (refl, refl)
 
 pub good_is_no_failure : EndsReported false Good Failed (Some []) (Some []) → ⊥
-good_is_no_failure ended = let is : Failed ≡ Good = ended.0 in cc
+good_is_no_failure ended = cc
 
 pub nothing_told_of_a_good_one : EndsReported false Good Good (Some []) (Some (codes "error: x\n")) → ⊥
-nothing_told_of_a_good_one ended = let more : Some (codes "error: x\n") ≡ Some [] = ended.1 in cc
+nothing_told_of_a_good_one ended = cc

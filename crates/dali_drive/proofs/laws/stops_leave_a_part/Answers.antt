@@ -3,8 +3,8 @@ use Rattle.dali_drive.proofs.laws.stops_leave_a_part.Goals as goal
 
 pub returns-clause-ended : goal.returns-clause-ended
 returns-clause-ended g = λ limit most orders found seen left first writer last is held d part.
-    stood_in limit most found seen left first last is held d.begun orders part writer d.drive
+    stood_in last is held d.begun orders part writer d.drive
 
 pub returns-clause-broken : goal.returns-clause-broken
 returns-clause-broken g = λ limit most orders fault found seen left first last begun is held d part.
-    stood_before limit most found seen left first last is held begun orders part fault d
+    stood_before last is held begun orders part fault d

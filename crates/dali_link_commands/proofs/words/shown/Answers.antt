@@ -1,7 +1,6 @@
-use Rattle.std.proofs.Common.{subst, sym}
-use Rattle.dali_link_commands.specs.Told.{IsPlain}
-use Rattle.dali_link_commands.proofs.WordsLemmas.{text_plain}
+use Rattle.std.proofs.Common.{chars}
+use Rattle.dali_link_commands.proofs.WordsLemmas.{plain_shown}
 use Rattle.dali_link_commands.proofs.words.shown.Goals as goal
 
 pub returns-clause-plain : goal.returns-clause-plain
-returns-clause-plain c = subst IsPlain (sym c.in_ok-words.ensures) (text_plain c.args.text.now)
+returns-clause-plain c = rw c.in_ok-words.ensures (plain_shown (chars c.args.text.now))

@@ -14,7 +14,6 @@ pub mod ListedLemmas
 pub mod ListedDriveLemmas
 pub mod BehindLemmas
 pub mod WorkedDriveLemmas
-pub mod WorkedFollowLemmas
 pub mod WorkedSittingLemmas
 pub mod ReadingLemmas
 pub mod SurveyLemmas

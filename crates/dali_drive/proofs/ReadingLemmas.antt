@@ -1,7 +1,6 @@
 -- How the reading of a unit goes on, frame by frame and block by block, and how it is broken off.
-use Rattle.std.proofs.Common.{◌≡◌, ◌≤◌, ◌<◌, ◌+◌, ◌∙◌, refl, sym, ap, ℕ, zero, suc, List, [], ◌∷◌, ◌++◌, length, drop}
-use Rattle.std.proofs.Common.{map, append_assoc, append-nil, length-append, Option, Some, None, slice_get, arith}
-use Rattle.std.proofs.Common.{add-one}
+use Rattle.std.proofs.Common.{◌≡◌, ◌≤◌, ◌<◌, ◌+◌, refl, ℕ, zero, suc, List, [], ◌∷◌, ◌++◌, length, drop, map}
+use Rattle.std.proofs.Common.{append_assoc, append-nil, length-append, Option, Some, None, slice_get, arith, add-one}
 use Rattle.std.proofs.lemmas.Option.{slice_get_within}
 use Rattle.std.proofs.KnownBytes.{Appends-trans, Appends-nil, Consumes-trans, Consumes-nil}
 use Rattle.dali_frame.specs.declared.forward.Frame.{Frame}
@@ -20,8 +19,8 @@ use Rattle.dali_read.proofs.BlockBytesLemmas.{block_count}
 use Rattle.dali_trace.specs.declared.fault.DriveFault.{DriveFault}
 use Rattle.dali_drive.specs.Transcript.{Streams, Transcript, AreAnswers, sent_lines, said_lines, recorded}
 use Rattle.dali_drive.specs.Driven.{BreaksFrame}
-use Rattle.dali_drive.specs.UnitRead.{LinkText, BreaksAfter, TriedTo, TryTold, TryMissed, TryBroke, MissedSoOften}
-use Rattle.dali_drive.specs.UnitRead.{BlockTold, BlockFailed, BlockBroke, ReadSoFar, IsUnitRead, UnitReadBroke}
+use Rattle.dali_drive.specs.UnitRead.{LinkText, TriedTo, TryTold, TryMissed, TryBroke, MissedSoOften, BlockTold}
+use Rattle.dali_drive.specs.UnitRead.{BlockFailed, BlockBroke, ReadSoFar, IsUnitRead, UnitReadBroke}
 use Rattle.dali_read.proofs.BlockShapeLemmas.{reads_length}
 use Rattle.dali_write.proofs.RequestLemmas.{drop_at, drop_end}
 
@@ -35,35 +34,27 @@ told_nothing first = grind (arith, Appends-nil, Consumes-nil)
 
 pub answers_both : (newer older : List Exchange) (heard then : List ℕ) → AreAnswers (as_sent older) heard
     → AreAnswers (as_sent newer) then → AreAnswers (as_sent (newer ++ older)) (heard ++ then)
-answers_both [] older heard then lines more = rw (more, append-nil heard) lines
-answers_both (x ∷ newer) older heard then lines (before, last, rest, line, is) =
-    (_, last, answers_both newer older heard before lines rest, line, rw is (sym (append_assoc heard before last)))
+answers_both [] older heard then lines more = grind (arith, append-nil)
+answers_both (x ∷ newer) older heard then lines more =
+    (_, _, answers_both newer older heard more.0 lines more.2, more.3, grind (arith, append_assoc))
 
 texts_both : (newer older : List Exchange)
     → (recorded (as_sent (newer ++ older)) ≡ recorded (as_sent older) ++ recorded (as_sent newer))
     × (sent_lines (as_sent (newer ++ older)) ≡ sent_lines (as_sent older) ++ sent_lines (as_sent newer))
     × (said_lines (as_sent (newer ++ older)) ≡ said_lines (as_sent older) ++ said_lines (as_sent newer))
-texts_both [] older = (sym (append-nil _), sym (append-nil _), sym (append-nil _))
-texts_both (x ∷ newer) older =
-    let rest = texts_both newer older in
-    (rest.0, rw rest.1 (append_assoc (sent_lines (as_sent older)) _ _), rest.2)
+texts_both [] older = search append-nil
+texts_both (x ∷ newer) older = let rest = texts_both newer older in grind (arith, append_assoc)
 
 pub told_both : (newer older : List Exchange) (first mid last : Streams) → LinkText older first mid
     → LinkText newer mid last → LinkText (newer ++ older) first last
 told_both newer older first mid last one two = record {
   heard = one.heard ++ two.heard;
-  lines = answers_both newer older one.heard two.heard one.lines two.lines;
+  lines = answers_both newer older _ _ one.lines two.lines;
   journal = rw (texts_both newer older).0 (Appends-trans _ _ _ _ _ one.journal two.journal);
   link = rw (texts_both newer older).1 (Appends-trans _ _ _ _ _ one.link two.link);
   answers = Consumes-trans _ _ _ _ _ one.answers two.answers;
   out = rw (texts_both newer older).2 (Appends-trans _ _ _ _ _ one.out two.out);
 }
-
--- after other exchanges
-breaks_later : (told before : List Exchange) (frame : Frame) (fault : DriveFault) (first mid last : Streams)
-    → LinkText before first mid → BreaksAfter told frame fault mid last
-    → BreaksAfter (told ++ before) frame fault first last
-breaks_later told before frame fault first mid last text b = grind (arith, told_both)
 
 -- the requests behind the reads
 abbrev asking_back : ℕ → Block → List Request
@@ -84,14 +75,9 @@ answer_few frame answer = grind arith
 
 bytes_few : (requests : List Request) (told : List Exchange) (left : List Request) → Trying requests told left
     → length (bytes_of told) + reads_in left ≤ reads_in requests
-bytes_few requests [] left try = rw try (omega arith)
+bytes_few requests [] left try = grind arith
 bytes_few requests (x ∷ told) left try =
-    omega (
-      arith,
-      bytes_few requests told (request x.frame try.0 ∷ left) try.2,
-      answer_few x.frame x.answer,
-      length-append (bytes_of told) (read_answer x.frame x.answer),
-    )
+    let few = bytes_few requests told (request x.frame try.0 ∷ left) try.2 in grind (arith, answer_few, length-append)
 
 reads_both : (one two : List Request) → reads_in (one ++ two) ≡ reads_in one + reads_in two
 reads_both [] two = omega arith
@@ -134,9 +120,7 @@ module _ (unit : ℕ) (block : Block) where
   pub try_breaks : (bytes : List ℕ) (number : ℕ) (first mid last : Streams) (next : Request) (fault : DriveFault)
       → TriedTo unit block bytes number first mid → slice_get requests number ≡ Some next
       → BreaksFrame next.frame fault mid last → TryBroke unit block fault first last
-  try_breaks bytes number first mid last next fault t is broken =
-      let try = at_hand number t.told next is t.try in
-      record { told = _; next = _; left = _; try = try; broke = record { middle = _; text = t.text; broken = broken } }
+  try_breaks bytes number first mid last next fault t is broken = grind (arith, at_hand number t.told next is t.try)
 
   pub try_ends : (bytes : List ℕ) (number : ℕ) (first last : Streams) → TriedTo unit block bytes number first last
       → slice_get requests number ≡ None → TryTold unit block bytes first last
@@ -147,15 +131,8 @@ module _ (unit : ℕ) (block : Block) where
       → Fits block → TriedTo unit block bytes number first mid → slice_get requests number ≡ Some next
       → length bytes + length (read_answer next.frame answer) ≤ 16
   try_has_room bytes number first mid next answer fits t is =
-      omega (
-        arith,
-        bytes_few requests t.told _ (at_hand number t.told next is t.try),
-        answer_few next.frame answer,
-        reads_both (reads unit block.count) (asking_back unit block),
-        reads_count unit block.count,
-        ap (λ (l : List ℕ). length l) t.bytes_are,
-        fits.few,
-      )
+      let few = bytes_few requests t.told _ (at_hand number t.told next is t.try) in
+      grind (arith, answer_few next.frame answer, reads_both, reads_count)
 
   -- no number of a request is higher
   pub few_requests : (number : ℕ) (next : Request) → Fits block → slice_get requests number ≡ Some next
@@ -180,7 +157,7 @@ module _ (unit : ℕ) (block : Block) where
       → MissedSoOften unit block misses first mid → misses < most_tries → TryBroke unit block fault mid last
       → BlockBroke unit block fault first last
   block_breaks misses first mid last fault m few t =
-      record { told = _; frame = _; stands = grind arith; broke = breaks_later t.told m.told _ _ _ _ _ m.text t.broke }
+      record { told = t.told ++ m.told; frame = t.next.frame; stands = grind arith; broke = grind (arith, told_both) }
 
   -- a block that was read has told a byte of each of its locations
   pub told_count : (bytes : List ℕ) (first last : Streams) → BlockTold unit block bytes first last
@@ -195,21 +172,18 @@ module _ (unit : ℕ) (course : Course) where
       → BlockTold unit block more mid last → ReadSoFar unit course all first last
   reading_goes_on bytes more all first mid last block joined r fits next t =
       let done : List Done = record { block = block; bytes = more; told = t.told } ∷ r.done in
-      let same = ap course r.bytes_are ∙ next in
       let text = told_both t.told (told_in r.done) first mid last r.text t.text in
-      record { done = done; in_turn = search; bytes_are = grind (arith, r.bytes_are); text = text }
+      record { done = done; in_turn = grind arith; bytes_are = grind (arith, r.bytes_are); text = text }
 
   pub reading_is_silent : (bytes : List ℕ) (first mid last : Streams) (block : Block)
       → ReadSoFar unit course bytes first mid → Fits block → course bytes ≡ Some block
       → BlockFailed unit block mid last → IsUnitRead unit course None first last
   reading_is_silent bytes first mid last block r fits next f =
-      let same = ap course r.bytes_are ∙ next in
-      record { told = _; ends = search; text = told_both f.told (told_in r.done) _ _ _ r.text f.text }
+      record { told = _; ends = grind arith; text = told_both f.told (told_in r.done) _ _ _ r.text f.text }
 
   pub reading_breaks : (bytes : List ℕ) (first mid last : Streams) (block : Block) (fault : DriveFault)
       → ReadSoFar unit course bytes first mid → Fits block → course bytes ≡ Some block
       → BlockBroke unit block fault mid last → UnitReadBroke unit course fault first last
   reading_breaks bytes first mid last block fault r fits next b =
-      let same = ap course r.bytes_are ∙ next in
-      let broke = breaks_later b.told (told_in r.done) _ _ _ _ _ r.text b.broke in
-      record { told = _; frame = _; reading = grind arith; broke = broke }
+      let told = b.told ++ told_in r.done in
+      record { told = told; frame = b.frame; reading = grind arith; broke = grind (arith, told_both) }

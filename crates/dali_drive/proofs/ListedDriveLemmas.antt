@@ -103,7 +103,8 @@ module _ {B : Type 0} (told : Start → B → B → List Happening → Type 0) (
   listed_driven few writer o =
       let f = o.follow in
       let driven =
-      unmuted start f.steps first last (rw f.at.given_are (are_orders o.given o.gave_all)) f.at.driven_at.driven f.at.said in
+      unmuted start f.steps first last (rw f.at.given_are (are_orders o.given o.gave_all)) f.at.driven_at.driven
+      f.at.said in
       let asked : reverse (orders_asked (happenings f.steps)) ≡ at_moment moment orders =
       rw (asked_given, f.at.given_are, ← whole o.given o.gave_all)
       (rw (all_given few o.given o.gave_all o.ends, append-nil)) in
@@ -144,8 +145,10 @@ module _ {B : Type 0} (told : Start → B → B → List Happening → Type 0)
   pub behind_driven : length orders ≤ 2 ^ 64 - 1 → (writer : WriterState)
       → IsFollowBehind GaveListed IsEmpty told older limit most listed first before writer orders_left last after
       → IsDriveBehind told older limit most (at_moment moment orders) first before writer last after
-  behind_driven few writer o =
-      record { behind = o.behind; observed = listed_driven told _ orders moment listed is _ _ _ _ _ few writer o.observed }
+  behind_driven few writer o = record {
+    behind = o.behind;
+    observed = listed_driven told _ orders moment listed is _ _ _ _ _ few writer o.observed;
+  }
 
   pub behind_broken : (may_leave : List ℕ → Type 0) (fault : DriveFault)
       → IsFollowBehindBreak GaveListed told told_end older limit most listed fault first before orders_left last after

@@ -4,14 +4,13 @@ use Rattle.std.proofs.Common.{append_assoc, append-nil, length-append, Option, S
 use Rattle.std.proofs.lemmas.Option.{slice_get_within}
 use Rattle.std.proofs.KnownBytes.{Appends-trans, Appends-nil, Consumes-trans, Consumes-nil}
 use Rattle.dali_frame.specs.declared.forward.Frame.{Frame}
-use Rattle.dali_frame.specs.declared.forward.Frame.TheVariants.{AskDtr0, AskDtr1, Read}
+use Rattle.dali_frame.specs.declared.forward.Frame.TheVariants.{Read}
 use Rattle.dali_trace.specs.declared.happening.Happening.{Happening}
 use Rattle.dali_trace.specs.declared.happening.Happening.TheVariants.{Sent}
 use Rattle.dali_write.specs.Exchanges.{Exchange}
 use Rattle.dali_write.specs.Requests.{Meets, request}
 use Rattle.dali_write.specs.Tries.{most_tries, Trying}
 use Rattle.dali_write.specs.declared.request.Request.{Request}
-use Rattle.dali_write.specs.declared.request.Wish.TheVariants.{Exactly}
 use Rattle.dali_read.specs.declared.block.Block.{Block}
 use Rattle.dali_read.specs.Blocks.{Fits, block_requests, reads, read_answer, bytes_of}
 use Rattle.dali_read.specs.Readings.{Course, told_in, Done}
@@ -55,11 +54,6 @@ told_both newer older first mid last one two = record {
   answers = Consumes-trans _ _ _ _ _ one.answers two.answers;
   out = rw (texts_both newer older).2 (Appends-trans _ _ _ _ _ one.out two.out);
 }
-
--- the requests behind the reads
-abbrev asking_back : ℕ → Block → List Request
-asking_back unit block =
-    request (AskDtr0 unit) (Exactly (block.location + block.count)) ∷ request (AskDtr1 unit) (Exactly 1) ∷ []
 
 -- so many of the requests are reads
 abbrev reads_in_one : Frame → ℕ

@@ -333,20 +333,26 @@ module _ {limit most : ℕ} {found : List ℕ} {first last : Streams} (is : firs
     )
 
     of_record : (entry : Record) → fault ≡ Journal → IsNext begins d.past (Kept entry) → HasPart entry → Made
-    of_record entry journal next (part, [], same, spelled) =
-        (Kept entry ∷ d.past, broke_off (Kept entry ∷ d.past)
-        (inr (Kept entry, rw journal (entry, refl, next), refl)) tt (λ other also.
-        let one = one_kept entry other next also in
-        (λ grown. rw (one, spelled, append-nil) same, λ whole. rw one)))
+    of_record entry journal next (part, [], same, spelled) = (
+      Kept entry ∷ d.past,
+      broke_off (Kept entry ∷ d.past)
+          (inr (Kept entry, rw journal (entry, refl, next), refl)) tt (λ other also.
+          let one = one_kept entry other next also in
+          (λ grown. rw (one, spelled, append-nil) same, λ whole. rw one)),
+    )
     of_record entry journal next (part, x ∷ more, same, spelled) =
         let less : length part < length (spelling Two entry) =
-        omega (arith, ap (length {A = ℕ}) spelled, length-append {A = ℕ}) in
-        (d.past, broke_off d.past (inl refl) (record_finished begins d.past entry next)
-        (less_put d.past part same (λ other grown. omega (arith, ap (length {A = Happening}) grown))
-        (λ other also. rw (one_kept entry other next also) less)))
+        omega (arith, ap (length {A = ℕ}) spelled, length-append {A = ℕ}) in (
+          d.past,
+          broke_off d.past (inl refl) (record_finished begins d.past entry next)
+              (less_put d.past part same (λ other grown. omega (arith, ap (length {A = Happening}) grown))
+              (λ other also. rw (one_kept entry other next also) less)),
+        )
 
     by : BrokeWith begins d.past d.middle last fault → Made
-    by (inl (keeps, past, happened, finished, none)) =
-        (past, broke_off past happened finished (less_put past [] (still keeps ∙ sym (append-nil was)) none
-        (λ entry next. has_bytes entry)))
+    by (inl (keeps, past, happened, finished, none)) = (
+      past,
+      broke_off past happened finished (less_put past [] (still keeps ∙ sym (append-nil was)) none
+          (λ entry next. has_bytes entry)),
+    )
     by (inr (journal, (entry, next, cut))) = of_record entry journal next (part_left entry cut)

@@ -1,5 +1,5 @@
 -- Lemmas on how a drive behind older journals ended.
-use Rattle.std.proofs.Common.{◌≡◌, Bool, ℕ, List, [], ◌∷◌, ◌++◌, Option, Some, None, IfSome, ap, inl, inr, refl, subst}
+use Rattle.std.proofs.Common.{◌≡◌, ◌≢◌, Bool, ℕ, List, [], ◌∷◌, ◌++◌, Option, Some, None, IfSome, ap, inl, inr, refl, subst}
 use Rattle.dali_journal.specs.declared.record.Record.{Record}
 use Rattle.dali_journal.specs.declared.standing.Standing.TheVariants.{Idle}
 use Rattle.dali_journal.specs.JournalState.{JournalState}
@@ -45,3 +45,9 @@ pub behind_named : {A : Type 0} (names : List A) (older : Option JournalState)
 behind_named [] older answers refused none some rests answered = subst answers (none refl) answered
 behind_named (name ∷ names) None answers refused none some rests answered = let never = some refl in cc
 behind_named (name ∷ names) (Some older) answers refused none some rests answered = inl (older, rests, answered)
+
+-- where one is named that can't be used
+pub behind_refused : {A : Type 0} (names : List A) (answers : Option JournalState → Type 0) (refused : Type 0)
+    → names ≢ [] → refused → IsBehindNamed names answers refused
+behind_refused [] answers refused some is = absurd (some refl)
+behind_refused (name ∷ names) answers refused some is = inr is

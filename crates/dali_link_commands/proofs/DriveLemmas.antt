@@ -81,7 +81,7 @@ not_unwritten drives.Out status other is unwritten = cc
 not_unwritten _ status other is unwritten = cc
 
 -- a reader fails at these alone
-is_unread : (before after : InputState) (fault : InputFault) → IsReadFailure before after fault → IsUnread fault
+pub is_unread : (before after : InputState) (fault : InputFault) → IsReadFailure before after fault → IsUnread fault
 is_unread before after inputs.Memory failure = inr refl
 is_unread before after inputs.File failure = inl refl
 is_unread before after _ failure = absurd failure

@@ -1,6 +1,6 @@
 -- Lemmas on inputs that are read one after the other, each as a journal behind those before it.
 use Rattle.std.proofs.Common.{◌≡◌, refl, ℕ, suc, ◌+◌, ◌<◌, List, [], ◌∷◌, ◌++◌, Option, Some, None, length, map, get_or}
-use Rattle.std.proofs.Common.{set, ap, sym, ◌∙◌, arith, append-nil, append_assoc, length-append}
+use Rattle.std.proofs.Common.{set, inl, inr, ap, sym, ◌∙◌, arith, append-nil, append_assoc, length-append}
 use Rattle.std.proofs.Math.Seq.{get_or-append_seam, set-append_seam}
 use Rattle.std.proofs.lemmas.List.{length-map, length_push, map-append, nil_from_length}
 use Rattle.std.specs.List.{AllByRecursion}
@@ -10,6 +10,8 @@ use Rattle.dali_journal.specs.Sentence.{standing_of}
 use Rattle.dali_input.specs.Input.{InputState, ReadsAtMost}
 use Rattle.dali_faults.specs.JournalInput.{journal_limit}
 use Rattle.dali_link_commands.specs.declared.older.OlderFault.{OlderFault}
+use Rattle.dali_link_commands.specs.BehindAnswers.{MayBeUnusable}
+use Rattle.dali_link_commands.proofs.DriveLemmas.{is_unread}
 use Rattle.dali_link_commands.specs.Older.{AreJoined, AreOne, AreReadAtRest, AreSoMany, IsFirstUnusable, IsJoinedBehind}
 use Rattle.dali_link_commands.specs.Older.{IsReadAtRest, IsReadBehind, IsUnusable, records_in, records_named}
 
@@ -127,3 +129,11 @@ module _ {A : Type 0} (state : A → InputState) where
       let index_is = counts ∙ sym (length-map earlier state) in
       let unusable = rw (← is) at unusable in
       let at_most = rw (← is) at at_most in search
+
+-- the fault of an input may be that of a file of which nothing is known
+pub may_be_unusable : (befores afters : List InputState) (index : ℕ) (fault : OlderFault)
+    → IsFirstUnusable befores afters index fault → MayBeUnusable fault
+may_be_unusable befores afters index fault first = so first.unusable where
+  so : IsUnusable first.older first.before first.after fault → MayBeUnusable fault
+  so (inl (failure, is, failed)) = inl (failure, is, is_unread first.before first.after failure failed)
+  so (inr (bytes, read, is)) = inr (first.older, bytes, is)

@@ -7,11 +7,12 @@ use Rattle.dali_journal.specs.declared.record.Record.{Record}
 use Rattle.dali_journal.specs.declared.record.Record.TheVariants.{Began, Ended}
 use Rattle.dali_journal.specs.declared.version.Version.{Version}
 use Rattle.dali_journal.specs.JournalState.{JournalState}
-use Rattle.dali_input.specs.declared.fault.InputFault.TheVariants.{File}
+use Rattle.dali_input.specs.declared.fault.InputFault.TheVariants.{File, Json}
 use Rattle.dali_input.specs.Input.{InputState, ReadsAtMost, ReadsInput}
 use Rattle.dali_faults.specs.declared.fault.Fault.TheVariants.{Input}
 use Rattle.dali_faults.specs.JournalInput.{IsJournalIn, journal_limit}
 use Rattle.dali_link_commands.specs.declared.older.OlderFault.TheVariants.{Unloaded, Join}
+use Rattle.dali_link_commands.specs.BehindAnswers.{MayBeUnusable}
 use Rattle.dali_link_commands.specs.Older.{AreJoined, AreOne, AreReadAtRest, HasJournal, IsFirstUnusable, IsReadAtRest}
 use Rattle.dali_link_commands.specs.Older.{IsUnusable}
 use Rattle.dali_link_commands.proofs.OlderLemmas.{first_unusable}
@@ -94,3 +95,12 @@ pub not_failed_to_read : (before after : InputState) → after.failed ≡ false
 not_failed_to_read before after unfailed (inl (File, is, failed)) = cc
 not_failed_to_read before after unfailed (inl (_, is, failed)) = cc
 not_failed_to_read before after unfailed (inr (bytes, read, never)) = never
+
+-- an older journal that isn't read, and what is no fault of one: it isn't read as JSON
+pub unread_is_unusable : MayBeUnusable (Unloaded (Input File))
+unread_is_unusable = inl (File, refl, inl refl)
+
+pub json_is_no_older_fault : MayBeUnusable (Unloaded (Input Json)) → ⊥
+json_is_no_older_fault (inl (failure, is, inl file)) = cc
+json_is_no_older_fault (inl (failure, is, inr memory)) = cc
+json_is_no_older_fault (inr (older, bytes, never)) = never

@@ -28,13 +28,14 @@ use Rattle.dali_report.specs.Reports.{all_done}
 use Rattle.dali_report.specs.Told.{IsTold, IsToldEnd}
 use Rattle.dali_engine.specs.WriterState.{WriterState}
 use Rattle.dali_faults.specs.declared.fault.Fault.{Fault}
+use Rattle.dali_faults.specs.declared.fault.Fault.TheVariants.{Input}
 use Rattle.dali_faults.specs.declared.fault.Status.{Status}
 use Rattle.dali_link_commands.specs.declared.older.OlderFault.{OlderFault}
-use Rattle.dali_link_commands.specs.declared.older.OlderFault.TheVariants.{Join}
+use Rattle.dali_link_commands.specs.declared.older.OlderFault.TheVariants.{Join, Unloaded}
 use Rattle.dali_link_commands.specs.DriveAnswers.{ended_status, fault_unopened}
 use Rattle.dali_link_commands.specs.FollowAnswers.{AreUnread, TellsFollowed, followed_status}
 use Rattle.dali_faults.specs.JournalInput.{journal_limit, order_limit}
-use Rattle.dali_link_commands.specs.Older.{fault_older}
+use Rattle.dali_link_commands.specs.Older.{IsOlderFault, fault_older}
 use Rattle.dali_link_commands.specs.Benches.{IsUndriven, with_lines}
 use Rattle.dali_link_commands.specs.OrdersAnswers.{EndsUndriven, IsUnread}
 use Rattle.dali_link_commands.specs.Told.{IsFaultTold, IsFileFaultTold}
@@ -147,10 +148,16 @@ IsBehindNamed [] answers refused = answers None
 IsBehindNamed (name ∷ names) answers refused =
     ((older : JournalState) × (standing_of older.records ≡ Idle) × answers (Some older)) ⊎ refused
 
+-- why a file of which nothing is known can't be used as an older journal: it isn't read, or some bytes can't be used so
+abbrev pub MayBeUnusable : OlderFault → Type 0
+MayBeUnusable fault =
+    ((failure : InputFault) × (fault ≡ Unloaded (Input failure)) × IsUnread failure)
+    ⊎ ((older : Option JournalState) × (bytes : List ℕ) × IsOlderFault older bytes fault)
+
 -- an older journal can't be used, which is told, and nothing else was done
 abbrev pub EndsUnread : {N : Type 0} → Report N → Report N → Look → Status → Look → Type 0
 EndsUnread before after first status last =
-    (fault : OlderFault) × IsUndriven first last
+    (fault : OlderFault) × MayBeUnusable fault × IsUndriven first last
     × IsFileFaultTold (fault_older fault) status first.streams.out last.streams.out × (after ≡ before)
 
 -- The same of a file of lines, of which nothing is known: of what it gave, or of one that isn't opened.

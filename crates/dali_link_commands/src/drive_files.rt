@@ -3,6 +3,7 @@ ghost use Rattle.dali_drive.specs.Desks.{IsUnfailed};
 ghost use Rattle.dali_text.specs.Output.{has_failed, held};
 ghost use Rattle.dali_link_commands.specs.Benches.{TellsUnwritten, std_bench};
 ghost use Rattle.dali_link_commands.specs.BehindAnswers.{IsAnswerBehind, IsBehindNamed, EndsUnread};
+ghost use Rattle.dali_link_commands.specs.Older.{fault_older};
 ghost use Rattle.dali_link_commands.specs.OrdersAnswers.{IsFileAnswer, IsUnread};
 ghost use Rattle.dali_link_commands.specs.Told.{IsFileFaultTold};
 ghost use Rattle.dali_input.specs.declared.fault.InputFault.{InputFault};
@@ -10,7 +11,7 @@ ghost use Rattle.dali_input.specs.declared.fault.InputFault.{InputFault};
 use crate::drive::{DriveTask, drive_input};
 use crate::drive_lines::{FileFault, tell_file};
 use crate::lines::Lines;
-use crate::older::read_older;
+use crate::older::{Unjoined, read_older};
 use dali_drive::{StdSink, StdSource, StoreDesk};
 use dali_faults::{Fault, Status};
 use dali_input::{Input, InputFault};
@@ -50,10 +51,7 @@ pub fn drive_files<
 {
     let older = match read_older(rt, task.older) {
         Ok(older) => older,
-        Err(unjoined) => {
-            let fault = FileFault::Older(unjoined.fault, unjoined.words.as_deref());
-            return tell_file(rt.alloc(), &mut desk.out.output, unjoined.name, fault);
-        }
+        Err(unjoined) => return tell_unjoined(rt.alloc(), &mut desk.out.output, &unjoined),
     };
     match opened(rt, task.orders) {
         Ok((file, found)) => {
@@ -80,6 +78,20 @@ pub(crate) fn tell_unopened<O: Write>(
         _ => InputFault::File,
     };
     tell_file(alloc, output, name, FileFault::Unread(fault, Some(error)))
+}
+
+// Writes which file can't be used as an older journal, and why.
+pub(crate) fn tell_unjoined<O: Write>(
+    alloc: Global,
+    output: &mut Output<O>,
+    unjoined: &Unjoined<'_>,
+) -> Status
+    ensures told { IsFileFaultTold (fault_older unjoined.now.fault) result
+        (held O.contents output.old) (held O.contents output.new)
+        × (result ≡ Status.Unwritten ↔ has_failed output.new ≡ true) }
+{
+    let fault = FileFault::Older(unjoined.fault, unjoined.words.as_deref());
+    tell_file(alloc, output, unjoined.name, fault)
 }
 
 // Opens a file to read it, and looks which one it is.

@@ -5,8 +5,7 @@ ghost use Rattle.dali_link_commands.specs.BehindAnswers.{IsBehindNamed, IsFileFo
 ghost use Rattle.dali_link_commands.specs.LinkCommands.{file_contents};
 
 use crate::drive::DriveTask;
-use crate::drive_files::{opened, tell_unopened};
-use crate::drive_lines::{FileFault, tell_file};
+use crate::drive_files::{opened, tell_unjoined, tell_unopened};
 use crate::follow::follow_lines;
 use crate::lines::Lines;
 use crate::older::read_older;
@@ -50,10 +49,7 @@ pub fn follow_file<
 {
     let older = match read_older(rt, task.older) {
         Ok(older) => older,
-        Err(unjoined) => {
-            let fault = FileFault::Older(unjoined.fault, unjoined.words.as_deref());
-            return tell_file(rt.alloc(), &mut desk.out.output, unjoined.name, fault);
-        }
+        Err(unjoined) => return tell_unjoined(rt.alloc(), &mut desk.out.output, &unjoined),
     };
     match opened(rt, task.orders) {
         Ok((file, found)) => {

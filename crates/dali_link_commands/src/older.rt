@@ -4,6 +4,8 @@ ghost use Rattle.dali_journal.specs.declared.standing.Standing.TheVariants.{Idle
 ghost use Rattle.dali_journal.specs.Sentence.{standing_of};
 ghost use Rattle.dali_input.specs.Input.{ReadsAtMost, state_of};
 ghost use Rattle.dali_faults.specs.JournalInput.{journal_limit};
+ghost use Rattle.dali_link_commands.specs.BehindAnswers.{MayBeUnusable};
+ghost use Rattle.dali_link_commands.specs.OrdersAnswers.{IsUnread};
 ghost use Rattle.dali_link_commands.specs.Older.{AreJoined, AreSoMany, IsFirstUnusable, IsJoinedBehind, IsOlderFault};
 ghost use Rattle.dali_link_commands.specs.Older.{IsReadBehind, IsUnusable, fault_older};
 
@@ -127,6 +129,16 @@ pub struct Unjoined<'a> {
     pub words: Option<String>,
 }
 
+impl<'a> Unjoined<'a> {
+    // The file of this name isn't read.
+    fn unread(name: &'a str, fault: InputFault, words: Option<String>) -> Unjoined<'a>
+        ensures { result.fault ≡ OlderFault.Unloaded (Fault.Input fault) }
+    {
+        let fault = OlderFault::Unloaded(Fault::Input(fault));
+        Unjoined { name, fault, words }
+    }
+}
+
 /// The journals of these files as one, each behind those that are named before it; none where none is named. All are
 /// open, and no drive can open one, before the first of them is read.
 ///
@@ -140,6 +152,7 @@ pub(crate) fn read_older<'a, R: Files<File = File> + AllocGlobal>(
     ensures none { IfOk result (λ older. names.entry.now ≡ [] → older ≡ None) }
     ensures some { IfOk result (λ older. older ≡ None → names.entry.now ≡ []) }
     ensures err { OnErr result (names.entry.now ≢ []) }
+    ensures why { IfErr result (λ unjoined. MayBeUnusable unjoined.fault) }
 {
     let mut inputs = all_opened(rt, names)?;
     match joined_older(rt.alloc(), &mut inputs) {
@@ -159,18 +172,21 @@ fn all_opened<'a, R: Files<File = File> + AllocGlobal>(
 ) -> Result<Vec<Input<File>>, Unjoined<'a>>
     ensures all { IfOk result (λ inputs. length inputs.items ≡ length names.entry.now) }
     ensures err { OnErr result (names.entry.now ≢ []) }
+    ensures why { IfErr result (λ unjoined. MayBeUnusable unjoined.fault) }
 {
     let mut inputs = Vec::new(rt.alloc());
     for &name in names {
-        let (fault, words) = match opened(rt, name) {
-            Ok(file) => match inputs.push(Input::new(file)) {
-                Ok(()) => continue,
-                Err(_) => (InputFault::Memory, None),
-            },
-            Err(unopened) => (unopened.fault(), unopened.words(rt.alloc())),
-        };
-        let fault = OlderFault::Unloaded(Fault::Input(fault));
-        return Err(Unjoined { name, fault, words });
+        match opened(rt, name) {
+            Ok(file) => {
+                if inputs.push(Input::new(file)).is_err() {
+                    return Err(Unjoined::unread(name, InputFault::Memory, None));
+                }
+            }
+            Err(unopened) => {
+                let words = unopened.words(rt.alloc());
+                return Err(Unjoined::unread(name, unopened.fault(), words));
+            }
+        }
     }
     Ok(inputs)
 }
@@ -194,7 +210,9 @@ enum Unopened {
 }
 
 impl Unopened {
-    fn fault(&self) -> InputFault {
+    fn fault(&self) -> InputFault
+        ensures { IsUnread result }
+    {
         match self {
             Unopened::Refused(error) if error.kind() == ErrorKind::OutOfMemory =>
                 InputFault::Memory,

@@ -3,7 +3,7 @@ use Rattle.dali_drive.specs.Desks.{Look}
 use Rattle.dali_link_commands.specs.Benches.{std_bench}
 use Rattle.dali_link_commands.specs.BehindAnswers.{IsAnswerBehind}
 use Rattle.dali_link_commands.specs.OrdersAnswers.{IsFileAnswer}
-use Rattle.dali_link_commands.proofs.BehindLemmas.{behind_named}
+use Rattle.dali_link_commands.proofs.BehindLemmas.{behind_named, behind_refused}
 use Rattle.dali_link_commands.proofs.DriveLemmas.{file_answered}
 use Rattle.dali_link_commands.proofs.ReadLemmas.{kept_journal}
 use Rattle.dali_link_commands.proofs.drive_files.drive_files.Goals as goal
@@ -29,6 +29,15 @@ returns-in-Err-opened g c = record {
   driven = (
     behind_named _ c.in-Ok.older _ _ c.in-Ok.ensures.none c.in-Ok.ensures.some c.in-Ok.ensures.rests
         (inr (c.tell_unopened.ensures.told.0, c.tell_unopened.ensures.told.1, search rules, refl)),
+    search rules,
+  );
+}
+
+pub returns-in-Err : goal.returns-in-Err
+returns-in-Err g c = record {
+  driven = (
+    behind_refused _ _ _ c.in-Err.ensures.err
+        (c.in-Err.unjoined.fault, c.in-Err.ensures.why, search rules, c.tell_unjoined.ensures.told.0, refl),
     search rules,
   );
 }

@@ -4,7 +4,7 @@ use Rattle.dali_drive.specs.StdStreams.{source_left, source_failed}
 use Rattle.dali_link_commands.specs.Benches.{std_bench}
 use Rattle.dali_link_commands.specs.BehindAnswers.{IsLinesBehind}
 use Rattle.dali_link_commands.specs.LinkCommands.{file_contents}
-use Rattle.dali_link_commands.proofs.BehindLemmas.{behind_named}
+use Rattle.dali_link_commands.proofs.BehindLemmas.{behind_named, behind_refused}
 use Rattle.dali_link_commands.proofs.FollowLemmas.{new_are_unread}
 use Rattle.dali_link_commands.proofs.ReadLemmas.{kept_journal}
 use Rattle.dali_link_commands.proofs.follow_files.follow_file.Goals as goal
@@ -33,6 +33,15 @@ returns-in-Err-opened g c = record {
   followed = (
     behind_named _ c.in-Ok.older _ _ c.in-Ok.ensures.none c.in-Ok.ensures.some c.in-Ok.ensures.rests
         (inr (c.tell_unopened.ensures.told.0, c.tell_unopened.ensures.told.1, search rules, refl)),
+    search rules,
+  );
+}
+
+pub returns-in-Err : goal.returns-in-Err
+returns-in-Err g c = record {
+  followed = (
+    behind_refused _ _ _ c.in-Err.ensures.err
+        (c.in-Err.unjoined.fault, c.in-Err.ensures.why, search rules, c.tell_unjoined.ensures.told.0, refl),
     search rules,
   );
 }

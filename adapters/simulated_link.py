@@ -189,9 +189,11 @@ def serve(bus, words, show_frames=False):
 def load_unit(folder, short_address, fixed=()):
     """Power up a unit with bank 1 as its file has it, or a blank one where there is no file."""
     path = pathlib.Path(folder, f"unit_{short_address}.hex")
+    digits = "".join(path.read_text("latin-1").split()) if path.exists() else BLANK_BANK_1.hex()
+    if not re.fullmatch("(?:[0-9A-Fa-f]{2})*", digits):
+        raise ValueError(f"{path}: it holds no bytes in hexadecimal: without this file the unit is a blank one")
     try:
-        bank_1 = bytes.fromhex("".join(path.read_text("ascii").split())) if path.exists() else BLANK_BANK_1
-        return Unit(short_address, bank_1, fixed)
+        return Unit(short_address, bytes.fromhex(digits), fixed)
     except ValueError as fault:
         raise ValueError(f"{path}: {fault}") from fault
 
@@ -259,6 +261,8 @@ def options_and_words(arguments):
         parser.error("a fixed location is of a unit that isn't there")
     if not {short_address for short_address, _ in options.lose_power} <= set(options.unit):
         parser.error("power is lost by a unit that isn't there")
+    if not os.path.isdir(options.folder):
+        parser.error(f"the folder {options.folder} isn't there: make it first")
     if not words:
         parser.error("there is no command: put -- and its words behind the options")
     return options, words
@@ -275,7 +279,8 @@ def main(arguments):
                        options.lose_power)
         return serve(bus, words, options.frames)
     except (BadLine, OSError, ValueError) as fault:
-        print("simulated_link:", fault, file=sys.stderr)
+        words = f"{fault.filename}: {fault.strerror}" if isinstance(fault, OSError) and fault.filename else fault
+        print("simulated_link:", words, file=sys.stderr)
         return 1 if isinstance(fault, BadLine) else 2
     except KeyboardInterrupt:
         return 130

@@ -212,6 +212,19 @@ def test_what_cannot_start(folder):
     want(subprocess.run([SIMULATED, "--folder", folder, "--", "/none"], stderr=subprocess.DEVNULL).returncode, 2)
 
 
+def test_words_for_a_person(folder):
+    for number, text in enumerate(("77 FF F", "77 0x12", "77 \xe4", "hello")):
+        (folder / f"unit_{number}.hex").write_text(text, "latin-1")
+        told = run(SIMULATED, ["--folder", folder, "--unit", number], ["A312"])[2]
+        blank_one = "it holds no bytes in hexadecimal: without this file the unit is a blank one"
+        want(told, f"simulated_link: {folder}/unit_{number}.hex: {blank_one}\n")
+    none = folder / "none"
+    for options, words, told in [(["--folder", none], ["A312"], f"the folder {none} isn't there: make it first\n")]:
+        want(run(SIMULATED, options, words)[2].splitlines(True)[-1].split("error: ")[1], told)
+    ended = subprocess.run([SIMULATED, "--folder", folder, "--", "/none"], capture_output=True, text=True)
+    want((ended.returncode, ended.stderr), (2, "simulated_link: /none: No such file or directory\n"))
+
+
 def test_a_stopped_link_has_saved(folder):
     for number, (stop, status) in enumerate([(signal.SIGTERM, 130), (signal.SIGKILL, -signal.SIGKILL)]):
         played = player([*OPENED, f"C71{number}", *50 * ["pause"]])

@@ -1,5 +1,6 @@
 """Tests of `--report` and `--require-done`: what is told of orders for whoever prints a label."""
 
+import fcntl
 import json
 
 import driven
@@ -10,6 +11,7 @@ from drive_desk import (
     DONE_JOURNAL,
     DONE_TOLD,
     KEPT_SILENT,
+    OLD_DONE_JOURNAL,
     PRESENT,
     SILENCE,
     absent_records,
@@ -22,6 +24,8 @@ from driven import HEADER, NAMES, Desk, Ended, simulated_link
 
 UNTOLD = "error: the report can't be written: {}: {}\n"
 FOREIGN = "what is there is no report"
+TAKEN = "the command has this file for something else"
+DONE = "reply 1 kept 0 Done\n"
 
 
 class Verifying(Desk):
@@ -161,15 +165,97 @@ def test_reports_that_can_not_be_written(folder):
 
 def test_files_that_are_no_report(folder):
     desk = desk_of(folder, PRESENT, DONE_JOURNAL)
-    for place in (desk.journal, desk.orders):
-        held = place.read_bytes()
-        desk.options = ["--report", place]
-        want(desk.over(blank_bus(5)), Ended(2, b"", "reply 1 kept 0 Done\n" + UNTOLD.format(place, FOREIGN)))
-        want(place.read_bytes(), held)
     report = reporting(desk)
-    for text in ("", "{", '{"order":1}\n' * 1000):
+    for text in ("", '{"code":0}\n' * 1000, '{"answer":"--"}\n', '{"byte":1}'):
         report.write_text(text)
         want((desk.over(blank_bus(5)).status, lines_of(report)), (0, [kept(1, 5, 0, "before", 0, 0)]))
+    # Orders line by line, a scenario, a bank, and what only begins as a report does.
+    for text in ("{", '{"order":1}\n', '{"submit":{}}\n', '{"limit":1}', "77 FF\n", '{"cod', "\n", "\0"):
+        report.write_text(text)
+        want((text, desk.over(blank_bus(5))), (text, Ended(2, b"", DONE + UNTOLD.format(report, FOREIGN))))
+        want(report.read_text(), text)
+
+
+def test_files_of_the_command_are_no_report(folder):
+    desk = desk_of(folder, PRESENT, DONE_JOURNAL)
+    older, other = folder / "older", folder / "other"
+    older.write_bytes(HEADER + absent_records(7))
+    other.hardlink_to(desk.journal)
+    for place in (desk.journal, desk.orders, older, other):
+        held = place.read_bytes()
+        desk.options = ["--older", older, "--report", place]
+        want((place, desk.over(blank_bus(5))), (place, Ended(2, b"", DONE + UNTOLD.format(place, TAKEN))))
+        want(place.read_bytes(), held)
+    for place in (folder / "link", folder / "to_none"):
+        place.symlink_to(older if place.name == "link" else folder / "none")
+        desk.options = ["--report", place]
+        want(desk.over(blank_bus(5)), Ended(2, b"", DONE + UNTOLD.format(place, "it is a link: name the file itself")))
+    assert not (folder / "none").exists()
+    desk.options = ["--report", "-"]
+    want(desk.over(blank_bus(5)), Ended(2, b"", DONE + UNTOLD.format("-", "it is standard output, where the frames go")))
+    want((desk.held(), older.read_bytes()), (DONE_JOURNAL, HEADER + absent_records(7)))
+    scenario = Verifying(desk.program, folder, PRESENT)
+    scenario.options = ["--report", scenario.orders]
+    held = scenario.orders.read_bytes()
+    want(last_line(scenario.over(blank_bus(5)))[2], UNTOLD.format(scenario.orders, TAKEN).rstrip("\n"))
+    want(scenario.orders.read_bytes(), held)
+
+
+def test_a_report_never_takes_the_place_of_a_journal(folder):
+    for start in (None, b"", OLD_DONE_JOURNAL, DONE_JOURNAL):
+        for name in ("journal.new", "journal"):
+            desk = desk_of(folder, PRESENT)
+            for left in (desk.journal, desk.journal.with_name(desk.journal.name + ".new")):
+                left.unlink(missing_ok=True)
+            if start is not None:
+                desk.journal.write_bytes(start)
+            place = desk.journal.with_name(name.replace("journal", desk.journal.name))
+            desk.options = ["--report", place]
+            ended = desk.over(blank_bus(5))
+            want((start, name, last_line(ended)[2]), (start, name, UNTOLD.format(place, TAKEN).rstrip("\n")))
+            want((start, desk.held()[:4], place == desk.journal or not place.exists()), (start, HEADER[:4], True))
+            desk.options = []
+            want(desk.over(blank_bus(5)).told, DONE)
+
+
+def test_a_report_in_the_way_of_a_journal_behind_a_link(folder):
+    desk = desk_of(folder, PRESENT)
+    real = folder / "real"
+    real.mkdir()
+    (real / "journal").write_bytes(OLD_DONE_JOURNAL)
+    desk.journal.unlink(missing_ok=True)
+    desk.journal.symlink_to(real / "journal")
+    desk.options = ["--report", real / "journal.new"]
+    ended = desk.over(blank_bus(5))
+    want((ended.status, ended.sent, last_line(ended)[2]), (2, b"", "fault 21 File"))
+    want((real / "journal").read_bytes(), OLD_DONE_JOURNAL)
+    desk.options = []
+    want(desk.over(blank_bus(5)).told, DONE)
+
+
+def test_a_report_stays_until_there_is_another(folder):
+    desk = desk_of(folder, PRESENT)
+    desk.journal.unlink(missing_ok=True)
+    path = reporting(desk)
+    want(desk.over(blank_bus(5)).status, 0)
+    held, orders = path.read_bytes(), desk.orders.read_bytes()
+    desk.orders.write_text("[")
+    want((desk.over(blank_bus(5)).status, path.read_bytes()), (1, held))
+    desk.orders.unlink()
+    want((desk.over(blank_bus(5)).status, path.read_bytes()), (2, held))
+    desk.orders.write_bytes(orders)
+    desk.options = [*desk.options, "--older", folder / "none"]
+    want((desk.over(blank_bus(5)).status, path.read_bytes()), (2, held))
+    desk.options = desk.options[:2]
+    with open(desk.journal, "rb") as journal:
+        fcntl.flock(journal, fcntl.LOCK_EX)
+        want((desk.over(blank_bus(5)).status, path.read_bytes()), (2, held))
+    with open(path, "rb") as report:
+        fcntl.flock(report, fcntl.LOCK_EX)
+        want(desk.over(blank_bus(5)), Ended(2, b"", DONE + UNTOLD.format(path, "another command writes it")))
+        want(path.read_bytes(), held)
+    desk.orders.write_text("[]")
+    want((desk.over(blank_bus(5)).status, path.read_bytes()), (0, b""))
 
 
 def test_answers_that_break_a_drive_off(folder):

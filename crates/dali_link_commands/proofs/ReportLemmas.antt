@@ -3,7 +3,7 @@ use Rattle.std.proofs.Common.{◌≡◌, refl, ℕ, Bool, true, false, ◌&&◌,
 use Rattle.dali_report.specs.declared.report.Report.{Report}
 use Rattle.dali_report.specs.Told.{has_failed, has_output}
 use Rattle.dali_faults.specs.declared.fault.Status.{Status}
-use Rattle.std.specs.declared.fs.File.{File}
+use Rattle.dali_link_commands.specs.declared.report_output.ReportOutput.{ReportOutput}
 use Rattle.dali_drive.specs.Desks.{Look}
 use Rattle.dali_link_commands.specs.Benches.{with_lines}
 use Rattle.dali_link_commands.specs.LinkCommands.{EndsReported, IsFresh, IsReported, is_lost}
@@ -15,8 +15,9 @@ lost_by_output true opened before after is = rw is
 lost_by_output false opened before after is = refl
 
 -- a command with a report that was opened so, and told of so
-pub reported : (wanted opened : Bool) (answers : Report File → Report File → Look → Status → Look → Type 0)
-    (first last : Look) (before after : Report File) (ended status : Status) (lines : Option (List ℕ)) (failed : Bool)
+pub reported : (wanted opened : Bool)
+    (answers : Report ReportOutput → Report ReportOutput → Look → Status → Look → Type 0) (first last : Look)
+    (before after : Report ReportOutput) (ended status : Status) (lines : Option (List ℕ)) (failed : Bool)
     → has_failed before ≡ false → has_output before ≡ (wanted && opened)
     → answers before after first ended (with_lines last lines failed)
     → EndsReported (is_lost wanted opened after) ended status lines last.streams.out

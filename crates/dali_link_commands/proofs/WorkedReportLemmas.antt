@@ -1,6 +1,6 @@
 -- How a command ends with its report, by hand, and what is near that.
 use Rattle.std.proofs.Common.{◌≡◌, refl, Bool, true, false, ℕ, List, [], Option, Some, codes, arith}
-use Rattle.std.specs.declared.fs.File.{File}
+use Rattle.dali_link_commands.specs.declared.report_output.ReportOutput.{ReportOutput}
 use Rattle.dali_drive.specs.Desks.{Look}
 use Rattle.dali_report.specs.declared.report.Report.{Report}
 use Rattle.dali_report.specs.Told.{has_failed, has_output}
@@ -21,7 +21,7 @@ no_good_end : (lost : Bool) (ended : Status) (before after : Option (List ℕ)) 
     → EndsReported lost ended Good before after → ⊥
 no_good_end lost ended before after is ends = let told = rw is at ends in grind arith
 
-module _ (answers : Report File → Report File → Look → Status → Look → Type 0) (first last : Look) where
+module _ (answers : Report ReportOutput → Report ReportOutput → Look → Status → Look → Type 0) (first last : Look) where
   -- one was wanted and isn't opened
   pub unopened_and_good : (r : IsReported true answers first Good last) → has_output r.before ≡ false → ⊥
   unopened_and_good r none = no_good_end _ r.ended r.lines last.streams.out (grind arith) r.reported
@@ -44,5 +44,6 @@ module _ (answers : Report File → Report File → Look → Status → Look →
 
   -- nothing else than the command's own answer
   pub answered_otherwise : (r : IsReported true answers first Good last)
-      → ((before after : Report File) (status : Status) (end : Look) → answers before after first status end → ⊥) → ⊥
+      → ((before after : Report ReportOutput) (status : Status) (end : Look)
+      → answers before after first status end → ⊥) → ⊥
   answered_otherwise r never = never _ _ _ _ r.answered

@@ -9,6 +9,7 @@ use Rattle.dali_report.specs.Told.{has_failed, has_output}
 use Rattle.dali_faults.specs.declared.fault.Status.{Status}
 use Rattle.dali_faults.specs.declared.fault.Status.TheVariants.{Failed, Unwritten}
 use Rattle.dali_link_commands.specs.declared.link_command.LinkCommand.{LinkCommand}
+use Rattle.dali_link_commands.specs.declared.report_output.ReportOutput.{ReportOutput}
 use Rattle.dali_link_commands.specs.declared.link_command.LinkCommand.TheVariants.{Drive, Follow, Read, Verify, Scan}
 use Rattle.dali_link_commands.specs.BehindAnswers.{IsAnswerBehind, IsBehindNamed, IsFileFollow, EndsUnread}
 use Rattle.dali_journal.specs.JournalState.{JournalState}
@@ -52,12 +53,15 @@ pub record IsFresh {N : Type 0} (wanted : Bool) (report : Report N) : Type 0 whe
 abbrev pub file_contents : File → Option (List ℕ)
 file_contents file = None
 
--- a command with a report in a file, which is opened before all else where it is wanted, and has an output exactly
--- where it was opened
-pub record IsReported (wanted : Bool) (answers : Report File → Report File → Look → Status → Look → Type 0)
-    (first : Look) (status : Status) (last : Look) : Type 0 where
-  pub before : Report File
-  pub after : Report File
+abbrev pub report_contents : ReportOutput → Option (List ℕ)
+report_contents output = None
+
+-- a command with a report, which is opened before all else where it is wanted, and has an output just where it was
+pub record IsReported (wanted : Bool)
+    (answers : Report ReportOutput → Report ReportOutput → Look → Status → Look → Type 0) (first : Look)
+    (status : Status) (last : Look) : Type 0 where
+  pub before : Report ReportOutput
+  pub after : Report ReportOutput
   pub ended : Status
   pub lines : Option (List ℕ)
   pub failed : Bool
@@ -66,15 +70,15 @@ pub record IsReported (wanted : Bool) (answers : Report File → Report File →
   pub reported : EndsReported (is_lost wanted (has_output before) after) ended status lines last.streams.out
 
 -- one over a file of orders
-abbrev pub OverOrders : (Report File → Report File → List Contents → Look → Status → Look → Type 0)
-    → Report File → Report File → Look → Status → Look → Type 0
+abbrev pub OverOrders : (Report ReportOutput → Report ReportOutput → List Contents → Look → Status → Look → Type 0)
+    → Report ReportOutput → Report ReportOutput → Look → Status → Look → Type 0
 OverOrders answers before after first status last =
     IsFileAnswer (answers before after) (after ≡ before) first status last
 
 -- one behind the older journals of these names
 abbrev pub BehindNamed : {A : Type 0} → List A
-    → (Option JournalState → Report File → Report File → Look → Status → Look → Type 0)
-    → Report File → Report File → Look → Status → Look → Type 0
+    → (Option JournalState → Report ReportOutput → Report ReportOutput → Look → Status → Look → Type 0)
+    → Report ReportOutput → Report ReportOutput → Look → Status → Look → Type 0
 BehindNamed names answers before after first status last =
     IsBehindNamed names (λ older. answers older before after first status last)
     (EndsUnread before after first status last)
@@ -86,11 +90,11 @@ anything leaves = ⊤
 abbrev pub IsLinkAnswer : LinkCommand → Look → Status → Look → Type 0
 IsLinkAnswer (Drive task report) first status last =
     IsReported (is_some report) (BehindNamed task.older.now (λ older.
-    OverOrders (IsAnswerBehind older file_contents task.moment task.require_done))) first status last
+    OverOrders (IsAnswerBehind older report_contents task.moment task.require_done))) first status last
 IsLinkAnswer (Follow task report) first status last =
     IsReported (is_some report) (BehindNamed task.older.now (λ older.
-    IsFileFollow older file_contents file_contents task.moment task.require_done)) first status last
+    IsFileFollow older file_contents report_contents task.moment task.require_done)) first status last
 IsLinkAnswer (Read unit bank) first status last = IsReadAnswer unit anything first status last
 IsLinkAnswer (Verify orders report) first status last =
-    IsReported (is_some report) (OverOrders (IsVerifyAnswer file_contents)) first status last
+    IsReported (is_some report) (OverOrders (IsVerifyAnswer report_contents)) first status last
 IsLinkAnswer Scan first status last = IsScanAnswer first status last

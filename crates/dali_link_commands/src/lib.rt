@@ -14,6 +14,7 @@ pub mod older;
 mod older_lines;
 pub mod read;
 mod report_file;
+mod report_output;
 pub mod survey;
 pub mod survey_files;
 mod words;

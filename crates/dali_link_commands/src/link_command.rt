@@ -8,7 +8,7 @@ use crate::drive_files::drive_files;
 use crate::follow_files::follow_file;
 use crate::lines::Lines;
 use crate::read::read_bank;
-use crate::report_file::ReportFile;
+use crate::report_file::{Others, ReportFile};
 use crate::survey::scan;
 use crate::survey_files::verify_file;
 use dali_drive::{StdSink, StdSource, StoreDesk};
@@ -83,22 +83,36 @@ impl<'a> LinkCommand<'a> {
     {
         match *self {
             LinkCommand::Drive { task, report } => {
-                let mut file = ReportFile::open(rt, report);
+                let mut file = ReportFile::open(rt, report, others_of(&task));
                 let ended = drive_files(rt, task, desk, &mut file.report);
                 file.end(rt.alloc(), &mut desk.out, report, ended)
             }
             LinkCommand::Follow { task, report } => {
-                let mut file = ReportFile::open(rt, report);
+                let mut file = ReportFile::open(rt, report, others_of(&task));
                 let ended = follow_file(rt, task, desk, &mut file.report);
                 file.end(rt.alloc(), &mut desk.out, report, ended)
             }
             LinkCommand::Read { unit, bank } => read_bank(rt.alloc(), unit, bank, desk),
             LinkCommand::Verify { orders, report } => {
-                let mut file = ReportFile::open(rt, report);
+                let others = Others {
+                    orders,
+                    journal: "",
+                    older: &[],
+                };
+                let mut file = ReportFile::open(rt, report, others);
                 let ended = verify_file(rt, orders, desk, &mut file.report);
                 file.end(rt.alloc(), &mut desk.out, report, ended)
             }
             LinkCommand::Scan => scan(rt.alloc(), desk),
         }
+    }
+}
+
+// The files that a drive has beside its report.
+fn others_of<'a>(task: &DriveTask<'a>) -> Others<'a> {
+    Others {
+        orders: task.orders,
+        journal: task.journal,
+        older: task.older,
     }
 }

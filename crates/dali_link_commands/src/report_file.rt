@@ -6,43 +6,67 @@ ghost use Rattle.dali_link_commands.specs.LinkCommands.{EndsReported, TellsUnrep
 ghost use Rattle.dali_link_commands.specs.Told.{IsPlain, error_line};
 
 use crate::lines::Lines;
+use crate::report_output::ReportOutput;
 use crate::words::plain_words;
 use dali_faults::Status;
 use dali_report::Report;
 use dali_text::{Output, OutputFailed};
 use std::alloc::Global;
-use std::fs::{File, Files, OpenOptions};
-use std::io::{Read, Write};
+use std::fs::{File, Files, Metadata, OpenOptions, TryLockError};
+use std::io::{ErrorKind, Read, Write};
+use std::os::unix::fs::MetadataExt;
 use std::{fs, io};
+
+// How the lines of a report begin: of a last reply, of an answer that broke a drive off, of a verification.
+const BEGINNINGS: [&[u8]; 3] = [b"{\"code\":", b"{\"answer\":", b"{\"byte\":"];
 
 // Why a file can't be opened for a report.
 #[derive(Drop)]
 enum Unopened {
+    // The name is that of standard output.
+    Dash,
+    // The name leads to another.
+    Link,
+    // It is a file of the command's own.
+    Taken,
     // It has something else, as a journal or orders, and is left alone.
     NoReport,
+    // Another command writes it.
+    InUse,
     // The system refuses it.
     Refused(io::Error),
+}
+
+/// The files that a command has beside its report, by name.
+#[derive(Clone, Copy)]
+pub(crate) struct Others<'a> {
+    pub(crate) orders: &'a str,
+    /// The journal, or none where the name is empty.
+    pub(crate) journal: &'a str,
+    pub(crate) older: &'a [&'a str],
 }
 
 /// A report into a file, or into none.
 #[derive(Drop)]
 pub(crate) struct ReportFile {
-    pub(crate) report: Report<File>,
+    pub(crate) report: Report<ReportOutput>,
     unopened: Option<Unopened>,
 }
 
 impl ReportFile {
-    /// Empties the file, or makes it; with no name there is none.
+    /// Opens the file, or makes it, for this command alone; with no name there is none. What it holds stays until there
+    /// is something to report. It is none of the command's other files, no link, and has to be a report or empty.
     pub(crate) fn open<R: Files<File = File> + AllocGlobal>(
         rt: &R,
         name: Option<&str>,
+        others: Others<'_>,
     ) -> ReportFile
         ensures output { has_output result.report ≡ (is_some name.entry && is_none result.unopened) }
         ensures unopened { is_some result.unopened ≡ true → is_some name.entry ≡ true }
         ensures unfailed { report_failed result.report ≡ false }
     {
         let (output, unopened) = match name {
-            Some(name) => match opened(rt, name) {
+            Some(name) => match opened(rt, name, others) {
                 Ok(file) => (Some(Output::new(file)), None),
                 Err(unopened) => (None, Some(unopened)),
             },
@@ -80,43 +104,126 @@ impl ReportFile {
 
     // Why it couldn't be opened or written, in words.
     fn cause(&self, alloc: Global) -> Option<String> {
-        match (&self.unopened, self.report.cause()) {
-            (Some(Unopened::NoReport), _) => String::from_str(
-                alloc,
-                "what is there is no report",
-            ).ok(),
-            (Some(Unopened::Refused(error)), _) => format!(in alloc; "{error}").ok(),
-            (None, Some(kind)) => format!(in alloc; "{kind}").ok(),
-            (None, None) => String::from_str(alloc, "memory ran out").ok(),
+        let words = match (&self.unopened, self.report.cause()) {
+            (Some(Unopened::Refused(error)), _) => return format!(in alloc; "{error}").ok(),
+            (None, Some(kind)) => return format!(in alloc; "{kind}").ok(),
+            (Some(Unopened::Dash), _) => "it is standard output, where the frames go",
+            (Some(Unopened::Link), _) => "it is a link: name the file itself",
+            (Some(Unopened::Taken), _) => "the command has this file for something else",
+            (Some(Unopened::NoReport), _) => "what is there is no report",
+            (Some(Unopened::InUse), _) => "another command writes it",
+            (None, None) => "memory ran out",
+        };
+        String::from_str(alloc, words).ok()
+    }
+}
+
+// Opens a report, locked.
+fn opened<R: Files<File = File> + AllocGlobal>(
+    rt: &R,
+    name: &str,
+    others: Others<'_>,
+) -> Result<ReportOutput, Unopened> {
+    if name == "-" {
+        return Err(Unopened::Dash);
+    }
+    let is_new = match fs::symlink_metadata(rt, name) {
+        Ok(found) if found.is_symlink() => return Err(Unopened::Link),
+        Ok(found) if !found.is_file() => return opened_other(rt, name),
+        Ok(_) => false,
+        Err(error) if error.kind() == ErrorKind::NotFound => true,
+        Err(error) => return Err(Unopened::Refused(error)),
+    };
+    let mut how = OpenOptions::new();
+    let _ = how.read(true).append(true).create(true);
+    let mut file = match how.open(rt, name) {
+        Ok(file) => file,
+        Err(error) => return Err(Unopened::Refused(error)),
+    };
+    match judged(rt, &mut file, others) {
+        Ok(()) => Ok(ReportOutput::new(file, true)),
+        Err(unopened) => {
+            if is_new {
+                let _ = fs::remove_file(rt, name);
+            }
+            Err(unopened)
         }
     }
 }
 
-fn opened<R: Files<File = File>>(rt: &R, name: &str) -> Result<File, Unopened> {
-    match is_foreign(rt, name) {
-        Ok(true) => Err(Unopened::NoReport),
-        Ok(false) => {
-            let mut how = OpenOptions::new();
-            let _ = how.write(true).create(true).truncate(true);
-            match how.open(rt, name) {
-                Ok(file) => Ok(file),
-                Err(error) => Err(Unopened::Refused(error)),
-            }
-        }
+// What is no regular file, as a pipe or a terminal, is written to as it is.
+fn opened_other<R: Files<File = File>>(rt: &R, name: &str) -> Result<ReportOutput, Unopened> {
+    let mut how = OpenOptions::new();
+    let _ = how.write(true);
+    match how.open(rt, name) {
+        Ok(file) => Ok(ReportOutput::new(file, false)),
         Err(error) => Err(Unopened::Refused(error)),
     }
 }
 
-// Whether there is a regular file of this name that neither is empty nor begins as a line of a report does.
-fn is_foreign<R: Files<File = File>>(rt: &R, name: &str) -> io::Result<bool> {
-    match fs::metadata(rt, name) {
-        Ok(found) if found.is_file() => {
-            let mut first = [0u8; 1];
-            let count = fs::open(rt, name)?.read(&mut first)?;
-            Ok(count > 0 && first[0] != b'{')
-        }
-        _ => Ok(false),
+// Locks the file, and looks whether it may be the report of a command with these files.
+fn judged<R: Files<File = File> + AllocGlobal>(
+    rt: &R,
+    file: &mut File,
+    others: Others<'_>,
+) -> Result<(), Unopened> {
+    match is_taken(rt, file, others) {
+        Ok(true) => return Err(Unopened::Taken),
+        Ok(false) => {}
+        Err(error) => return Err(Unopened::Refused(error)),
     }
+    match file.try_lock() {
+        Ok(()) => {}
+        Err(TryLockError::WouldBlock) => return Err(Unopened::InUse),
+        Err(TryLockError::Error(error)) => return Err(Unopened::Refused(error)),
+    }
+    match is_report(file) {
+        Ok(true) => Ok(()),
+        Ok(false) => Err(Unopened::NoReport),
+        Err(error) => Err(Unopened::Refused(error)),
+    }
+}
+
+// Whether the file is one of these, by whatever name, or the new one that the journal may get.
+fn is_taken<R: Files<File = File> + AllocGlobal>(
+    rt: &R,
+    file: &File,
+    others: Others<'_>,
+) -> io::Result<bool> {
+    let own = file.metadata()?;
+    let journal = others.journal;
+    let new_journal = format!(in rt.alloc(); "{journal}.new")?;
+    for name in [others.orders, journal, new_journal.as_str()] {
+        if is_same(rt, &own, name) {
+            return Ok(true);
+        }
+    }
+    for &name in others.older {
+        if is_same(rt, &own, name) {
+            return Ok(true);
+        }
+    }
+    Ok(false)
+}
+
+fn is_same<R: Files<File = File>>(rt: &R, own: &Metadata, name: &str) -> bool {
+    match fs::metadata(rt, name) {
+        Ok(found) => found.dev() == own.dev() && found.ino() == own.ino(),
+        Err(_) => false,
+    }
+}
+
+// Whether it is empty, or begins as a line of a report does.
+fn is_report(file: &mut File) -> io::Result<bool> {
+    let mut first = [0u8; 10];
+    let count = file.read(&mut first)?;
+    let text = &first[..count];
+    Ok(
+        count == 0
+            || BEGINNINGS
+                .iter()
+                .any(|beginning| text.starts_with(beginning)),
+    )
 }
 
 // Tells that a report can't be written.

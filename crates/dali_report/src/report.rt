@@ -1,5 +1,5 @@
 ghost use Rattle.std.specs.Prelude.{◌≡◌, ◌∷◌, ◌⊎◌, ◌||◌, List, IsOkAnd, OnOk, None, false, true, is_some, option_map};
-ghost use Rattle.std.specs.Io.KnownBytes.{Appends};
+ghost use Rattle.std.specs.Io.KnownBytes.{Appends, Keeps};
 ghost use Rattle.dali_text.specs.Output.{Takes, TellsFailure, is_flushed};
 ghost use Rattle.dali_trace.specs.declared.happening.Happening.{Happening};
 ghost use Rattle.dali_trace.specs.declared.happening.Happening.TheVariants.{Answered};
@@ -172,6 +172,21 @@ impl<W: Write> Report<W> {
         self.output.is_some() && !self.has_failed()
     }
 
+    // Flushes the output, where there is one, so that it stands before the first line.
+    fn start(&mut self)
+        ensures same { self.new ≡ record self.old { output = self.new.output } }
+        ensures kept { Keeps (report_held W.contents self.old) (report_held W.contents self.new) }
+        ensures failed { report_failed self.new ≡ false → report_failed self.old ≡ false }
+        ensures silent { report_failed self.old ≡ true → self.new ≡ self.old }
+    {
+        if !self.is_wanted() {
+            return;
+        }
+        if let Some(output) = &mut self.output {
+            let _ = output.flush();
+        }
+    }
+
     // Writes a line, and flushes it.
     fn put(&mut self, line: Result<Vec<u8>, AllocError>)
         ensures same { self.new ≡ record self.old { output = self.new.output; starved = self.new.starved } }
@@ -199,6 +214,7 @@ impl<W: Write + Drop> Observer for Report<W> {
         self.ended = false;
         self.tally = Tally::new();
         self.all_done = true;
+        self.start();
     }
 
     fn see(&mut self, happening: &Happening, journal: &Journal) {

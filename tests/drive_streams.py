@@ -1,5 +1,10 @@
 """Tests of `drive` whose streams are known byte for byte: those of an absent unit."""
 
+import os
+import pty
+import select
+import subprocess
+
 from drive_desk import (
     ABSENT,
     ABSENT_BEGAN,
@@ -24,6 +29,22 @@ def test_absent_unit(folder):
     want(desk.held(), ABSENT_JOURNAL)
     want(desk.give(b""), Ended(0, b"", KEPT_SILENT))
     want(desk.held(), ABSENT_JOURNAL)
+
+
+def test_a_terminal_is_no_link(folder):
+    desk, bank = desk_of(folder, ABSENT), folder / "bank.hex"
+    desk.journal.unlink(missing_ok=True)
+    told = "error: the frames go to standard output, which is a terminal: start this over an adapter (docs/LINK.md)\n"
+    for words in [("drive", desk.orders, desk.journal), ("drive", "--follow", desk.orders, desk.journal),
+                  ("read", "5", bank), ("verify", desk.orders), ("scan",)]:
+        master, terminal = pty.openpty()
+        ended = subprocess.run([desk.program, *words], stdin=terminal, stdout=terminal, stderr=subprocess.PIPE,
+                               text=True, timeout=9)
+        printed = select.select([master], [], [], 0.1)[0]
+        os.close(terminal)
+        os.close(master)
+        want((words[0], ended.returncode, ended.stderr, printed), (words[0], 1, told, []))
+        want((desk.journal.exists(), bank.exists()), (False, False))
 
 
 def test_link_that_ends(folder):

@@ -16,12 +16,16 @@ use dali_notes::FirstLines;
 use dali_store::FileStore;
 use dali_text::{Escaped, Output};
 use std::alloc::{AllocError, Global};
-use std::io::{BufWriter, ErrorKind, LineWriter, Read, Write};
+use std::io::{BufWriter, ErrorKind, IsTerminal, LineWriter, Read, Write};
 use std::process::ExitCode;
 use std::{fs, io};
 
 // What `--version` prints: `./test` compares the logic with that of the kit that the gate runs on.
 const VERSION: &str = "dali_bench 1.0, proved with the Rattle logic dac8208d650f15bf";
+
+// Where a command over a link is started with no link.
+const AT_A_TERMINAL: &str =
+    "error: the frames go to standard output, which is a terminal: start this over an adapter (docs/LINK.md)";
 
 fn main(rt: HostRuntime) -> ExitCode {
     let status = match std::env::args(&rt) {
@@ -235,10 +239,15 @@ fn is_one_whole(command: FileCommand) -> bool {
     matches!(command, FileCommand::Show | FileCommand::Journal { .. })
 }
 
-// Carries out a command over standard input and output. Where standard error can't be written, nothing more is.
+// Carries out a command over standard input and output. Where standard error can't be written, nothing more is. A
+// person at a terminal is told what is missing: the frames would be printed there, and the answers waited for.
 fn on_link(rt: &HostRuntime, command: LinkCommand<'_>) -> Status
     requires { IsShort command }
 {
+    if rt.stdout().is_terminal() {
+        let _ = eprintln!(rt; "{AT_A_TERMINAL}");
+        return Status::Refused;
+    }
     let Ok(lines) = LineWriter::new(rt.alloc(), rt.stderr()) else {
         return out_of_memory(rt, FaultStream::Lines);
     };

@@ -1,18 +1,18 @@
 -- Two journals that are one, in the order in which they are named, and what is near that and is not so.
 use Rattle.std.proofs.Common.{◌≡◌, refl, ℕ, List, [], ◌∷◌, ◌++◌, Some, None, inl, inr, true, false, arith}
 use Rattle.dali_bank.specs.Order.{Contents}
-use Rattle.dali_journal.specs.declared.behind.JoinFault.TheVariants.{Repeated}
+use Rattle.dali_journal.specs.declared.behind.JoinFault.TheVariants.{Repeated, NoMemory}
 use Rattle.dali_journal.specs.declared.record.Code.TheVariants.{Done, Silent}
 use Rattle.dali_journal.specs.declared.record.Record.{Record}
 use Rattle.dali_journal.specs.declared.record.Record.TheVariants.{Began, Ended}
 use Rattle.dali_journal.specs.declared.version.Version.{Version}
 use Rattle.dali_journal.specs.JournalState.{JournalState}
-use Rattle.dali_input.specs.declared.fault.InputFault.TheVariants.{File, Json}
+use Rattle.dali_input.specs.declared.fault.InputFault.TheVariants.{File, Json, Memory}
 use Rattle.dali_input.specs.Input.{InputState, ReadsAtMost, ReadsInput}
-use Rattle.dali_faults.specs.declared.fault.Fault.TheVariants.{Input}
+use Rattle.dali_faults.specs.declared.fault.Fault.TheVariants.{Input, Older}
 use Rattle.dali_faults.specs.JournalInput.{IsJournalIn, journal_limit}
 use Rattle.dali_link_commands.specs.declared.older.OlderFault.TheVariants.{Unloaded, Join}
-use Rattle.dali_link_commands.specs.BehindAnswers.{MayBeUnusable}
+use Rattle.dali_link_commands.specs.BehindAnswers.{MayBeUnusable, fault_unjoined}
 use Rattle.dali_link_commands.specs.Older.{AreJoined, AreOne, AreReadAtRest, HasJournal, IsFirstUnusable, IsReadAtRest}
 use Rattle.dali_link_commands.specs.Older.{IsUnusable}
 use Rattle.dali_link_commands.proofs.OlderLemmas.{first_unusable}
@@ -104,3 +104,10 @@ pub json_is_no_older_fault : MayBeUnusable (Unloaded (Input Json)) → ⊥
 json_is_no_older_fault (inl (failure, is, inl file)) = cc
 json_is_no_older_fault (inl (failure, is, inr memory)) = cc
 json_is_no_older_fault (inr (older, bytes, never)) = never
+
+-- how two journals that are none together are told
+pub common_number_is_told_as_older : (id : ℕ) → fault_unjoined (Repeated id) ≡ Older
+common_number_is_told_as_older id = refl
+
+pub want_of_memory_is_told : fault_unjoined NoMemory ≡ Input Memory
+want_of_memory_is_told = refl

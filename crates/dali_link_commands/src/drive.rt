@@ -1,4 +1,4 @@
-ghost use Rattle.std.specs.Prelude.{◌≡◌};
+ghost use Rattle.std.specs.Prelude.{◌≡◌, is_some};
 ghost use Rattle.dali_drive.specs.Behind.{IsReadyBehind};
 ghost use Rattle.dali_drive.specs.Stored.{LeavesPart};
 ghost use Rattle.dali_input.specs.Input.{ReadsAtMost, state_of};
@@ -90,7 +90,9 @@ pub fn drive_input<R: Read, I: Source, L: Sink, S: Store, W: Write, N: Write + D
 }
 
 /// The failure of this kind.
-pub(crate) fn failure_of(cause: Option<ErrorKind>) -> Option<io::Error> {
+pub(crate) fn failure_of(cause: Option<ErrorKind>) -> Option<io::Error>
+    ensures { is_some result ≡ is_some cause }
+{
     match cause {
         Some(kind) => Some(io::Error::from(kind)),
         None => None,

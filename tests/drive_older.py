@@ -63,7 +63,7 @@ def desks(folder, orders, journal=None):
 
 
 def test_an_order_of_an_older_journal_is_not_carried_out_again(folder):
-    for older in (DONE_JOURNAL, OLD_DONE_JOURNAL, DONE_JOURNAL + b"B"):
+    for older in (DONE_JOURNAL, OLD_DONE_JOURNAL):
         for desk in desks(folder, PRESENT * 2):
             behind(desk, older)
             want((older, desk.give(b"")), (older, Ended(0, b"", KEPT_DONE * 2)))
@@ -166,10 +166,24 @@ def refused(folder, words, *journals, held=None):
 
 
 def test_an_older_journal_that_is_not_at_rest(folder):
-    half_ended = DONE_JOURNAL + absent_records(2)[:-1]
-    for journal in (ABSENT_BEGAN, OLD_ABSENT_BEGAN, OPENED, LEFT, OPENED + b"E", half_ended):
+    for journal in (ABSENT_BEGAN, OLD_ABSENT_BEGAN, OPENED, LEFT):
         refused(folder, "isn't at rest", journal)
         refused(folder, "isn't at rest", HEADER + absent_records(2), journal, held=HEADER)
+
+
+def test_an_older_journal_whose_end_is_cut(folder):
+    half_ended, half_begun = DONE_JOURNAL + absent_records(2)[:-1], DONE_JOURNAL + absent_records(2)[:9]
+    for journal in (OPENED + b"E", half_ended, half_begun, DONE_JOURNAL[:20], OLD_DONE_JOURNAL[:20], HEADER + b"B"):
+        refused(folder, "end is cut", journal)
+        refused(folder, "end is cut", HEADER + absent_records(2), journal, held=HEADER)
+    # Driven once more it ends whole, and may be named.
+    desk = desk_of(folder, [], half_begun)
+    want(desk.give(b"").status, 0)
+    older = folder / "driven_once_more"
+    desk.journal.rename(older)
+    desk = desk_of(folder, PRESENT)
+    desk.options = ["--older", older]
+    want(desk.give(b""), Ended(0, b"", KEPT_DONE))
 
 
 def test_an_older_journal_that_is_none(folder):

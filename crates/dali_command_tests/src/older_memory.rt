@@ -33,7 +33,7 @@ struct Joined<'a> {
     fault: Option<OlderFault>,
 }
 
-static JOINED: [Joined<'static>; 8] = [
+static JOINED: [Joined<'static>; 9] = [
     Joined {
         older: &HEADER,
         bytes: &SILENT,
@@ -73,6 +73,11 @@ static JOINED: [Joined<'static>; 8] = [
         older: &HEADER,
         bytes: b"DB1",
         fault: Some(OlderFault::Unloaded(Fault::Journal(JournalFault::Header))),
+    },
+    Joined {
+        older: &HEADER,
+        bytes: b"DB1\x02B",
+        fault: Some(OlderFault::Cut),
     },
 ];
 

@@ -1,5 +1,5 @@
 -- Two journals that are one, in the order in which they are named, and what is near that and is not so.
-use Rattle.std.proofs.Common.{◌≡◌, refl, ℕ, List, [], ◌∷◌, ◌++◌, Some, None, inl, inr, true, false, arith}
+use Rattle.std.proofs.Common.{◌≡◌, ◌+◌, refl, ℕ, length, Option, List, [], ◌∷◌, ◌++◌, Some, None, inl, inr, true, false, arith}
 use Rattle.dali_bank.specs.Order.{Contents}
 use Rattle.dali_journal.specs.declared.behind.JoinFault.TheVariants.{Repeated, NoMemory}
 use Rattle.dali_journal.specs.declared.record.Code.TheVariants.{Done, Silent}
@@ -11,10 +11,10 @@ use Rattle.dali_input.specs.declared.fault.InputFault.TheVariants.{File, Json, M
 use Rattle.dali_input.specs.Input.{InputState, ReadsAtMost, ReadsInput}
 use Rattle.dali_faults.specs.declared.fault.Fault.TheVariants.{Input, Older}
 use Rattle.dali_faults.specs.JournalInput.{IsJournalIn, journal_limit}
-use Rattle.dali_link_commands.specs.declared.older.OlderFault.TheVariants.{Unloaded, Join}
+use Rattle.dali_link_commands.specs.declared.older.OlderFault.TheVariants.{Unloaded, Cut, Join}
 use Rattle.dali_link_commands.specs.BehindAnswers.{MayBeUnusable, fault_unjoined}
 use Rattle.dali_link_commands.specs.Older.{AreJoined, AreOne, AreReadAtRest, HasJournal, IsFirstUnusable, IsReadAtRest}
-use Rattle.dali_link_commands.specs.Older.{IsUnusable}
+use Rattle.dali_link_commands.specs.Older.{IsOlderFault, IsUnusable, fault_older}
 use Rattle.dali_link_commands.proofs.OlderLemmas.{first_unusable}
 
 -- orders 1 and 2, and the journals of each, which are at rest; one of order 1 that is at work
@@ -104,6 +104,18 @@ pub json_is_no_older_fault : MayBeUnusable (Unloaded (Input Json)) → ⊥
 json_is_no_older_fault (inl (failure, is, inl file)) = cc
 json_is_no_older_fault (inl (failure, is, inr memory)) = cc
 json_is_no_older_fault (inr (older, bytes, never)) = never
+
+-- a journal whose end is cut can't be used, and a whole one isn't told as cut
+pub cut_is_unusable : (older : Option JournalState) (bytes : List ℕ) (has : HasJournal bytes)
+    → has.counted + 1 ≡ length bytes → IsOlderFault older bytes Cut
+cut_is_unusable older bytes has cut = (has, λ same. omega (arith, same, cut))
+
+pub whole_is_not_cut : (older : Option JournalState) (bytes : List ℕ)
+    → ((has : HasJournal bytes) → has.counted ≡ length bytes) → IsOlderFault older bytes Cut → ⊥
+whole_is_not_cut older bytes whole (has, cut) = cut (whole has)
+
+pub cut_is_told_as_older : fault_older Cut ≡ Older
+cut_is_told_as_older = refl
 
 -- how two journals that are none together are told
 pub common_number_is_told_as_older : (id : ℕ) → fault_unjoined (Repeated id) ≡ Older

@@ -15,7 +15,7 @@ use Rattle.dali_input.specs.Input.{InputState, IsReadFailure, ReadsAtMost, Reads
 use Rattle.dali_faults.specs.declared.fault.Fault.{Fault}
 use Rattle.dali_faults.specs.declared.fault.Fault.TheVariants as faults
 use Rattle.dali_link_commands.specs.declared.older.OlderFault.{OlderFault}
-use Rattle.dali_link_commands.specs.declared.older.OlderFault.TheVariants.{Unloaded, AtWork, Join}
+use Rattle.dali_link_commands.specs.declared.older.OlderFault.TheVariants.{Unloaded, Cut, AtWork, Join}
 use Rattle.dali_faults.specs.JournalInput.{IsJournalIn, IsUnloaded, journal_limit}
 
 -- the fault that is told
@@ -24,6 +24,7 @@ fault_older (Unloaded (faults.Input Memory)) = faults.Input Memory
 fault_older (Unloaded (faults.Input File)) = faults.Input File
 fault_older (Unloaded (faults.Journal journals.NoMemory)) = faults.Input Memory
 fault_older (Unloaded other) = faults.Older
+fault_older Cut = faults.Older
 fault_older AtWork = faults.Older
 fault_older (Join NoMemory) = faults.Input Memory
 fault_older (Join other) = faults.Older
@@ -33,12 +34,12 @@ abbrev pub records_in : Option JournalState → List Record
 records_in None = []
 records_in (Some older) = older.records
 
--- the journal of these bytes, which is at rest, behind the older one: the records of both, at rest too
+-- the journal of these bytes, all of which count, which is at rest, behind the older one: the records of both, at rest
+-- too
 pub record IsJoinedBehind (older : Option JournalState) (bytes : List ℕ) (journal : JournalState) : Type 0 where
   pub own : JournalState
-  pub counted : ℕ
   pub version : Version
-  pub loaded : IsJournalIn bytes own counted version
+  pub loaded : IsJournalIn bytes own (length bytes) version
   pub rests : standing_of own.records ≡ Idle
   pub records_are : journal.records ≡ own.records ++ records_in older
   pub stands : standing_of journal.records ≡ Idle
@@ -53,6 +54,7 @@ pub record HasJournal (bytes : List ℕ) : Type 0 where
 -- why the bytes can't be used so
 abbrev pub IsOlderFault : Option JournalState → List ℕ → OlderFault → Type 0
 IsOlderFault older bytes (Unloaded fault) = IsUnloaded bytes fault
+IsOlderFault older bytes Cut = (has : HasJournal bytes) × (has.counted ≢ length bytes)
 IsOlderFault older bytes AtWork = (has : HasJournal bytes) × (standing_of has.own.records ≢ Idle)
 IsOlderFault older bytes (Join fault) =
     (has : HasJournal bytes) × IsJoinFault fault has.own.records (records_in older)
@@ -71,10 +73,9 @@ IsUnusable older before after fault =
 -- what an input had is this journal, which is at rest
 pub record IsReadAtRest (before after : InputState) (own : JournalState) : Type 0 where
   pub bytes : List ℕ
-  pub counted : ℕ
   pub version : Version
   pub read : ReadsInput journal_limit before after bytes
-  pub loaded : IsJournalIn bytes own counted version
+  pub loaded : IsJournalIn bytes own (length bytes) version
   pub rests : standing_of own.records ≡ Idle
 
 -- the same of each of these inputs and of each of these journals, in order

@@ -22,6 +22,8 @@ use std::{fs, io};
 pub enum OlderFault {
     /// Its bytes can't be read, or are no journal's.
     Unloaded(Fault),
+    /// Its end is cut: the last drive of it was stopped in mid-record, or it isn't whole.
+    Cut,
     /// It isn't at rest: an order of it isn't ended, or a unit is left.
     AtWork,
     /// It has an order number that another one has, or there was no memory.
@@ -38,14 +40,15 @@ impl OlderFault {
             | OlderFault::Unloaded(Fault::Journal(JournalFault::NoMemory))
             | OlderFault::Join(JoinFault::NoMemory) => Fault::Input(InputFault::Memory),
             OlderFault::Unloaded(Fault::Input(InputFault::File)) => Fault::Input(InputFault::File),
-            OlderFault::Unloaded(_) | OlderFault::AtWork | OlderFault::Join(_) => Fault::Older,
+            OlderFault::Unloaded(_) | OlderFault::Cut | OlderFault::AtWork | OlderFault::Join(_) =>
+                Fault::Older,
         }
     }
 }
 
 /// The journal of these bytes, of either version, behind the older one, where there is one already: all their orders.
 ///
-/// The older one has to be at rest, and so has this one.
+/// The older one has to be at rest, and so has this one, and no record of it may be cut.
 pub fn joined_behind(
     alloc: Global,
     older: Option<Journal>,
@@ -55,10 +58,14 @@ pub fn joined_behind(
     ensures ok { IfOk result (IsJoinedBehind older bytes.items) }
     ensures err { IfErr result (IsOlderFault older bytes.items) }
 {
-    let own = match journal_in(alloc, bytes) {
-        Ok((own, _, _)) => own,
+    let length = bytes.len();
+    let (own, counted) = match journal_in(alloc, bytes) {
+        Ok((own, counted, _)) => (own, counted),
         Err(fault) => return Err(OlderFault::Unloaded(fault)),
     };
+    if counted != length {
+        return Err(OlderFault::Cut);
+    }
     let Standing::Idle = own.standing() else {
         return Err(OlderFault::AtWork);
     };

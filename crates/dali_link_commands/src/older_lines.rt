@@ -35,6 +35,9 @@ fn words_for(alloc: Global, name: &str, fault: OlderFault, words: Option<&str>) 
         return format!(in alloc; "the older journal can't be used: {name}: {words}").ok();
     }
     match fault {
+        OlderFault::Cut => {
+            format!(in alloc; "the older journal's end is cut: {name}: drive it once more").ok()
+        }
         OlderFault::AtWork => {
             format!(in alloc;
                 "the older journal isn't at rest: {name}: an order isn't ended, or a unit is left"

@@ -127,28 +127,34 @@ fn opened<R: Files<File = File> + AllocGlobal>(
     if name == "-" {
         return Err(Unopened::Dash);
     }
-    let is_new = match fs::symlink_metadata(rt, name) {
+    if is_named(name, others) {
+        return Err(Unopened::Taken);
+    }
+    match fs::symlink_metadata(rt, name) {
         Ok(found) if found.is_symlink() => return Err(Unopened::Link),
         Ok(found) if !found.is_file() => return opened_other(rt, name),
-        Ok(_) => false,
-        Err(error) if error.kind() == ErrorKind::NotFound => true,
+        Ok(_) => {}
+        Err(error) if error.kind() == ErrorKind::NotFound => {}
         Err(error) => return Err(Unopened::Refused(error)),
-    };
+    }
     let mut how = OpenOptions::new();
     let _ = how.read(true).append(true).create(true);
     let mut file = match how.open(rt, name) {
         Ok(file) => file,
         Err(error) => return Err(Unopened::Refused(error)),
     };
-    match judged(rt, &mut file, others) {
-        Ok(()) => Ok(ReportOutput::new(file, true)),
-        Err(unopened) => {
-            if is_new {
-                let _ = fs::remove_file(rt, name);
-            }
-            Err(unopened)
-        }
-    }
+    judged(rt, &mut file, others)?;
+    Ok(ReportOutput::new(file, true))
+}
+
+// Whether the name is one of these: a file that isn't there yet isn't made then. (One that was made by another name of
+// it stays, empty, as it may be a drive's by now.)
+fn is_named(name: &str, others: Others<'_>) -> bool {
+    let journal = others.journal;
+    name == others.orders
+        || name == journal
+        || !journal.is_empty() && name.strip_suffix(".new") == Some(journal)
+        || others.older.iter().any(|&older| name == older)
 }
 
 // What is no regular file, as a pipe or a terminal, is written to as it is.

@@ -5,23 +5,49 @@ frame: it takes the frame's four hexadecimal digits, and returns the answer as t
 tell what became of the frame it raises `Broken` or OSError. Then nothing more is sent.
 """
 
+import os
 import re
 import subprocess
 import sys
 
 FRAME_LINE = re.compile(rb"([0-9A-F]{4})\n")
 NO_ANSWER = b"--"
+# A name by which a command opens a descriptor that it was started with.
+OF_A_DESCRIPTOR = re.compile("/(?:dev|proc/self)/fd/([0-9]+)")
 
 
 class Broken(Exception):
     """What became of a frame isn't known, or the link can't be trusted with the next one."""
 
 
+def shown(data):
+    """Spell bytes on one line: what isn't a character from 20h to 7Eh, and the backslash, as \\xHH."""
+    return "".join(chr(it) if 0x20 <= it <= 0x7E and it != 0x5C else f"\\x{it:02X}" for it in data)
+
+
+def handed_on(words):
+    """Give the descriptors that the words of a command name, and that this program was itself handed.
+
+    No others are handed on: a command that held the writing end of the pipe which it reads would never see its end.
+    """
+    return [number for number in {int(it) for word in words for it in OF_A_DESCRIPTOR.findall(os.fspath(word))}
+            if is_handed(number)]
+
+
+def is_handed(number):
+    """Tell whether a descriptor is open and isn't one of this program's own, which aren't inheritable."""
+    try:
+        return os.get_inheritable(number)
+    except (OSError, OverflowError):
+        return False
+
+
 def answer_to(line, carry):
     """Carry the frame of a command's line; return its answer."""
     known = FRAME_LINE.fullmatch(line)
     if not known:
-        raise Broken(f"the command's line {line!r} isn't four upper-case hexadecimal digits")
+        raise Broken(f"the command's line {shown(line)} isn't four upper-case hexadecimal digits and a line feed, as of"
+                     " drive, read, verify and scan")
     try:
         return carry(known[1])
     except OSError as fault:
@@ -41,7 +67,8 @@ def tell(fault):
 def serve(carry, words):
     """Start the command, carry its frames, and return its status; where the link broke never 0."""
     try:
-        command = subprocess.Popen(words, stdin=subprocess.PIPE, stdout=subprocess.PIPE, bufsize=0)
+        command = subprocess.Popen(words, stdin=subprocess.PIPE, stdout=subprocess.PIPE, bufsize=0,
+                                   pass_fds=handed_on(words))
     except OSError as fault:
         raise Broken(f"the command can't be started: {words[0]}: {fault.strerror}") from fault
     least = 0

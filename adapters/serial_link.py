@@ -22,7 +22,7 @@ import sys
 import termios
 import time
 
-from adapter import NO_ANSWER, Broken, main
+from adapter import NO_ANSWER, Broken, main, shown
 
 TIME_OUT = 0.5  # seconds; within these the interface sends a frame and replies, or never
 # What ends a line, and the replies that it ends.
@@ -76,14 +76,34 @@ def carry(line, letter, end, frame):
     reply, latest = b"", time.monotonic() + TIME_OUT
     while not reply.endswith(end) and len(reply) < 16:
         if not select.select([line], [], [], max(0, latest - time.monotonic()))[0]:
-            raise Broken(f"the interface gave no reply in {TIME_OUT} seconds")
+            raise Broken(words_of_silence(reply, request, end))
         piece = os.read(line, 16)
         if not piece:
-            raise Broken("the interface is gone")
+            raise Broken("the interface is gone: look at its plug")
         reply += piece
     if not (known := REPLIES[end].fullmatch(reply)):
-        raise Broken(f"the interface's reply {reply!r} is none that it may give")
+        raise Broken(f"the interface's reply {shown(reply)} is none that it may give: {advice(reply, end)}")
     return known[1] or NO_ANSWER
+
+
+def words_of_silence(reply, request, end):
+    """Tell that no whole reply came to a request, what came of one, and what to look at."""
+    if not reply:
+        return (f"the interface gave no reply in {TIME_OUT} seconds to {shown(request)}: look at its plug and its"
+                " power, and whether --letter, --baud and --line-feed are as it wants them")
+    return (f"the interface gave no reply that ends with {shown(end)} in {TIME_OUT} seconds, but {shown(reply)}:"
+            f" {advice(reply, end)}")
+
+
+def advice(reply, end):
+    """Tell what to look at behind a reply that is none."""
+    if end == CARRIAGE_RETURN and REPLIES[LINE_FEED].fullmatch(reply):
+        return "its lines end with a line feed, so give --line-feed"
+    if end == LINE_FEED and REPLIES[CARRIAGE_RETURN].fullmatch(reply):
+        return "its lines end with a carriage return, so leave out --line-feed"
+    if not all(0x20 <= it <= 0x7E or it in CARRIAGE_RETURN + LINE_FEED for it in reply):
+        return "look at --baud, since bytes as these come at a wrong rate"
+    return "look at --letter, --baud and --line-feed (--help)"
 
 
 def letter_of(text):

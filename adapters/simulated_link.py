@@ -17,6 +17,8 @@ import signal
 import subprocess
 import sys
 
+from adapter import handed_on
+
 FRAME_LINE = re.compile(rb"[0-9A-F]{4}\n")
 LONGEST_LINE = 64
 
@@ -173,7 +175,8 @@ def answer_lines(bus, read_line, write_line, show_frames=False):
 
 def serve(bus, words, show_frames=False):
     """Start a command, answer its frames, and return its status (128 and the signal's number where one ended it)."""
-    command = subprocess.Popen(words, stdin=subprocess.PIPE, stdout=subprocess.PIPE, bufsize=0)
+    command = subprocess.Popen(words, stdin=subprocess.PIPE, stdout=subprocess.PIPE, bufsize=0,
+                               pass_fds=handed_on(words))
     try:
         answer_lines(bus, functools.partial(command.stdout.readline, LONGEST_LINE), command.stdin.write, show_frames)
     except BaseException:

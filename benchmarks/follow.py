@@ -107,8 +107,8 @@ class Bus:
             stderr=subprocess.PIPE,
             text=True,
         )
-        told = ""
         with open(self.pipe, "w", encoding="ascii", buffering=1) as pipe:
+            told = command.stderr.readline()
             for number in range(1, count + 1):
                 pipe.write(line_of(number))
                 told += command.stderr.readline() + command.stderr.readline()

@@ -10,7 +10,7 @@ import sys
 import threading
 import time
 
-from adapter_desk import ADAPTERS, player, run
+from adapter_desk import ADAPTERS, player, run, want_named_descriptors
 from drive_desk import want
 from driven import load
 
@@ -321,6 +321,12 @@ def test_daliserver_a_connection_to_itself(folder):
             want(str(fault), words)
             return
     raise AssertionError("it was taken for a server")
+
+
+def test_daliserver_hands_on_what_the_command_names(folder):
+    server = Server([[]], [[]])
+    want_named_descriptors(DALISERVER, options_for(server.port))
+    server.close()
 
 
 # Options

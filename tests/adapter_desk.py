@@ -1,6 +1,7 @@
 """What the tests of the adapters share: a stand-in command, a run of an adapter with it, and how tests are run."""
 
 import concurrent.futures
+import os
 import pathlib
 import re
 import subprocess
@@ -8,6 +9,7 @@ import sys
 import tempfile
 import traceback
 
+from drive_desk import want
 from driven import ROOT
 
 ADAPTERS = ROOT / "adapters"
@@ -42,6 +44,18 @@ os.write(2, ("answers " + " ".join(answers) + "\\n").encode())
 sys.exit(4 if answers[-1:] == ["end"] else 7)
 """
 
+# A command that tells which descriptors it has besides the standard streams, and what stands in the first that it names.
+HOLDER = """
+import os, sys
+for number in range(3, 256):
+    try:
+        os.fstat(number)
+    except OSError:
+        continue
+    sys.stderr.write(f"{number} ")
+sys.stderr.write(os.read(os.open(sys.argv[1], os.O_RDONLY), 16).decode())
+"""
+
 
 def player(words):
     """Make the command line of a stand-in command."""
@@ -55,6 +69,23 @@ def run(script, options, words):
     assert ended.stdout == "", ended.stdout
     answers = re.search("^answers (.*)$", ended.stderr, re.MULTILINE)
     return ended.returncode, answers[1].split() if answers else None, ended.stderr
+
+
+def want_named_descriptors(script, options):
+    """Raise unless a script hands on those descriptors that its command names and it was handed, and none of its own."""
+    for is_all in (False, True):
+        reads, writes = os.pipe()
+        other = os.dup(writes)
+        os.write(writes, b"given")
+        os.close(writes)
+        names = [f"/dev/fd/{it}" for it in ([reads, *range(3, 256), 2 ** 70] if is_all else [reads])]
+        words = [sys.executable, script, *map(str, options), "--", sys.executable, "-S", "-E", "-c", HOLDER, *names]
+        ended = subprocess.Popen(words, stdin=subprocess.DEVNULL, stdout=subprocess.PIPE, stderr=subprocess.PIPE,
+                                 pass_fds=[reads, other], text=True)
+        os.close(reads)
+        os.close(other)
+        wanted = f"{reads} {other} given" if is_all else f"{reads} given"
+        want((ended.communicate(timeout=20), ended.returncode), (("", wanted), 0))
 
 
 def passes(name, test):

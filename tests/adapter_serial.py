@@ -5,6 +5,7 @@ import errno
 import fcntl
 import os
 import pty
+import re
 import select
 import struct
 import subprocess
@@ -14,7 +15,7 @@ import threading
 import time
 import tty
 
-from adapter_desk import ADAPTERS, player, run
+from adapter_desk import ADAPTERS, player, run, want_named_descriptors
 from drive_desk import want
 from driven import ROOT
 
@@ -243,4 +244,59 @@ def test_serial_a_broken_link_is_never_status_0(folder):
     words = [SERIAL, interface.device, "--", "sh", "-c", "echo C301; read -r answer; exit 0"]
     ended = subprocess.run(words, capture_output=True, text=True, timeout=9)
     interface.close()
-    want((ended.returncode, ended.stderr), (1, "error: the interface gave no reply in 0.5 seconds\n"))
+    want(ended.returncode, 1)
+    assert re.fullmatch("error: the interface gave no reply in 0.5 seconds [^\n]+\n", ended.stderr), ended.stderr
+
+
+# What a wrong option is told as
+
+NO_REPLY = (": look at its plug and its power, and whether --letter, --baud and --line-feed are as it wants them")
+WRONG_RATE = ": look at --baud, since bytes as these come at a wrong rate"
+LOOK = ": look at --letter, --baud and --line-feed (--help)"
+NONE_THAT = "is none that it may give"
+WITHOUT = "the interface gave no reply that ends with {} in 0.5 seconds, but {}"
+MISTAKES = [
+    # The interface doesn't know the letter, or hears nothing at this rate, or waits for another line end.
+    ([], [], "the interface gave no reply in 0.5 seconds to S0B9C\\x0D" + NO_REPLY),
+    (HAT, [], "the interface gave no reply in 0.5 seconds to h0B9C\\x0A" + NO_REPLY),
+    # Its lines end with a line feed, and it was told to end them with a carriage return; and the other way round.
+    ([], [b"J5A\n"], WITHOUT.format("\\x0D", "J5A\\x0A: its lines end with a line feed, so give --line-feed")),
+    ([], [b"N\r\n"], WITHOUT.format("\\x0D", "N\\x0D\\x0A: its lines end with a line feed, so give --line-feed")),
+    (HAT, [b"J5A\r"], WITHOUT.format(
+        "\\x0A", "J5A\\x0D: its lines end with a carriage return, so leave out --line-feed")),
+    # Another rate: bytes that nobody sent, with a line end by chance or without.
+    ([], [b"\xf8\x80\x00"], WITHOUT.format("\\x0D", "\\xF8\\x80\\x00") + WRONG_RATE),
+    ([], [b"\xe6\\\r"], f"the interface's reply \\xE6\\x5C\\x0D {NONE_THAT}" + WRONG_RATE),
+    (HAT, [20 * b"\xff"], "the interface's reply " + 16 * "\\xFF" + f" {NONE_THAT}" + WRONG_RATE),
+    # It refuses the letter in words of its own, or echoes what it hears.
+    ([], [b"?\r"], f"the interface's reply ?\\x0D {NONE_THAT}" + LOOK),
+    ([], [b"S0B9C\r"], f"the interface's reply S0B9C\\x0D {NONE_THAT}" + LOOK),
+    (HAT, [b"ERR 1\r\n"], f"the interface's reply ERR 1\\x0D\\x0A {NONE_THAT}" + LOOK),
+    ([], [b"OK"], WITHOUT.format("\\x0D", "OK") + LOOK),
+    ([], [b"N\rN\r"], f"the interface's reply N\\x0DN\\x0D {NONE_THAT}" + LOOK),
+]
+
+
+def test_serial_mistakes_are_told(folder):
+    def found(case):
+        return case, over_serial([case[1]], ["0B9C", "A303"], case[0])
+
+    for (options, replies, line), (status, answers, heard, told) in concurrent.futures.ThreadPoolExecutor(13).map(
+            found, MISTAKES):
+        want((line, status, answers, len(heard)), (line, 4, ["end"], 1))
+        want([it for it in told.splitlines() if it.startswith("error: ")], [f"error: {line}"])
+
+
+def test_serial_a_command_that_speaks_to_no_link_is_told(folder):
+    interface = Interface([[b"N\r"]])
+    words = [SERIAL, interface.device, "--", "echo", "item 1 order 1 unit 5"]
+    ended = subprocess.run(words, capture_output=True, text=True, timeout=9)
+    interface.close()
+    want((ended.returncode, ended.stderr), (1, "error: the command's line item 1 order 1 u isn't four upper-case"
+                                               " hexadecimal digits and a line feed, as of drive, read, verify and scan\n"))
+
+
+def test_serial_hands_on_what_the_command_names(folder):
+    interface = Interface([])
+    want_named_descriptors(SERIAL, [interface.device])
+    interface.close()

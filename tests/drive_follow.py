@@ -33,12 +33,13 @@ from drive_desk import (
     settings,
     want,
 )
-from drive_report import UNTOLD, blank_bus, kept, lines_of, reporting, unkept
+from drive_report import NOTHING, UNTOLD, blank_bus, kept, lines_of, reporting, unkept
 from drive_units import BLANK, SCENES, many_orders
 from driven import HEADER, PATIENCE, Ended, Following, groups_of, simulated_link
 
 LINE = json.dumps(ABSENT[0])
 TAKEN = "reply 1 taken\n" + KEPT_SILENT
+READY = "ready\n"
 MOST_LINE = 16384
 EIO = "input/output error"
 
@@ -87,6 +88,7 @@ class Live:
         self.answering = threading.Thread(target=self.answer, args=(bus,), daemon=True)
         self.answering.start()
         self.pipe = writer_of(desk.orders)
+        want(self.told(1), READY)
 
     def answer(self, bus):
         """Answer each frame until there are no more."""
@@ -123,34 +125,54 @@ class Live:
 def test_orders_line_by_line(folder):
     second = {"order": 2, "unit": 9, "gtin": GTIN}
     desk = following(folder, [*ABSENT, *ABSENT, second, *ABSENT])
-    told = TAKEN + KEPT_SILENT + "reply 2 taken\nreply 2 kept 3 Silent\n" + KEPT_SILENT
+    told = READY + TAKEN + KEPT_SILENT + "reply 2 taken\nreply 2 kept 3 Silent\n" + KEPT_SILENT
     want(desk.give(SILENCE * 2), Ended(0, ABSENT_FRAMES * 2, told))
     want(desk.held(), ABSENT_JOURNAL + absent_records(2))
-    want(desk.give(b""), Ended(0, b"", KEPT_SILENT * 2 + "reply 2 kept 3 Silent\n" + KEPT_SILENT))
+    want(desk.give(b""), Ended(0, b"", READY + KEPT_SILENT * 2 + "reply 2 kept 3 Silent\n" + KEPT_SILENT))
     desk.write_orders(f'{{"order":1,"unit":10,"gtin":"{GTIN}"}}\n')
-    want(desk.give(b""), Ended(0, b"", "reply 1 reused\n"))
+    want(desk.give(b""), Ended(0, b"", READY + "reply 1 reused\n"))
 
 
 def test_lines_as_they_may_stand(folder):
     for text in (LINE, LINE + "\n", LINE + "\r\n", "\n\r\n" + LINE + "\n\n", " \t\r\n\t" + LINE + " \t",
                  "\n" * 5000 + LINE):
         desk = following(folder, text)
-        want((text, desk.give(SILENCE)), (text, Ended(0, ABSENT_FRAMES, TAKEN)))
+        want((text, desk.give(SILENCE)), (text, Ended(0, ABSENT_FRAMES, READY + TAKEN)))
         want(desk.held(), ABSENT_JOURNAL)
     for text in ("", "\n", "\r\n \t\n", " "):
-        want((text, following(folder, text).give(b"")), (text, Ended(0, b"", "")))
+        want((text, following(folder, text).give(b"")), (text, Ended(0, b"", READY)))
 
 
 def test_an_end_in_mid_line(folder):
     for text, line in [(LINE + "\n" + LINE[:-1], "item 2 fault 11 Json"), (LINE + "\n\n{", "item 3 fault 11 Json"),
                        (LINE + "\n{}", "item 2 fault 9 Shape")]:
-        want((text, following(folder, text).give(SILENCE)), (text, Ended(1, ABSENT_FRAMES, TAKEN + line + "\n")))
+        told = READY + TAKEN + line + "\n"
+        want((text, following(folder, text).give(SILENCE)), (text, Ended(1, ABSENT_FRAMES, told)))
 
 
 def test_what_an_unfinished_order_still_asks_for(folder):
     desk = following(folder, "", ABSENT_BEGAN)
-    want(desk.give(SILENCE), Ended(0, ABSENT_FRAMES, KEPT_SILENT))
+    want(desk.give(SILENCE), Ended(0, ABSENT_FRAMES, KEPT_SILENT + READY))
     want(desk.held(), ABSENT_JOURNAL)
+
+
+def test_ready_before_a_byte_is_read(folder):
+    desk = piped(folder, ABSENT_BEGAN)
+    pipe = os.open(desk.orders, os.O_RDWR)
+    os.write(pipe, LINE.encode() + b"\n")
+    # Its link breaks over what the journal still asks for: it isn't ready, and nothing is read.
+    want(desk.give(b""), Ended(1, ABSENT_FRAMES[:5], "drive fault 4 End\n"))
+    want(waiting_in(pipe), len(LINE) + 1)
+    # It can't say that it is: nothing is read either.
+    ended = desk.give(SILENCE, shim(desk, f"write err 2 fail {errno.ENOSPC}"))
+    want((ended.status, ended.sent, ended.told), (2, ABSENT_FRAMES, KEPT_SILENT))
+    want((waiting_in(pipe), desk.held()), (len(LINE) + 1, ABSENT_JOURNAL))
+    command, last = desk.start(), time.monotonic() + PATIENCE
+    while waiting_in(pipe):
+        assert time.monotonic() < last, "the stream isn't read"
+        time.sleep(0.01)
+    os.close(pipe)
+    want(command.communicate(None, PATIENCE), (b"", (READY + KEPT_SILENT).encode()))
 
 
 def order_with(**fields):
@@ -158,32 +180,41 @@ def order_with(**fields):
     return json.dumps({"order": 7, "unit": 9, **fields})
 
 
+# Lines that are refused, each with its fault, and behind `order` the number of its order where it has one.
 REFUSED = [
-    (json.dumps({"order": 7, "unit": 64, "gtin": GTIN}), "1 Unit"), (order_with(gtin=4006381333931), "2 Kind"),
-    (order_with(year=True), "2 Kind"), (order_with(year=100), "3 Range"), (order_with(gtin="1"), "4 Gtin"),
-    (order_with(colour=""), "5 Text"), (order_with(luminaire="x" * 61), "5 Text"),
-    (order_with(min_voltage=241, max_voltage=240), "7 Voltage"), (order_with(), "8 Empty"), ("{}", "9 Shape"),
-    ("[]", "9 Shape"), ("null", "9 Shape"), ("5", "9 Shape"), (f"[{LINE}]", "9 Shape"),
-    (order_with(moment=5), "10 Key"), (order_with(colr="x"), "10 Key"), ("{", "11 Json"), ("x", "11 Json"),
-    (b"\xff", "11 Json"), (b"\xef\xbb\xbf{}", "11 Json"), (LINE + LINE, "11 Json"), ("\0", "11 Json"),
-    (json.dumps({"submit": ABSENT[0], "moment": -1}), "12 Document"),
-    (json.dumps({"submit": ABSENT[0], "moment": "5"}), "12 Document"),
-    (json.dumps({"submit": ABSENT[0], "steps": 1}), "12 Document"),
-    (json.dumps({"submit": {}}), "9 Shape"), (json.dumps({"submit": {"order": 7, "unit": 9}, "moment": 1}), "8 Empty"),
-    ("x" * (MOST_LINE + 1), "13 TooBig"), (" " * MOST_LINE + "{}", "13 TooBig"), ("{}" * 100000, "13 TooBig"),
+    (json.dumps({"order": 7, "unit": 64, "gtin": GTIN}), 7, "1 Unit"), (order_with(gtin=4006381333931), 7, "2 Kind"),
+    (order_with(year=True), 7, "2 Kind"), (order_with(year=100), 7, "3 Range"), (order_with(gtin="1"), 7, "4 Gtin"),
+    (order_with(colour=""), 7, "5 Text"), (order_with(luminaire="x" * 61), 7, "5 Text"),
+    (order_with(min_voltage=241, max_voltage=240), 7, "7 Voltage"), (order_with(), 7, "8 Empty"),
+    ("{}", None, "9 Shape"), ("[]", None, "9 Shape"), ("null", None, "9 Shape"), ("5", None, "9 Shape"),
+    (f"[{LINE}]", None, "9 Shape"), ('{"order": 0}', 0, "9 Shape"), ('{"unit": 9, "year": 24}', None, "9 Shape"),
+    ('{"order": 18446744073709551615, "unit": "9"}', 18446744073709551615, "9 Shape"),
+    ('{"order": 18446744073709551616, "unit": 9}', None, "9 Shape"), ('{"order": "7", "unit": 9}', None, "9 Shape"),
+    ('{"order": -7, "unit": 9}', None, "9 Shape"), ('{"order": 7.0, "unit": 9}', None, "9 Shape"),
+    (order_with(moment=5), 7, "10 Key"), (order_with(colr="x"), 7, "10 Key"), ("{", None, "11 Json"),
+    ("x", None, "11 Json"), (b"\xff", None, "11 Json"), (b"\xef\xbb\xbf{}", None, "11 Json"),
+    (LINE + LINE, None, "11 Json"), ("\0", None, "11 Json"), (order_with(year=24)[:-1], None, "11 Json"),
+    (json.dumps({"submit": ABSENT[0], "moment": -1}), 1, "12 Document"),
+    (json.dumps({"submit": ABSENT[0], "moment": "5"}), 1, "12 Document"),
+    (json.dumps({"order": 8, "submit": ABSENT[0]}), 1, "12 Document"),
+    (json.dumps({"order": 8, "submit": []}), None, "12 Document"),
+    (json.dumps({"submit": {}}), None, "9 Shape"),
+    (json.dumps({"submit": {"order": 7, "unit": 9}, "moment": 1}), 7, "8 Empty"),
+    ("x" * (MOST_LINE + 1), None, "13 TooBig"), (" " * MOST_LINE + order_with(year=24), None, "13 TooBig"),
+    ("{}" * 100000, None, "13 TooBig"),
 ]
 
 
 def test_refused_lines(folder):
     stream, told = b"", ""
-    for count, (line, fault) in enumerate(REFUSED):
+    for count, (line, number, fault) in enumerate(REFUSED):
         stream += b"\n" + (line if isinstance(line, bytes) else line.encode()) + b"\n"
-        told += f"item {2 * count + 2} fault {fault}\n"
-    want(following(folder, stream).give(b""), Ended(1, b"", told))
+        told += f"item {2 * count + 2}{'' if number is None else f' order {number}'} fault {fault}\n"
+    want(following(folder, stream).give(b""), Ended(1, b"", READY + told))
     desk = following(folder, LINE.encode() + b"\n" + stream + LINE.encode())
     shifted = told.splitlines()
     shifted = "".join(f"item {int(it.split()[1]) + 1} {it.split(' ', 2)[2]}\n" for it in shifted)
-    want(desk.give(SILENCE), Ended(1, ABSENT_FRAMES, TAKEN + shifted + KEPT_SILENT))
+    want(desk.give(SILENCE), Ended(1, ABSENT_FRAMES, READY + TAKEN + shifted + KEPT_SILENT))
     want(desk.held(), ABSENT_JOURNAL)
 
 
@@ -193,9 +224,9 @@ def test_the_longest_line(folder):
         for end in ("\n", ""):
             desk = following(folder, LINE + " " * (length - len(LINE)) + end)
             ended = desk.give(SILENCE)
-            want((length, ended.status, ended.told), (length, status, told))
+            want((length, ended.status, ended.told), (length, status, READY + told))
     spaces = "\n".join(" " * length for length in (MOST_LINE, MOST_LINE + 1, 100000))
-    want(following(folder, spaces).give(b""), Ended(0, b"", ""))
+    want(following(folder, spaces).give(b""), Ended(0, b"", READY))
 
 
 def test_moments_of_lines(folder):
@@ -204,7 +235,7 @@ def test_moments_of_lines(folder):
                          (json.dumps({"moment": 2 ** 64 - 1, "submit": ABSENT[0]}), 2 ** 64 - 1)]:
         desk = following(folder, line + "\n" + LINE)
         desk.options = ["--moment", "5"]
-        want((line, desk.give(SILENCE)), (line, Ended(0, ABSENT_FRAMES, TAKEN + KEPT_SILENT)))
+        want((line, desk.give(SILENCE)), (line, Ended(0, ABSENT_FRAMES, READY + TAKEN + KEPT_SILENT)))
         want((line, desk.held()), (line, HEADER + absent_records(1, moment)))
 
 
@@ -257,7 +288,7 @@ def test_no_line_is_read_before_its_turn(folder):
     want(driven.line_from(command.stdout), b"C301\n")
     want(waiting_in(pipe), len(second))
     sent, told = command.communicate(b"--\n" * 3, PATIENCE)
-    want((command.returncode, sent, told), (1, ABSENT_FRAMES[5:20], b"reply 1 taken\ndrive fault 4 End\n"))
+    want((command.returncode, sent, told), (1, ABSENT_FRAMES[5:20], b"ready\nreply 1 taken\ndrive fault 4 End\n"))
     want((waiting_in(pipe), desk.held()), (len(second), ABSENT_BEGAN))
     os.close(pipe)
 
@@ -279,7 +310,7 @@ def test_a_pipe_over_the_simulated_adapter(folder):
         pipe = writer_of(desk.orders)
         os.write(pipe, json.dumps(PRESENT[0]).encode() + b"\n")
         os.close(pipe)
-        want((*command.communicate(timeout=PATIENCE), command.returncode), ("", told, 0))
+        want((*command.communicate(timeout=PATIENCE), command.returncode), ("", READY + told, 0))
     want(bytes.fromhex((folder / "unit_5.hex").read_text()), BLANK[:3] + GTIN_BYTES + BLANK[9:])
 
 
@@ -292,6 +323,7 @@ def test_a_stream_that_fails(folder):
     places = {1: "", 3: "", len(LINE): "", len(LINE) + 2: TAKEN, len(LINE) + 5: whole[:len(TAKEN) + 21],
               len(stream) + 1: whole}
     for number, told in places.items():
+        told = READY + told
         desk = following(folder, stream)
         ended = desk.give(SILENCE, shim(desk, f"read orders {number} fail {errno.EIO}"))
         told += f"error: the file can't be used: {desk.orders}: "
@@ -310,7 +342,7 @@ def test_a_stream_that_is_none(folder):
     desk.orders.mkdir()
     ended = desk.give(SILENCE)
     want(last_line(ended), FAULT_21)
-    assert ended.told.startswith(f"error: the file can't be used: {desk.orders}: "), ended
+    assert ended.told.startswith(f"{READY}error: the file can't be used: {desk.orders}: "), ended
     want(desk.held(), HEADER)
     desk.orders.rmdir()
     desk.orders = "-"
@@ -330,11 +362,11 @@ def test_interrupted_reads_change_nothing(folder):
     for number in range(1, len(stream) + 2):
         desk = following(folder, stream)
         ended = desk.give(SILENCE, shim(desk, f"read orders {number} fail {errno.EINTR}"))
-        want((number, ended), (number, Ended(1, ABSENT_FRAMES, "item 1 fault 9 Shape\n" + TAKEN)))
+        want((number, ended), (number, Ended(1, ABSENT_FRAMES, READY + "item 1 fault 9 Shape\n" + TAKEN)))
 
 
 def test_a_standard_error_that_fails(folder):
-    for number in (1, 2, 3):
+    for number in (1, 2, 3, 4):
         desk = following(folder, "{}\n" + LINE + "\n")
         ended = desk.give(SILENCE, shim(desk, f"write err {number} fail {errno.ENOSPC}"))
         want((number, ended.status), (number, 2))
@@ -345,8 +377,8 @@ def test_a_standard_error_that_fails(folder):
 
 @parts(2)
 def test_each_allocation_refused(folder, part, _):
-    shape, memory = "item 1 fault 9 Shape\n", "item {} fault 20 Memory\n"
-    whole = {shape + TAKEN, memory.format(1) + TAKEN, shape + memory.format(2)}
+    shape, memory = READY + "item 1 fault 9 Shape\n", "item {} fault 20 Memory\n"
+    whole = {shape + TAKEN, READY + memory.format(1) + TAKEN, shape + memory.format(2)}
     ran_out = 0
     for number in range(1 + part, 100000, 2):
         desk = following(folder, "{}\n" + LINE + "\n")
@@ -384,13 +416,33 @@ def test_reports_of_a_stream(folder):
         (PRESENT, None, blank_bus(), 1, [kept(1, 5, 3, "now", 16, 8)]),
         ([*PRESENT, other], None, blank_bus(5), 1, [kept(1, 5, 0, "now", 112, 0), unkept(1, 5, "reused", moment=0)]),
         ([], ABSENT_BEGAN, blank_bus(), 1, [kept(1, 9, 3, "now", 16, 8)]),
-        ([], None, blank_bus(), 0, []),
+        ([], None, blank_bus(), 1, []),
         ([{}, *PRESENT], None, blank_bus(5), 1, [kept(1, 5, 0, "now", 112, 0)]),
     ]
     for orders, journal, bus, status, wanted in cases:
         desk = following(folder, orders, journal)
         path = reporting(desk, "--require-done")
+        path.unlink(missing_ok=True)
         want((orders, desk.over(bus).status, lines_of(path)), (orders, status, wanted))
+
+
+def test_streams_without_an_order(folder):
+    for text, told in [("", NOTHING), ("\n \r\n", NOTHING), ("{}\n", "item 1 fault 9 Shape\n")]:
+        for options in (["--require-done"], ["--require-now"], ["--require-now", "--require-done"]):
+            desk = following(folder, text, DONE_JOURNAL)
+            desk.options = options
+            want((text, options, desk.give(b"")), (text, options, Ended(1, b"", READY + told)))
+        desk.options = []
+        told = told.replace(NOTHING, "")
+        want((text, desk.give(b"")), (text, Ended(1 if told else 0, b"", READY + told)))
+
+
+def test_orders_that_the_stream_has_to_do(folder):
+    for orders, status in [(PRESENT, 0), ([*PRESENT, *PRESENT], 1)]:
+        desk = following(folder, orders)
+        desk.journal.unlink(missing_ok=True)
+        desk.options = ["--require-now"]
+        want((orders, desk.over(blank_bus(5)).status), (orders, status))
 
 
 def test_a_report_grows_line_by_line(folder):
@@ -409,7 +461,8 @@ def test_a_report_grows_line_by_line(folder):
 def test_a_report_that_can_not_be_written(folder):
     desk = following(folder, ABSENT)
     desk.options = ["--report", "/dev/full"]
-    want(desk.give(SILENCE), Ended(2, ABSENT_FRAMES, TAKEN + UNTOLD.format("/dev/full", "no storage space")))
+    told = READY + TAKEN + UNTOLD.format("/dev/full", "no storage space")
+    want(desk.give(SILENCE), Ended(2, ABSENT_FRAMES, told))
 
 
 def wait_for(told, line):

@@ -66,7 +66,7 @@ def test_an_order_of_an_older_journal_is_not_carried_out_again(folder):
     for older in (DONE_JOURNAL, OLD_DONE_JOURNAL):
         for desk in desks(folder, PRESENT * 2):
             behind(desk, older)
-            want((older, desk.give(b"")), (older, Ended(0, b"", KEPT_DONE * 2)))
+            want((older, desk.give(b"")), (older, Ended(0, b"", desk.ready + KEPT_DONE * 2)))
             want(desk.held(), HEADER)
 
 
@@ -74,25 +74,26 @@ def test_a_number_of_an_older_journal_with_other_contents(folder):
     for orders in ([{"order": 1, "unit": 6, "gtin": GTIN}], [{"order": 1, "unit": 5, "year": 24}], ABSENT):
         for desk in desks(folder, orders):
             behind(desk, DONE_JOURNAL)
-            want(desk.give(b""), Ended(0, b"", "reply 1 reused\n"))
+            want(desk.give(b""), Ended(0, b"", desk.ready + "reply 1 reused\n"))
             want(desk.held(), HEADER)
 
 
 def test_all_else_goes_to_the_journal_alone(folder):
     for desk in desks(folder, [*PRESENT, *SECOND, *PRESENT]):
         older, = behind(desk, DONE_JOURNAL)
-        want(desk.give(SILENCE), Ended(0, ABSENT_FRAMES, KEPT_DONE + SECOND_TOLD + KEPT_DONE))
+        want(desk.give(SILENCE), Ended(0, ABSENT_FRAMES, desk.ready + KEPT_DONE + SECOND_TOLD + KEPT_DONE))
         want((desk.held(), older.read_bytes()), (HEADER + absent_records(2), DONE_JOURNAL))
         # By itself the journal is one, and knows nothing of the older one.
         desk.options = []
         desk.write_orders([*SECOND, *ABSENT])
-        want(desk.give(SILENCE), Ended(0, ABSENT_FRAMES, "reply 2 kept 3 Silent\nreply 1 taken\n" + KEPT_SILENT))
+        told = desk.ready + "reply 2 kept 3 Silent\nreply 1 taken\n" + KEPT_SILENT
+        want(desk.give(SILENCE), Ended(0, ABSENT_FRAMES, told))
 
 
 def test_several_older_journals(folder):
     for desk in desks(folder, [*PRESENT, *SECOND, {"order": 3, "unit": 9, "gtin": GTIN}]):
         behind(desk, DONE_JOURNAL, HEADER, b"", HEADER + absent_records(2))
-        told = KEPT_DONE + "reply 2 kept 3 Silent\nreply 3 taken\nreply 3 kept 3 Silent\n"
+        told = desk.ready + KEPT_DONE + "reply 2 kept 3 Silent\nreply 3 taken\nreply 3 kept 3 Silent\n"
         want(desk.give(SILENCE), Ended(0, ABSENT_FRAMES, told))
         want(desk.held(), HEADER + absent_records(3))
 
@@ -100,7 +101,7 @@ def test_several_older_journals(folder):
 def test_what_the_journal_still_asks_for_is_done_first(folder):
     for desk in desks(folder, PRESENT, HEADER + absent_records(2)[:-2]):
         behind(desk, DONE_JOURNAL)
-        want(desk.give(SILENCE), Ended(0, ABSENT_FRAMES, "reply 2 kept 3 Silent\n" + KEPT_DONE))
+        want(desk.give(SILENCE), Ended(0, ABSENT_FRAMES, "reply 2 kept 3 Silent\n" + desk.ready + KEPT_DONE))
         want(desk.held(), HEADER + absent_records(2))
 
 
@@ -122,6 +123,7 @@ def test_reports_of_orders_that_older_journals_have(folder):
     older = HEADER + absent_records(1, moment)
     for desk in desks(folder, [*ABSENT, *PRESENT, *SECOND]):
         path = reporting(desk, "--require-done", "--moment", "7")
+        path.unlink(missing_ok=True)
         desk.options += behind_words(desk, older)
         want(desk.give(SILENCE).status, 1)
         want(lines_of(path), [kept(1, 9, 3, "before", 0, 0, moment), unkept(1, 5, "reused", moment=moment),
@@ -142,11 +144,11 @@ def test_full_journals(folder):
     told = f"reply 10 kept 3 Silent\n{SECOND_TOLD}reply {FULL + 9} reused\n"
     for desk in desks(folder, [first, *SECOND, last]):
         behind(desk, full)
-        want(desk.give(SILENCE), Ended(0, ABSENT_FRAMES, told))
+        want(desk.give(SILENCE), Ended(0, ABSENT_FRAMES, desk.ready + told))
         want(desk.held(), HEADER + absent_records(2))
     for desk in desks(folder, [*SECOND, *PRESENT], full):
         behind(desk, DONE_JOURNAL)
-        want(desk.give(b""), Ended(0, b"", "reply 2 full\n" + KEPT_DONE))
+        want(desk.give(b""), Ended(0, b"", desk.ready + "reply 2 full\n" + KEPT_DONE))
         want(desk.held(), full)
 
 
@@ -237,7 +239,7 @@ def test_an_older_journal_that_a_drive_has_open(folder):
             ended = desk.give(b"")
         want((last_line(ended), desk.journal.exists()), (FAULT_21, False))
         assert "in use" in ended.told, ended
-        want(desk.give(b"").told, KEPT_DONE)
+        want(desk.give(b"").told, desk.ready + KEPT_DONE)
 
 
 def test_all_older_journals_are_opened_before_one_is_read(folder):

@@ -1,6 +1,5 @@
-"""Tests of `--report` and `--require-done`: what is told of orders for whoever prints a label."""
+"""Tests of `--report`, `--require-done` and `--require-now`: what is told of orders for whoever prints a label."""
 
-import fcntl
 import json
 
 import driven
@@ -9,11 +8,7 @@ from drive_desk import (
     ABSENT_BEGAN,
     ABSENT_JOURNAL,
     DONE_JOURNAL,
-    DONE_TOLD,
-    KEPT_SILENT,
-    OLD_DONE_JOURNAL,
     PRESENT,
-    SILENCE,
     absent_records,
     desk_of,
     last_line,
@@ -23,9 +18,8 @@ from drive_units import BLANK, LEFT, SCENES
 from driven import HEADER, NAMES, Desk, Ended, simulated_link
 
 UNTOLD = "error: the report can't be written: {}: {}\n"
-FOREIGN = "what is there is no report"
-TAKEN = "the command has this file for something else"
 DONE = "reply 1 kept 0 Done\n"
+NOTHING = "error: nothing was done: ORDERS has no orders\n"
 
 
 class Verifying(Desk):
@@ -43,12 +37,17 @@ def reporting(desk, *options):
     return path
 
 
-def lines_of(path):
-    """Give the values of a report, whose lines are in their shortest form with their keys by rising name."""
+def text_of(*values):
+    """Give the lines of these values, in their shortest form with their keys by rising name."""
+    return "".join(json.dumps(value, sort_keys=True, separators=(",", ":")) + "\n" for value in values)
+
+
+def lines_of(path, run=1):
+    """Give the values of a run in a report, whose lines are in their form, without the number of the run."""
     text = path.read_text()
     values = [json.loads(line) for line in text.splitlines()]
-    want(text, "".join(json.dumps(value, sort_keys=True, separators=(",", ":")) + "\n" for value in values))
-    return values
+    want(text, text_of(*values))
+    return [{key: value[key] for key in value if key != "run"} for value in values if value["run"] == run]
 
 
 def kept(number, unit, code, ended, frames, misses, moment=0):
@@ -82,17 +81,17 @@ def test_reports_of_whole_runs(folder):
         want(sum(it["frames"] for it in found), len(ended.sent) // 5)
         reporting(desk, "--moment", "9")
         want(desk.over(bus).sent, b"")
-        want(lines_of(path), [kept(number, unit, code, "before", 0, 0, 7) for number, unit, code, *_ in wanted])
+        want(lines_of(path, 2), [kept(number, unit, code, "before", 0, 0, 7) for number, unit, code, *_ in wanted])
 
 
 def test_frames_and_misses(folder):
     desk = desk_of(folder, PRESENT)
     path = reporting(desk)
     # A try of the first read begins with two frames, of which the second asks DTR1 back.
-    for lost, frames, misses in [(set(), 112, 0), ({2}, 114, 1), ({2, 4}, 116, 2)]:
+    for run, (lost, frames, misses) in enumerate([(set(), 112, 0), ({2}, 114, 1), ({2, 4}, 116, 2)], 1):
         desk.journal.unlink(missing_ok=True)
         want(desk.over(blank_bus(5, lost_answers=lost)).status, 0)
-        want((lost, lines_of(path)), (lost, [kept(1, 5, 0, "now", frames, misses)]))
+        want((lost, lines_of(path, run)), (lost, [kept(1, 5, 0, "now", frames, misses)]))
 
 
 def test_orders_that_have_to_be_done(folder):
@@ -108,7 +107,7 @@ def test_orders_that_have_to_be_done(folder):
         (PRESENT + [{"order": 2, "unit": 9, "year": 24}], None, blank_bus(5), 1,
          [kept(1, 5, 0, "now", 112, 0), kept(2, 9, 3, "now", 16, 8)]),
         ([], ABSENT_BEGAN, blank_bus(), 1, [kept(1, 9, 3, "now", 16, 8)]),
-        ([], None, blank_bus(), 0, []),
+        ([], None, blank_bus(), 1, []),
     ]
     for orders, journal, bus, status, wanted in cases:
         desk = desk_of(folder, orders)
@@ -116,7 +115,50 @@ def test_orders_that_have_to_be_done(folder):
         if journal is not None:
             desk.journal.write_bytes(journal)
         path = reporting(desk, "--require-done")
+        path.unlink(missing_ok=True)
         want((orders, desk.over(bus).status, lines_of(path)), (orders, status, wanted))
+
+
+def test_orders_that_the_drive_has_to_do(folder):
+    other = [{"order": 1, "unit": 5, "year": 24}]
+    second = [{"order": 2, "unit": 5, "year": 24}]
+    begun = DONE_JOURNAL[:-4]
+    # Whether each is done, and whether each was by this drive.
+    cases = [
+        ("done now", PRESENT, None, (5,), 0, 0),
+        ("done before", PRESENT, DONE_JOURNAL, (5,), 0, 1),
+        ("one before and one now", PRESENT + second, DONE_JOURNAL, (5,), 0, 1),
+        ("twice in ORDERS", PRESENT + PRESENT, None, (5,), 0, 1),
+        ("resumed", [], begun, (5,), 0, 0),
+        ("resumed and come again", PRESENT, begun, (5,), 0, 0),
+        ("resumed and come twice", PRESENT + PRESENT, begun, (5,), 0, 0),
+        ("silent", PRESENT, None, (), 1, 1),
+        ("reused", other, DONE_JOURNAL, (5,), 1, 1),
+        ("nothing", [], None, (), 1, 1),
+        ("nothing behind an order of before", [], DONE_JOURNAL, (), 1, 1),
+    ]
+    for name, orders, journal, addresses, done, now in cases:
+        for options, status in [([], 0), (["--require-done"], done), (["--require-now"], now),
+                                (["--require-now", "--require-done"], now)]:
+            desk = desk_of(folder, orders)
+            desk.journal.unlink(missing_ok=True)
+            if journal is not None:
+                desk.journal.write_bytes(journal)
+            desk.options = options
+            ended = desk.over(blank_bus(*addresses))
+            told = NOTHING if options and name.startswith("nothing") else ""
+            want((name, options, ended.status, NOTHING in ended.told), (name, options, status, told != ""))
+            if not orders and journal != begun:
+                want((name, options, ended), (name, options, Ended(status, b"", told)))
+
+
+def test_nothing_done_where_that_can_not_be_told(folder):
+    desk = desk_of(folder, [])
+    for desk in (desk, Verifying(desk.program, folder, [])):
+        desk.options = ["--require-now"] if type(desk) is Desk else []
+        with open("/dev/full", "wb") as full:
+            want(desk.give(b"", stderr=full), Ended(2, b"", ""))
+        want(desk.give(b""), Ended(1, b"", NOTHING))
 
 
 def test_a_left_unit_and_the_order_that_it_blocks(folder):
@@ -126,148 +168,38 @@ def test_a_left_unit_and_the_order_that_it_blocks(folder):
     desk.write_orders(LEFT.orders[1:])
     # The left unit is closed by accesses that miss in each of their eight tries.
     ended = desk.over(blank_bus(6))
-    (line,) = lines_of(path)
+    (line,) = lines_of(path, 2)
     want((ended.status, line), (1, unkept(22, 6, "blocked 5", len(ended.sent) // 5, line["misses"])))
     assert line["misses"] in (8, 16), line
     want(desk.over(blank_bus(5, 6)).status, 0)
-    (line,) = lines_of(path)
+    (line,) = lines_of(path, 3)
     want((line["order"], line["code"], line["ended"], line["misses"]), (22, 0, "now", 0))
 
 
 def test_a_kill_and_a_restart(folder):
-    for frame in (1, 17, 50, 112):
+    for run, frame in enumerate((1, 17, 50, 112), 1):
         desk, bus = desk_of(folder, PRESENT), blank_bus(5)
         desk.journal.unlink(missing_ok=True)
         path = reporting(desk, "--moment", "7")
         desk.over(bus, (frame, "carried"))
-        want((frame, lines_of(path)), (frame, []))
+        want((frame, lines_of(path, run)), (frame, []))
         reporting(desk, "--moment", "8", "--require-done")
         ended = desk.over(bus)
-        first, second = lines_of(path)
+        first, second = lines_of(path, run)
         want((frame, ended.status, second), (frame, 0, kept(1, 5, 0, "now", 0, 0, 7)))
         want((frame, first), (frame, kept(1, 5, 0, "now", len(ended.sent) // 5, first["misses"], 7)))
 
 
-def test_reports_that_can_not_be_written(folder):
-    # Of the folder and of the file in one that isn't there only the beginning is known.
-    places = {"/dev/full": "no storage space\n", folder: "", folder / "none" / "report": ""}
-    for place, cause in places.items():
-        for orders, answers, told in [(PRESENT, None, DONE_TOLD), (ABSENT, b"", "reply 1 taken\ndrive fault 4 End\n")]:
-            desk = desk_of(folder, orders)
-            desk.journal.unlink(missing_ok=True)
-            desk.options = ["--report", place]
-            ended = desk.over(blank_bus(5)) if answers is None else desk.give(answers)
-            untold = f"error: the report can't be written: {place}: {cause}"
-            want((place, ended.status, ended.told[:len(told + untold)]), (place, 2, told + untold))
-            want((place, ended.told[len(told):].count("\n")), (place, 1))
-    want(desk.held(), ABSENT_BEGAN)
-
-
-def test_files_that_are_no_report(folder):
-    desk = desk_of(folder, PRESENT, DONE_JOURNAL)
-    report = reporting(desk)
-    for text in ("", '{"code":0}\n' * 1000, '{"answer":"--"}\n', '{"byte":1}'):
-        report.write_text(text)
-        want((desk.over(blank_bus(5)).status, lines_of(report)), (0, [kept(1, 5, 0, "before", 0, 0)]))
-    # Orders line by line, a scenario, a bank, and what only begins as a report does.
-    for text in ("{", '{"order":1}\n', '{"submit":{}}\n', '{"limit":1}', "77 FF\n", '{"cod', "\n", "\0"):
-        report.write_text(text)
-        want((text, desk.over(blank_bus(5))), (text, Ended(2, b"", DONE + UNTOLD.format(report, FOREIGN))))
-        want(report.read_text(), text)
-
-
-def test_files_of_the_command_are_no_report(folder):
-    desk = desk_of(folder, PRESENT, DONE_JOURNAL)
-    older, other = folder / "older", folder / "other"
-    older.write_bytes(HEADER + absent_records(7))
-    other.hardlink_to(desk.journal)
-    for place in (desk.journal, desk.orders, older, other):
-        held = place.read_bytes()
-        desk.options = ["--older", older, "--report", place]
-        want((place, desk.over(blank_bus(5))), (place, Ended(2, b"", DONE + UNTOLD.format(place, TAKEN))))
-        want(place.read_bytes(), held)
-    for place in (folder / "link", folder / "to_none"):
-        place.symlink_to(older if place.name == "link" else folder / "none")
-        desk.options = ["--report", place]
-        want(desk.over(blank_bus(5)), Ended(2, b"", DONE + UNTOLD.format(place, "it is a link: name the file itself")))
-    assert not (folder / "none").exists()
-    desk.options = ["--report", "-"]
-    want(desk.over(blank_bus(5)), Ended(2, b"", DONE + UNTOLD.format("-", "it is standard output, where the frames go")))
-    want((desk.held(), older.read_bytes()), (DONE_JOURNAL, HEADER + absent_records(7)))
-    scenario = Verifying(desk.program, folder, PRESENT)
-    scenario.options = ["--report", scenario.orders]
-    held = scenario.orders.read_bytes()
-    want(last_line(scenario.over(blank_bus(5)))[2], UNTOLD.format(scenario.orders, TAKEN).rstrip("\n"))
-    want(scenario.orders.read_bytes(), held)
-
-
-def test_a_report_never_takes_the_place_of_a_journal(folder):
-    for start in (None, b"", OLD_DONE_JOURNAL, DONE_JOURNAL):
-        for name in ("journal.new", "journal", "./journal", "./journal.new"):
-            desk = desk_of(folder, PRESENT)
-            for left in (desk.journal, desk.journal.with_name(desk.journal.name + ".new")):
-                left.unlink(missing_ok=True)
-            if start is not None:
-                desk.journal.write_bytes(start)
-            place = f"{desk.journal.parent}/{name.replace('journal', desk.journal.name)}"
-            desk.options = ["--report", place]
-            ended = desk.over(blank_bus(5))
-            want((start, name, last_line(ended)[2]), (start, name, UNTOLD.format(place, TAKEN).rstrip("\n")))
-            want((start, desk.held()[:4]), (start, HEADER[:4]))
-            desk.options = []
-            want(desk.over(blank_bus(5)).told, DONE)
-
-
-def test_a_report_in_the_way_of_a_journal_behind_a_link(folder):
-    desk = desk_of(folder, PRESENT)
-    real = folder / "real"
-    real.mkdir()
-    (real / "journal").write_bytes(OLD_DONE_JOURNAL)
-    desk.journal.unlink(missing_ok=True)
-    desk.journal.symlink_to(real / "journal")
-    desk.options = ["--report", real / "journal.new"]
-    ended = desk.over(blank_bus(5))
-    want((ended.status, ended.sent, last_line(ended)[2]), (2, b"", "fault 21 File"))
-    want((real / "journal").read_bytes(), OLD_DONE_JOURNAL)
-    desk.options = []
-    want(desk.over(blank_bus(5)).told, DONE)
-
-
-def test_a_report_stays_until_there_is_another(folder):
-    desk = desk_of(folder, PRESENT)
-    desk.journal.unlink(missing_ok=True)
-    path = reporting(desk)
-    want(desk.over(blank_bus(5)).status, 0)
-    held, orders = path.read_bytes(), desk.orders.read_bytes()
-    desk.orders.write_text("[")
-    want((desk.over(blank_bus(5)).status, path.read_bytes()), (1, held))
-    desk.orders.unlink()
-    want((desk.over(blank_bus(5)).status, path.read_bytes()), (2, held))
-    desk.orders.write_bytes(orders)
-    desk.options = [*desk.options, "--older", folder / "none"]
-    want((desk.over(blank_bus(5)).status, path.read_bytes()), (2, held))
-    desk.options = desk.options[:2]
-    with open(desk.journal, "rb") as journal:
-        fcntl.flock(journal, fcntl.LOCK_EX)
-        want((desk.over(blank_bus(5)).status, path.read_bytes()), (2, held))
-    with open(path, "rb") as report:
-        fcntl.flock(report, fcntl.LOCK_EX)
-        want(desk.over(blank_bus(5)), Ended(2, b"", DONE + UNTOLD.format(path, "another command writes it")))
-        want(path.read_bytes(), held)
-    desk.orders.write_text("[]")
-    want((desk.over(blank_bus(5)).status, path.read_bytes()), (0, b""))
-
-
 def test_answers_that_break_a_drive_off(folder):
-    for answers, fault, frame, answer in [
+    for run, (answers, fault, frame, answer) in enumerate([
             (b"zz\n", "3 Line", "C301", "zz"), (b"--\n\x00\\\xff\r\n", "3 Line", "139C", r"\x00\x5C\xFF\x0D"),
             (b"", "4 End", "C301", ""), (b"--\n0", "4 End", "139C", "0"),
-            (b"1234567890\n", "6 TooLong", "C301", "123456789")]:
+            (b"1234567890\n", "6 TooLong", "C301", "123456789")], 1):
         desk = desk_of(folder, ABSENT, b"")
         path = reporting(desk)
         want(desk.give(answers).told, f"reply 1 taken\ndrive fault {fault}\n")
         number, name = fault.split()
-        want(lines_of(path), [{"answer": answer, "fault": int(number), "frame": frame, "name": name}])
+        want(lines_of(path, run), [{"answer": answer, "fault": int(number), "frame": frame, "name": name}])
 
 
 def test_refused_orders_have_no_report(folder):

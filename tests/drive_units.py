@@ -95,7 +95,7 @@ def finish(desk, scene, bus, codes=None):
     want([int(line.split()[1]) for line in lines], [order["order"] for order in scene.orders])
     if codes is not None:
         want({group.number: group.code for group in groups_of(data)}, codes)
-    want(desk.over(bus), Ended(0, b"", "".join(line + "\n" for line in lines)))
+    want(desk.over(bus), Ended(0, b"", desk.ready + "".join(line + "\n" for line in lines)))
     want(desk.held(), data)
     return ended
 

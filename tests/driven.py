@@ -23,8 +23,10 @@ PATIENCE = 20  # seconds after which a run counts as hanging
 
 
 def load(path):
-    """Import a script without leaving compiled code beside it."""
+    """Import a script, and what stands beside it, without leaving compiled code there."""
     sys.dont_write_bytecode = True
+    if str(path.parent) not in sys.path:
+        sys.path.append(str(path.parent))
     spec = importlib.util.spec_from_file_location(path.stem, path)
     module = importlib.util.module_from_spec(spec)
     spec.loader.exec_module(module)
@@ -44,6 +46,9 @@ class Ended(NamedTuple):
 
 class Desk:
     """A folder with a file of orders and a journal, and runs of the program on both."""
+
+    # What is told before the first order is taken.
+    ready = ""
 
     def __init__(self, program, folder, orders):
         """Write the orders; a text stands as it is, all else as JSON."""
@@ -117,6 +122,8 @@ class Desk:
 
 class Following(Desk):
     """A folder with a stream of orders and a journal, and runs of `drive --follow` on both."""
+
+    ready = "ready\n"
 
     def words(self):
         """Give the command line."""

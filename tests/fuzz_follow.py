@@ -16,12 +16,14 @@ TOO_BIG = b" " * 16384 + b"{}"
 
 
 class Line(NamedTuple):
-    """A line, its order's moment and number where it has one that is accepted, and its fault where it is refused."""
+    """A line, its order's moment and number where it has one that is accepted, and its fault where it is refused, with
+    the number that its order has all the same."""
 
     text: bytes
     moment: int
     number: int | None
     fault: str | None
+    refused: int | None = None
 
 
 def fault_of(run, program, item):
@@ -43,13 +45,20 @@ def line_of(rng, moment, run, program):
     item, value = fuzz_inputs.order(rng), None
     if kind < 0.22:
         value = {"submit": item, **rng.choice(NO_SUBMISSIONS)}
-        return Line(json.dumps(value).encode(), 0, None, fault_of_text(run, program, item) or "12 Document")
+        fault = fault_of_text(run, program, item) or "12 Document"
+        return Line(json.dumps(value).encode(), 0, None, fault, number_of(item, fault))
     if kind < 0.5:
         moment = fuzz_inputs.moment(rng)
         value = {"submit": item, "moment": moment} if moment or rng.random() < 0.5 else {"submit": item}
     fault = fault_of(run, program, item)
     text = json.dumps(item if value is None else value).encode() + rng.choice([b"", b"", b"\r", b"  "])
-    return Line(text, moment, None if fault else item["order"], fault)
+    return Line(text, moment, None if fault else item["order"], fault, number_of(item, fault))
+
+
+def number_of(item, fault):
+    """Give the number of a refused item's order, where it has one."""
+    number = item.get("order") if isinstance(item, dict) and fault != "11 Json" else None
+    return number if type(number) is int and 0 <= number < 2 ** 64 else None
 
 
 def fault_of_text(run, program, item):
@@ -63,9 +72,11 @@ def judge_told(lines, told, said_first):
     told, taken = list(told), {}
     if said_first is not None:
         assert re.fullmatch(rf"reply {said_first} kept \d \w+", told.pop(0)), told
+    assert told.pop(0) == "ready", told
     for count, line in enumerate(lines, 1):
         if line.fault:
-            assert told.pop(0) == f"item {count} fault {line.fault}", (count, line, told)
+            order = "" if line.refused is None else f" order {line.refused}"
+            assert told.pop(0) == f"item {count}{order} fault {line.fault}", (count, line, told)
         elif line.number is not None:
             reply = told.pop(0)
             assert re.fullmatch(rf"reply {line.number} (taken|reused|full|kept \d \w+)", reply), (line, reply)

@@ -26,6 +26,7 @@ FRAME = re.compile("[0-9A-F]{4} (?:(?:DTR[012]|WRITE MEMORY LOCATION(?: - NO REP
                    "unit (?:[0-9]|[1-5][0-9]|6[0-3])|OTHER)")
 UNIT = re.compile("unit [0-9]+ dtr(?: [0-9A-F]{2}){3} enabled (?:yes|no)|bank [0-9]+ [0-9A-F]0 (?:[0-9A-F]{2}){1,16}")
 JOURNAL_FAULT = re.compile(f"journal fault (?:(?:3 Record|4 Sequence|5 Repeated|6 Full) at {NUMBER}|7 Header)")
+NOTHING = "error: nothing was done: ORDERS has no orders"
 ORDER_LINE = re.compile(f"order {NUMBER} unit {ADDRESS} "
                         "(?:same|other ([0-9A-F]{2}) [0-9A-F]{2}|short|format|silent)")
 LAST_LINE = re.compile(f"unit ({ADDRESS}) last [0-9A-F]{{2}}")
@@ -300,6 +301,9 @@ def judge_verify(status, stdout, stderr):
     if judge_drive_head(lines_of(stderr), lines_of(stdout)):
         return check_status(status, 1)
     told, ended = judge_link(status, stdout, stderr)
+    if told == [NOTHING]:
+        assert stdout == b"", stdout
+        return check_status(ended, 1)
     found = [ORDER_LINE.fullmatch(line) for line in told]
     assert all(found), told
     assert all(it[1] is None or 0x03 <= int(it[1], 16) <= 0x77 for it in found), told

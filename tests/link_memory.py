@@ -5,7 +5,7 @@ from typing import NamedTuple
 
 from drive_desk import ABSENT, ABSENT_FRAMES, GTIN, KEPT_SILENT, SILENCE, absent_records, desk_of, settings, want
 from drive_follow import following
-from driven import HEADER, Ended
+from driven import HEADER, Ended, Following
 from read_desk import GIVEN_17, SENT_17, TEXT_17, TOLD_17
 from read_streams import SAME, VERIFY_GIVEN, VERIFY_SENT, as_lines, desk_for
 
@@ -13,7 +13,7 @@ KIBIBYTE = 1024
 MOST_STACK = 512 * KIBIBYTE
 # What a run may hold at once where it reads no file as a whole, where it reads one of them, and where it has an order
 # for each unit: each limit is over what such runs hold now, by less than a bank of each of the 64 units.
-NO_FILE, ONE_FILE, ALL_UNITS = 48 * KIBIBYTE, 150 * KIBIBYTE, 224 * KIBIBYTE
+NO_FILE, ONE_FILE, ALL_UNITS = 49 * KIBIBYTE, 150 * KIBIBYTE, 224 * KIBIBYTE
 # An older journal is read as a whole too, and is held beside the orders and the journal.
 ONE_FILE_AND_AN_OLDER_ONE = 284 * KIBIBYTE
 TAKEN = "reply 1 taken\n" + KEPT_SILENT
@@ -53,6 +53,11 @@ def behind_an_older_journal(desk):
     return desk
 
 
+def ready(ended):
+    """Give how a run ends that says `ready` before all else."""
+    return ended._replace(told=Following.ready + ended.told)
+
+
 def limited_runs(folder):
     """Give the runs that have a limit, by a name, each in a folder of its own."""
 
@@ -68,8 +73,8 @@ def limited_runs(folder):
         "drive": Limited(desk_of(place("drive"), ABSENT), SILENCE, ONE_FILE, silent),
         "drive --older": Limited(behind, SILENCE, ONE_FILE_AND_AN_OLDER_ONE, silent),
         "drive of all": Limited(desk_of(place("all"), ORDERS), SILENCE * 64, ALL_UNITS, ALL_SILENT),
-        "drive --follow": Limited(following(place("follow"), ABSENT), SILENCE, NO_FILE, silent),
-        "drive --follow of all": Limited(following(place("lines"), ORDERS), SILENCE * 64, NO_FILE, ALL_SILENT),
+        "drive --follow": Limited(following(place("follow"), ABSENT), SILENCE, NO_FILE, ready(silent)),
+        "drive --follow of all": Limited(following(place("lines"), ORDERS), SILENCE * 64, NO_FILE, ready(ALL_SILENT)),
         "read": Limited(desk_for(place("read"), "read"), GIVEN_17, NO_FILE, Ended(0, SENT_17, TOLD_17)),
         "verify": Limited(desk_for(place("verify"), "verify"), given, ONE_FILE, Ended(0, VERIFY_SENT, SAME)),
         "verify of all": Limited(desk_for(place("same"), "verify", ORDERS), given * 64, ALL_UNITS, ALL_THE_SAME),

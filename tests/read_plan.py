@@ -164,6 +164,8 @@ def wanted_verify(carry, orders):
         for order in orders:
             finding = reader.finding(order["unit"], bytes_of(order))
             told.append(f"order {order['order']} unit {order['unit']} {finding}")
+        if not orders:
+            told.append("error: nothing was done: ORDERS has no orders")
         return 0 if all(line.endswith(" same") for line in told) else 1, None
 
     return wanted_of(carry, course)

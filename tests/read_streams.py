@@ -147,7 +147,7 @@ def test_orders_that_are_refused(folder):
     desk.orders.mkdir()
     want(last_line(desk.give(SILENCE)), (2, b"", "fault 21 File"))
     desk.orders.rmdir()
-    want(desk_for(folder, "verify", []).give(SILENCE), Ended(0, b"", ""))
+    want(desk_for(folder, "verify", []).give(SILENCE), Ended(1, b"", "error: nothing was done: ORDERS has no orders\n"))
 
 
 def test_units_that_are_none(folder):

@@ -77,7 +77,7 @@ def test_rows(folder):
         unit = simulated_link.Unit(5, held_by(BLANK, order))
         verify(folder, [order], bus_of(unit), ["order 1 unit 5 same"], frames)
     verify(folder, FULL, bus_of(simulated_link.Unit(5, held_by(BLANK, *FULL))), ["order 1 unit 5 same"], FULL_FRAMES)
-    verify(folder, [], bus_of(), [], 0)
+    verify(folder, [], bus_of(), ["error: nothing was done: ORDERS has no orders"], 0)
 
 
 @parts(2)

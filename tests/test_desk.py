@@ -14,7 +14,7 @@ import sys
 sys.dont_write_bytecode = True
 
 import adapter_desk  # noqa: E402
-from adapter_desk import ADAPTERS, player, run  # noqa: E402
+from adapter_desk import ADAPTERS, player, run, want_named_descriptors  # noqa: E402
 from drive_desk import want  # noqa: E402
 from driven import ROOT, simulated_link  # noqa: E402
 
@@ -223,6 +223,10 @@ def test_words_for_a_person(folder):
         want(run(SIMULATED, options, words)[2].splitlines(True)[-1].split("error: ")[1], told)
     ended = subprocess.run([SIMULATED, "--folder", folder, "--", "/none"], capture_output=True, text=True)
     want((ended.returncode, ended.stderr), (2, "simulated_link: /none: No such file or directory\n"))
+
+
+def test_what_the_command_names_is_handed_on(folder):
+    want_named_descriptors(SIMULATED, ["--folder", folder])
 
 
 def test_a_stopped_link_has_saved(folder):

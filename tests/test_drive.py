@@ -12,11 +12,13 @@ import sys
 
 sys.dont_write_bytecode = True
 
+import drive_buses  # noqa: E402
 import drive_calls  # noqa: E402
 import drive_follow  # noqa: E402
 import drive_older  # noqa: E402
 import drive_places  # noqa: E402
 import drive_report  # noqa: E402
+import drive_report_files  # noqa: E402
 import drive_streams  # noqa: E402
 import drive_units  # noqa: E402
 import drive_upgrade  # noqa: E402
@@ -28,8 +30,10 @@ MODULES = (
     drive_calls,
     drive_places,
     drive_report,
+    drive_report_files,
     drive_follow,
     drive_older,
+    drive_buses,
     drive_upgrade,
 )
 

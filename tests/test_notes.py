@@ -296,6 +296,39 @@ WORDS = [
     ("A3 0", 'its character 3 is " ", and a word is four hexadecimal digits'),
 ]
 
+# What stands behind a wrong moment, and the tip behind an option that a command doesn't have.
+A_MOMENT = "A moment is a whole number from 0 to 18446744073709551615, as the clock's seconds: --moment $(date +%s)"
+HELP = "  tip: dali_bench {} --help tells what it takes"
+
+# Wrong command lines: their words, and lines that are told of them.
+COMMAND_LINES = [
+    (["drive", "--moment", "now", "o", "j"], ["error: invalid value 'now' for '--moment <M>': invalid digit found in"
+                                              " string", A_MOMENT]),
+    (["drive", "--moment=-1", "o", "j"], [A_MOMENT]),
+    (["drive", "--moment", "-1", "o", "j"], ["error: unexpected argument '-1' found", HELP.format("drive"), A_MOMENT]),
+    (["drive", "--moment", "2027-01-01", "o", "j"], [A_MOMENT]),
+    (["drive", "--moment", "1.5", "o", "j"], [A_MOMENT]),
+    (["drive", "--moment", "", "o", "j"], [A_MOMENT]),
+    (["drive", "--moment", "18446744073709551616", "o", "j"], [A_MOMENT]),
+    (["drive", "--follow", "--moment", "o", "j"], [A_MOMENT]),
+    (["drive", "--moment"], [A_MOMENT]),
+    (["drive", "--moment", "--follow", "o", "j"], [A_MOMENT]),
+    (["check", "-q", "o"], ["error: unexpected argument '-q' found", HELP.format("check")]),
+    (["check", "--json", "o"], ["error: unexpected argument '--json' found",
+                                "  tip: a similar argument exists: '--journal'", HELP.format("check")]),
+    (["check", "--updates", "o"], [HELP.format("check")]),
+    (["drive", "-q", "o", "j"], [HELP.format("drive")]),
+    (["verify", "-v", "o"], [HELP.format("verify")]),
+    (["read", "-1", "b"], [HELP.format("read")]),
+    (["read", "5", "-b"], [HELP.format("read")]),
+    (["journal", "-u", "j"], [HELP.format("journal")]),
+    (["journal", "--update", "j"], ["  tip: a similar argument exists: '--updates'", HELP.format("journal")]),
+    (["run", "s", "--frame"], ["  tip: a similar argument exists: '--frames'", HELP.format("run")]),
+    (["frame", "--json", "A303"], [HELP.format("frame")]),
+    (["frame", "--json"], [HELP.format("frame")]),
+    (["frame", "-303"], ["error: unexpected argument '-3' found", "  tip: to pass '-3' as a value, use '-- -3'"]),
+]
+
 
 def run(program, command, given, stderr=subprocess.PIPE):
     """Run a command on standard input, and give its end."""
@@ -378,6 +411,17 @@ def fails_on_words(program):
     yield None if (ended.returncode, ended.stdout, first) == wanted else f"a wrong word: {ended}"
 
 
+def fails_on_command_lines(program):
+    """Give what is wrong with what is told of command lines that are none."""
+    for words, wanted in COMMAND_LINES:
+        ended = subprocess.run([program, *words], stdin=subprocess.DEVNULL, capture_output=True, timeout=60)
+        lines = ended.stderr.decode().splitlines()
+        missing = [it for it in wanted if it not in lines]
+        others = [it for it in lines if it == A_MOMENT or it.startswith("  tip: ")]
+        good = (ended.returncode, ended.stdout, missing) == (1, b"", []) and set(others) <= set(wanted)
+        yield None if good else f"{words}: {ended}"
+
+
 def fails_on_drives(program):
     """Give what is wrong with what `drive` tells of orders that it can't drive."""
     with tempfile.TemporaryDirectory() as room:
@@ -432,7 +476,7 @@ def fails_on_causes(program):
 def main(program):
     """Run all, tell what failed, and return the status."""
     parts = (fails_on_lines, fails_on_streams, fails_on_many, fails_on_readers, fails_on_causes, fails_on_words,
-             fails_on_drives)
+             fails_on_command_lines, fails_on_drives)
     told = [it for part in parts for it in part(program)]
     failed = [it for it in told if it]
     for it in failed:

@@ -173,7 +173,8 @@ class Instance:
         self.manager.join(PATIENCE)
         if self.fault:
             raise self.fault
-        self.stopped = self.end(getattr(signal, self.keys["KillSignal"][0]))
+        ended = self.main.returncode
+        self.stopped = self.end(getattr(signal, self.keys["KillSignal"][0])) if ended is None else ended
 
     @contextlib.contextmanager
     def once(self):
@@ -185,8 +186,9 @@ class Instance:
             self.end()
 
     def told(self):
-        """Give the lines that were told."""
-        return self.replies.read_text().splitlines() if self.replies.exists() else []
+        """Give the lines that were told, but for `ready`, which each start tells."""
+        lines = self.replies.read_text().splitlines() if self.replies.exists() else []
+        return [line for line in lines if line != "ready"]
 
     def open(self):
         """Open the pipe to write to it, once somebody reads it."""
@@ -325,6 +327,7 @@ def test_writers_that_close_the_pipe_end_nothing(folder):
             instance.write(order_line(number, 5, number))
             wait_for(lambda: len(instance.told()) == 2 * number)
         want((instance.starts, instance.is_running(), instance.told()), (1, True, done(1, 2, 3)))
+        want(instance.replies.read_text().splitlines(), ["ready", *done(1, 2, 3)])
         want(instance.bank(5)[YEAR], 3)
     want(instance.stopped != 0, True)
 
@@ -369,7 +372,7 @@ def test_the_rest_of_a_line_changes_nothing(folder):
         instance.write(order_line(2, 5, 2))
         wait_for(lambda: "reply 2 kept 0 Done" in instance.told())
         want(instance.told(), ["item 1 fault 11 Json", "item 2 fault 11 Json", "item 3 fault 9 Shape",
-                               "item 4 fault 1 Unit", *done(2)])
+                               "item 4 order 1 fault 1 Unit", *done(2)])
         want(instance.starts, 1)
 
 

@@ -10,8 +10,10 @@ use dali_file_commands::frame::frame;
 use dali_input::{Input, InputFault};
 use dali_job::{Job, job_of};
 use dali_link_commands::LinkCommand;
+use dali_link_commands::asked::read_asked;
 use dali_link_commands::drive::DriveTask;
 use dali_link_commands::lines::Lines;
+use dali_link_commands::required::Required;
 use dali_notes::FirstLines;
 use dali_store::FileStore;
 use dali_text::{Escaped, Output};
@@ -26,6 +28,24 @@ const VERSION: &str = "dali_bench 1.0, proved with the Rattle logic dac8208d650f
 // Where a command over a link is started with no link.
 const AT_A_TERMINAL: &str =
     "error: the frames go to standard output, which is a terminal: start this over an adapter (docs/LINK.md)";
+
+// Where older journals are named beside none that is asked.
+const OLDER_ALONE: &str = "error: --older stands beside --journal: name that too";
+
+// What `clap` advises of an option that it doesn't know: another one, or how to give it as a value, which is of use for
+// a word of hexadecimal digits alone.
+const A_TIP: &str = "  tip: ";
+
+const AS_A_VALUE: &str = "  tip: to pass '";
+
+// What is told behind a wrong moment.
+const A_MOMENT: &str =
+    "A moment is a whole number from 0 to 18446744073709551615, as the clock's seconds: --moment $(date +%s)";
+
+// The system's number where the program may open no more files, and what is told behind its words then.
+const TOO_MANY_FILES: i32 = 24;
+
+const MORE_FILES: &str = ": raise the limit, as by ulimit -n 1024";
 
 fn main(rt: HostRuntime) -> ExitCode {
     let status = match std::env::args(&rt) {
@@ -58,8 +78,15 @@ fn run(rt: &HostRuntime, words: &Vec<String>) -> Status {
     let Ok(words) = texts_of(rt.alloc(), words) else {
         return out_of_memory(rt, stream);
     };
-    match job_of(rt.alloc(), words.as_slice()) {
-        Ok(Job::Check(orders)) => on_file(rt, orders, FileCommand::Check),
+    let words = words.as_slice();
+    match job_of(rt.alloc(), words) {
+        Ok(
+            Job::Check {
+                orders,
+                journal,
+                older,
+            },
+        ) => on_check(rt, orders, journal, older.as_slice()),
         Ok(
             Job::Run {
                 scenario,
@@ -81,6 +108,7 @@ fn run(rt: &HostRuntime, words: &Vec<String>) -> Status {
                 moment,
                 follow,
                 require_done,
+                require_now,
                 report,
                 older,
             },
@@ -90,7 +118,7 @@ fn run(rt: &HostRuntime, words: &Vec<String>) -> Status {
                 journal,
                 older: older.as_slice(),
                 moment,
-                require_done,
+                required: Required::of(require_done, require_now),
             };
             on_link(rt, LinkCommand::driving(follow, task, report))
         }
@@ -100,7 +128,7 @@ fn run(rt: &HostRuntime, words: &Vec<String>) -> Status {
         Err(error) if error.kind() == clap::error::ErrorKind::OutOfMemory => out_of_memory(
             rt, stream,
         ),
-        Err(error) if error.use_stderr() => refused(rt, &error, stream),
+        Err(error) if error.use_stderr() => refused(rt, words, &error, stream),
         Err(help) => match help.print(rt) {
             Ok(()) => Status::Good,
             Err(cause) => tell_cause(rt, Status::Unwritten, Some(cause.kind())),
@@ -114,15 +142,48 @@ fn has_link(name: &str) -> bool {
 }
 
 // Prints what `clap` says of a wrong command line, in which it repeats words of that.
-fn refused(rt: &HostRuntime, error: &clap::Error, stream: FaultStream) -> Status {
+fn refused(rt: &HostRuntime, words: &[&str], error: &clap::Error, stream: FaultStream) -> Status {
     let Ok(text) = format!(in rt.alloc(); "{error}") else {
         return out_of_memory(rt, stream);
     };
     for line in text.as_str().lines() {
-        let line = Escaped::whole(line);
-        let _ = eprintln!(rt; "{line}");
+        if !line.starts_with(AS_A_VALUE) || takes_digits(words) {
+            let line = Escaped::whole(line);
+            let _ = eprintln!(rt; "{line}");
+        }
+        if line.starts_with(A_TIP) && !takes_digits(words) {
+            tell_help(rt, words);
+        }
+    }
+    if text.as_str().contains("'--moment <M>'") || has_signed_moment(words) {
+        let _ = eprintln!(rt; "{A_MOMENT}");
     }
     Status::Refused
+}
+
+// Whether the words are those of `frame`, with hexadecimal digits behind a minus.
+fn takes_digits(words: &[&str]) -> bool {
+    words.len() == 3 && words[1] == "frame" && !words[2].starts_with("--")
+}
+
+// Prints where it stands what the command takes.
+fn tell_help(rt: &HostRuntime, words: &[&str]) {
+    if words.len() > 1 {
+        let command = Escaped::whole(words[1]);
+        let _ = eprintln!(rt; "  tip: dali_bench {command} --help tells what it takes");
+    }
+}
+
+// Whether a moment was given with a minus before it, which `clap` takes for an option.
+fn has_signed_moment(words: &[&str]) -> bool {
+    let mut is_moment = false;
+    for word in words {
+        if is_moment && word.starts_with("-") && *word != "--" {
+            return true;
+        }
+        is_moment = *word == "--moment";
+    }
+    false
 }
 
 fn print_version(rt: &HostRuntime) -> Status {
@@ -163,9 +224,37 @@ fn on_word(rt: &HostRuntime, digits: &str) -> Status {
     tell_cause(rt, status, output.cause())
 }
 
+// Checks the orders of a file, of which the journal of another tells what it says, where that is named.
+fn on_check(rt: &HostRuntime, orders: &str, journal: Option<&str>, older: &[&str]) -> Status {
+    let Some(journal) = journal else {
+        if older.is_empty() {
+            return on_file(rt, orders, FileCommand::Check { known: None });
+        }
+        let _ = eprintln!(rt; "{OLDER_ALONE}");
+        return Status::Refused;
+    };
+    match read_asked(rt, journal, older) {
+        Ok(known) => on_file(
+            rt,
+            orders,
+            FileCommand::Check {
+                known: Some(&known),
+            },
+        ),
+        Err(unasked) => {
+            let words = unasked
+                .words
+                .as_deref()
+                .unwrap_or("a journal can't be used");
+            let _ = eprintln!(rt; "error: {words}");
+            print_fault(rt, unasked.fault, FaultStream::Output)
+        }
+    }
+}
+
 // Carries out a command over a file, or over standard input for `-`. The name `/dev/stdin` is read through the runtime
 // too, since a process may lack the right to open it by name.
-fn on_file(rt: &HostRuntime, name: &str, command: FileCommand) -> Status {
+fn on_file(rt: &HostRuntime, name: &str, command: FileCommand<'_>) -> Status {
     let Ok(writer) = BufWriter::new(rt.alloc(), io::writer(rt)) else {
         return out_of_memory(rt, FaultStream::Output);
     };
@@ -189,7 +278,7 @@ fn on_file(rt: &HostRuntime, name: &str, command: FileCommand) -> Status {
 fn on_input<R: Read, W: Write>(
     rt: &HostRuntime,
     name: &str,
-    command: FileCommand,
+    command: FileCommand<'_>,
     input: &mut Input<R>,
     output: &mut Output<W>,
 ) -> Status {
@@ -235,7 +324,7 @@ fn is_closed(rt: &HostRuntime) -> bool {
 }
 
 // Whether what a command tells a person is of its input as a whole, so that the input's name belongs beside it.
-fn is_one_whole(command: FileCommand) -> bool {
+fn is_one_whole(command: FileCommand<'_>) -> bool {
     matches!(command, FileCommand::Show | FileCommand::Journal { .. })
 }
 
@@ -280,10 +369,15 @@ enum FaultStream {
     Lines,
 }
 
-// Prints that a file can't be opened, and why.
+// Prints that a file can't be opened, why, and where too many are open what to do.
 fn unopened(rt: &HostRuntime, name: &str, cause: io::Error, stream: FaultStream) -> Status {
     let name = Escaped::whole(name);
-    let _ = eprintln!(rt; "error: the input can't be opened or read: {name}: {cause}");
+    let advice = if cause.raw_os_error() == Some(TOO_MANY_FILES) {
+        MORE_FILES
+    } else {
+        ""
+    };
+    let _ = eprintln!(rt; "error: the input can't be opened or read: {name}: {cause}{advice}");
     print_fault(rt, Fault::Input(InputFault::File), stream)
 }
 

@@ -172,7 +172,7 @@ fault 12 Document
 
 #[test]
 fn inputs_and_what_becomes_of_them(rt: HostRuntime) -> Result<(), Fail> {
-    let check = FileCommand::Check;
+    let check = FileCommand::Check { known: None };
     answers(
         rt.alloc(),
         check,
@@ -191,7 +191,7 @@ fn inputs_that_are_no_text_or_too_deep(rt: HostRuntime) -> Result<(), Fail> {
     brackets[200..].fill(b']');
     answers(
         rt.alloc(),
-        FileCommand::Check,
+        FileCommand::Check { known: None },
         &brackets[73..327],
         Status::Refused,
         "item 1 fault 9 Shape\naccepted 0 refused 1\n",
@@ -199,7 +199,7 @@ fn inputs_that_are_no_text_or_too_deep(rt: HostRuntime) -> Result<(), Fail> {
     for input in [b"\xff".as_slice(), &brackets, &brackets[72..328]] {
         answers(
             rt.alloc(),
-            FileCommand::Check,
+            FileCommand::Check { known: None },
             input,
             Status::Refused,
             "fault 11 Json\n",
@@ -210,17 +210,21 @@ fn inputs_that_are_no_text_or_too_deep(rt: HostRuntime) -> Result<(), Fail> {
 
 #[test]
 fn an_input_over_the_limit(rt: HostRuntime) -> Result<(), Fail> {
-    refuses_past(rt.alloc(), FileCommand::Check, 16_777_217)
+    refuses_past(rt.alloc(), FileCommand::Check { known: None }, 16_777_217)
 }
 
 #[test]
 fn a_reader_that_fails_in_mid_stream(rt: HostRuntime) -> Result<(), Fail> {
-    fails_to_read(rt.alloc(), FileCommand::Check, ONE_ORDER.as_bytes())
+    fails_to_read(
+        rt.alloc(),
+        FileCommand::Check { known: None },
+        ONE_ORDER.as_bytes(),
+    )
 }
 
 #[test]
 fn a_writer_that_fails_in_mid_text(rt: HostRuntime) -> Result<(), Fail> {
-    let check = FileCommand::Check;
+    let check = FileCommand::Check { known: None };
     fails_to_write(rt.alloc(), check, ONE_ORDER.as_bytes(), ONE_ORDER_CHECKED)?;
     fails_to_write(rt.alloc(), check, b"[", "fault 11 Json\n")
 }

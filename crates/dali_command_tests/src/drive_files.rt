@@ -1,6 +1,7 @@
 use dali_commands::drive::DriveTask;
 use dali_commands::drive_files::drive_files;
 use dali_commands::lines::Lines;
+use dali_commands::required::Required;
 use dali_commands::{FileStore, Output, Report, Status, StdSink, StdSource, StoreDesk};
 use dali_shared_tests::expect_that;
 use std::fs::{File, Files};
@@ -128,7 +129,7 @@ fn driven_files<'a, R: Files<File = File> + AllocGlobal>(
         journal: drive.journal,
         older: &[],
         moment: drive.moment,
-        require_done: false,
+        required: Required::Nothing,
     };
     let mut desk = StoreDesk {
         link_in: StdSource::new(answers.as_slice()),
@@ -138,7 +139,7 @@ fn driven_files<'a, R: Files<File = File> + AllocGlobal>(
             output: Output::new(&mut told),
         },
     };
-    let mut report: Report<io::Sink> = Report::new(rt.alloc(), None);
+    let mut report: Report<io::Sink> = Report::new(rt.alloc(), 1, None);
     let status = drive_files(rt, task, &mut desk, &mut report);
     drop(desk);
     fs::remove_file(rt, name)?;

@@ -2,6 +2,7 @@
 use crate::drive_files::{BEGAN, ORDER, PAIR, REFUSED, SILENT, TAKEN};
 use dali_commands::drive::{DriveTask, drive_input};
 use dali_commands::lines::Lines;
+use dali_commands::required::Required;
 use dali_commands::{Input, MemoryStore, Output, Report, Status, StdSink, StdSource, StoreDesk};
 use dali_shared_tests::expect_that;
 use std::alloc::{AllocError, Global};
@@ -30,7 +31,7 @@ fn driven_over(
     orders: &str,
     journal: &[u8],
     answers: &[u8],
-    require_done: bool,
+    required: Required,
 ) -> Result<Driven, AllocError> {
     let mut sent = Vec::new(alloc);
     let mut told = Vec::new(alloc);
@@ -40,7 +41,7 @@ fn driven_over(
         journal: "journal",
         older: &[],
         moment: 7,
-        require_done,
+        required,
     };
     let mut desk = StoreDesk {
         link_in: StdSource::new(answers),
@@ -50,7 +51,7 @@ fn driven_over(
             output: Output::new(&mut told),
         },
     };
-    let mut report = Report::new(alloc, Some(Output::new(&mut reported)));
+    let mut report = Report::new(alloc, 1, Some(Output::new(&mut reported)));
     let mut input = Input::new(orders.as_bytes());
     let status = drive_input(alloc, None, task, &mut input, &mut desk, &mut report);
     let kept = desk.journal.bytes().to_vec(alloc)?;
@@ -68,7 +69,7 @@ fn driven_over(
 // Drives orders over an empty journal, with no frame answered.
 fn driven_in_memory(alloc: Global, orders: &str) -> Result<Driven, AllocError> {
     let answers = b"--\n".repeat(alloc, 16)?;
-    driven_over(alloc, orders, b"", answers.as_slice(), false)
+    driven_over(alloc, orders, b"", answers.as_slice(), Required::Nothing)
 }
 
 impl Driven {
@@ -111,7 +112,7 @@ struct Reported<'a> {
     orders: &'a str,
     journal: &'a [u8],
     answers: &'a str,
-    require_done: bool,
+    required: Required,
     status: Status,
     report: &'a str,
 }
@@ -120,76 +121,85 @@ pub(crate) const OTHER: &str = "[{\"order\":1,\"unit\":8,\"year\":7}]";
 
 pub(crate) const NONE_16: &str = "--\n--\n--\n--\n--\n--\n--\n--\n--\n--\n--\n--\n--\n--\n--\n--\n";
 
-static REPORTS: [Reported<'static>; 7] = [
+static REPORTS: [Reported<'static>; 8] = [
     Reported {
         name: "an order that ended now",
         orders: ORDER,
         journal: &[],
         answers: NONE_16,
-        require_done: false,
+        required: Required::Nothing,
         status: Status::Good,
         report: "{\"code\":3,\"ended\":\"now\",\"frames\":16,\"misses\":8,\"moment\":7,\
-            \"name\":\"Silent\",\"order\":1,\"reply\":\"kept 3 Silent\",\"unit\":9}\n",
+            \"name\":\"Silent\",\"order\":1,\"reply\":\"kept 3 Silent\",\"run\":1,\"unit\":9}\n",
     },
     Reported {
         name: "an order that wasn't done, where it has to be",
         orders: ORDER,
         journal: &[],
         answers: NONE_16,
-        require_done: true,
+        required: Required::Done,
         status: Status::Refused,
         report: "{\"code\":3,\"ended\":\"now\",\"frames\":16,\"misses\":8,\"moment\":7,\
-            \"name\":\"Silent\",\"order\":1,\"reply\":\"kept 3 Silent\",\"unit\":9}\n",
+            \"name\":\"Silent\",\"order\":1,\"reply\":\"kept 3 Silent\",\"run\":1,\"unit\":9}\n",
     },
     Reported {
         name: "an order that the journal had ended",
         orders: ORDER,
         journal: &SILENT,
         answers: "",
-        require_done: false,
+        required: Required::Nothing,
         status: Status::Good,
         report: "{\"code\":3,\"ended\":\"before\",\"frames\":0,\"misses\":0,\"moment\":0,\
-            \"name\":\"Silent\",\"order\":1,\"reply\":\"kept 3 Silent\",\"unit\":9}\n",
+            \"name\":\"Silent\",\"order\":1,\"reply\":\"kept 3 Silent\",\"run\":1,\"unit\":9}\n",
     },
     Reported {
         name: "an order that is gone on with, and comes again",
         orders: ORDER,
         journal: &BEGAN,
         answers: NONE_16,
-        require_done: false,
+        required: Required::Nothing,
         status: Status::Good,
         report: "{\"code\":3,\"ended\":\"now\",\"frames\":16,\"misses\":8,\"moment\":0,\
-            \"name\":\"Silent\",\"order\":1,\"reply\":\"kept 3 Silent\",\"unit\":9}\n\
+            \"name\":\"Silent\",\"order\":1,\"reply\":\"kept 3 Silent\",\"run\":1,\"unit\":9}\n\
             {\"code\":3,\"ended\":\"now\",\"frames\":0,\"misses\":0,\"moment\":0,\
-            \"name\":\"Silent\",\"order\":1,\"reply\":\"kept 3 Silent\",\"unit\":9}\n",
+            \"name\":\"Silent\",\"order\":1,\"reply\":\"kept 3 Silent\",\"run\":1,\"unit\":9}\n",
     },
     Reported {
         name: "a number that was used",
         orders: OTHER,
         journal: &SILENT,
         answers: "",
-        require_done: true,
+        required: Required::Done,
         status: Status::Refused,
         report: "{\"code\":null,\"ended\":null,\"frames\":0,\"misses\":0,\"moment\":0,\
-            \"name\":null,\"order\":1,\"reply\":\"reused\",\"unit\":8}\n",
+            \"name\":null,\"order\":1,\"reply\":\"reused\",\"run\":1,\"unit\":8}\n",
+    },
+    Reported {
+        name: "nothing, where this drive has to do something",
+        orders: "[]",
+        journal: &SILENT,
+        answers: "",
+        required: Required::DoneNow,
+        status: Status::Refused,
+        report: "",
     },
     Reported {
         name: "an answer that is none",
         orders: ORDER,
         journal: &[],
         answers: "--\nz\\\u{7}\n",
-        require_done: false,
+        required: Required::Nothing,
         status: Status::Refused,
-        report: "{\"answer\":\"z\\\\x5C\\\\x07\",\"fault\":3,\"frame\":\"139C\",\"name\":\"Line\"}\n",
+        report: "{\"answer\":\"z\\\\x5C\\\\x07\",\"fault\":3,\"frame\":\"139C\",\"name\":\"Line\",\"run\":1}\n",
     },
     Reported {
         name: "an answer without an end",
         orders: ORDER,
         journal: &[],
         answers: "0123456789",
-        require_done: false,
+        required: Required::Nothing,
         status: Status::Refused,
-        report: "{\"answer\":\"012345678\",\"fault\":6,\"frame\":\"C301\",\"name\":\"TooLong\"}\n",
+        report: "{\"answer\":\"012345678\",\"fault\":6,\"frame\":\"C301\",\"name\":\"TooLong\",\"run\":1}\n",
     },
 ];
 
@@ -201,7 +211,7 @@ fn drives_are_reported(rt: HostRuntime) -> Result<(), Fail> {
             case.orders,
             case.journal,
             case.answers.as_bytes(),
-            case.require_done,
+            case.required,
         )?;
         let is_right = found.status == case.status
             && found.reported.as_slice() == case.report.as_bytes();

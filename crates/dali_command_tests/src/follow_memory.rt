@@ -1,10 +1,11 @@
 // `drive --follow` with everything in memory: the lines of the orders, the link, the journal and what is told.
-use crate::drive_files::{BEGAN, SILENT, TAKEN};
+use crate::drive_files::{BEGAN, SILENT};
 use crate::drive_memory::{NONE_16, SILENT_AT_7};
 use crate::streams::{Behind, TestReader};
 use dali_commands::drive::DriveTask;
 use dali_commands::follow::follow_lines;
 use dali_commands::lines::Lines;
+use dali_commands::required::Required;
 use dali_commands::{
     MemoryStore, OrderLines, Output, Report, Status, StdSink, StdSource, StoreDesk,
 };
@@ -20,7 +21,7 @@ struct Stream<'a> {
     behind: Behind,
     journal: &'a [u8],
     answers: &'a str,
-    require_done: bool,
+    required: Required,
     status: Status,
     told: &'a str,
     kept: &'a [u8],
@@ -43,9 +44,9 @@ static STREAMS: [Stream<'static>; 11] = [
         behind: Behind::Nothing,
         journal: &[],
         answers: NONE_16,
-        require_done: false,
+        required: Required::Nothing,
         status: Status::Good,
-        told: TAKEN,
+        told: "ready\nreply 1 taken\nreply 1 kept 3 Silent\n",
         kept: &SILENT_AT_7,
         left: 0,
     },
@@ -56,9 +57,9 @@ static STREAMS: [Stream<'static>; 11] = [
         behind: Behind::Nothing,
         journal: &[],
         answers: NONE_16,
-        require_done: false,
+        required: Required::Nothing,
         status: Status::Good,
-        told: "reply 1 taken\nreply 1 kept 3 Silent\nreply 1 kept 3 Silent\n",
+        told: "ready\nreply 1 taken\nreply 1 kept 3 Silent\nreply 1 kept 3 Silent\n",
         kept: &SILENT,
         left: 0,
     },
@@ -68,9 +69,9 @@ static STREAMS: [Stream<'static>; 11] = [
         behind: Behind::Nothing,
         journal: &[],
         answers: NONE_16,
-        require_done: false,
+        required: Required::Nothing,
         status: Status::Refused,
-        told: "item 1 fault 9 Shape\nreply 1 taken\nreply 1 kept 3 Silent\nitem 4 fault 11 Json\n",
+        told: "ready\nitem 1 fault 9 Shape\nreply 1 taken\nreply 1 kept 3 Silent\nitem 4 fault 11 Json\n",
         kept: &SILENT_AT_7,
         left: 0,
     },
@@ -79,9 +80,9 @@ static STREAMS: [Stream<'static>; 11] = [
         behind: Behind::Nothing,
         journal: &BEGAN,
         answers: NONE_16,
-        require_done: false,
+        required: Required::Nothing,
         status: Status::Good,
-        told: "reply 1 kept 3 Silent\n",
+        told: "reply 1 kept 3 Silent\nready\n",
         kept: &SILENT,
         left: 0,
     },
@@ -90,9 +91,9 @@ static STREAMS: [Stream<'static>; 11] = [
         behind: Behind::Nothing,
         journal: &SILENT,
         answers: "--\n",
-        require_done: true,
+        required: Required::Done,
         status: Status::Refused,
-        told: "reply 1 kept 3 Silent\n",
+        told: "ready\nreply 1 kept 3 Silent\n",
         kept: &SILENT,
         left: 3,
     },
@@ -101,9 +102,9 @@ static STREAMS: [Stream<'static>; 11] = [
         behind: Behind::Nothing,
         journal: &SILENT,
         answers: "",
-        require_done: true,
-        status: Status::Good,
-        told: "",
+        required: Required::Done,
+        status: Status::Refused,
+        told: "ready\nerror: nothing was done: ORDERS has no orders\n",
         kept: &SILENT,
         left: 0,
     },
@@ -113,9 +114,9 @@ static STREAMS: [Stream<'static>; 11] = [
         behind: Behind::Failures,
         journal: &[],
         answers: NONE_16,
-        require_done: false,
+        required: Required::Nothing,
         status: Status::Failed,
-        told: "reply 1 taken\nreply 1 kept 3 Silent\n\
+        told: "ready\nreply 1 taken\nreply 1 kept 3 Silent\n\
             error: the file can't be used: orders: broken pipe\nfault 21 File\n",
         kept: &SILENT_AT_7,
         left: 0,
@@ -125,9 +126,9 @@ static STREAMS: [Stream<'static>; 11] = [
         behind: Behind::Failures,
         journal: &SILENT,
         answers: "",
-        require_done: false,
+        required: Required::Nothing,
         status: Status::Failed,
-        told: "error: the file can't be used: orders: broken pipe\nfault 21 File\n",
+        told: "ready\nerror: the file can't be used: orders: broken pipe\nfault 21 File\n",
         kept: &SILENT,
         left: 0,
     },
@@ -136,9 +137,9 @@ static STREAMS: [Stream<'static>; 11] = [
         behind: Behind::Failures,
         journal: &SILENT,
         answers: "",
-        require_done: true,
+        required: Required::Done,
         status: Status::Failed,
-        told: "item 1 fault 9 Shape\nerror: the file can't be used: orders: broken pipe\nfault 21 File\n",
+        told: "ready\nitem 1 fault 9 Shape\nerror: the file can't be used: orders: broken pipe\nfault 21 File\n",
         kept: &SILENT,
         left: 0,
     },
@@ -148,9 +149,9 @@ static STREAMS: [Stream<'static>; 11] = [
         behind: Behind::Nothing,
         journal: &[],
         answers: "--\n",
-        require_done: false,
+        required: Required::Nothing,
         status: Status::Refused,
-        told: "item 1 fault 9 Shape\nreply 1 taken\ndrive fault 4 End\n",
+        told: "ready\nitem 1 fault 9 Shape\nreply 1 taken\ndrive fault 4 End\n",
         kept: &BEGAN_AT_7,
         left: 0,
     },
@@ -159,7 +160,7 @@ static STREAMS: [Stream<'static>; 11] = [
         behind: Behind::Nothing,
         journal: b"X",
         answers: NONE_16,
-        require_done: false,
+        required: Required::Nothing,
         status: Status::Refused,
         told: "journal fault 3 Record at 0\n",
         kept: b"X",
@@ -186,7 +187,7 @@ fn is_followed(alloc: Global, stream: &Stream<'_>) -> Result<bool, AllocError> {
         journal: "journal",
         older: &[],
         moment: 7,
-        require_done: stream.require_done,
+        required: stream.required,
     };
     let source = StdSource::new(TestReader::new(stream.lines.as_bytes(), stream.behind));
     let mut orders = OrderLines::new(alloc, source, task.moment);
@@ -198,7 +199,7 @@ fn is_followed(alloc: Global, stream: &Stream<'_>) -> Result<bool, AllocError> {
             output: Output::new(&mut told),
         },
     };
-    let mut report: Report<io::Sink> = Report::new(alloc, None);
+    let mut report: Report<io::Sink> = Report::new(alloc, 1, None);
     let status = follow_lines(alloc, None, task, &mut orders, &mut desk, &mut report);
     let is_kept = desk.journal.bytes() == stream.kept;
     let left = left_of(&mut desk.link_in);

@@ -18,15 +18,52 @@ fn names(alloc: Global, line: &str, job: Job<'_>) -> Result<(), Fail> {
 #[test]
 fn command_lines(rt: HostRuntime) -> Result<(), Fail> {
     let alloc = rt.alloc();
-    names(
-        alloc,
-        "dali_bench check orders.json",
-        Job::Check("orders.json"),
-    )?;
     names(alloc, "dali_bench frame A303", Job::Frame("A303"))?;
     names(alloc, "dali_bench frame ", Job::Frame(""))?;
     names(alloc, "dali_bench show bank.hex", Job::Show("bank.hex"))?;
     names(alloc, "dali_bench scan", Job::Scan)
+}
+
+// Command lines of a check, the journal that each asks, and the older ones, with a space between them.
+static CHECKS: [(&str, Option<&str>, Option<&str>); 5] = [
+    ("dali_bench check orders.json", None, None),
+    (
+        "dali_bench check orders.json --journal b.bin",
+        Some("b.bin"),
+        None,
+    ),
+    (
+        "dali_bench check --journal=b.bin orders.json --older a.bin",
+        Some("b.bin"),
+        Some("a.bin"),
+    ),
+    (
+        "dali_bench check --older c.bin --older a.bin --journal b.bin orders.json",
+        Some("b.bin"),
+        Some("c.bin a.bin"),
+    ),
+    (
+        "dali_bench check --older a.bin orders.json",
+        None,
+        Some("a.bin"),
+    ),
+];
+
+#[test]
+fn command_lines_of_a_check(rt: HostRuntime) -> Result<(), Fail> {
+    for &(line, journal, older) in &CHECKS {
+        let older = match older {
+            Some(older) => words_of(rt.alloc(), older)?,
+            None => Vec::new(rt.alloc()),
+        };
+        let job = Job::Check {
+            orders: "orders.json",
+            journal,
+            older,
+        };
+        names(rt.alloc(), line, job)?;
+    }
+    Ok(())
 }
 
 // Command lines of a run, and whether each asks for the frames.
@@ -97,7 +134,7 @@ fn drive(
     alloc: Global,
     moment: u64,
     follow: bool,
-    require_done: bool,
+    (require_done, require_now): (bool, bool),
     report: Option<&str>,
 ) -> Job<'_> {
     Job::Drive {
@@ -106,6 +143,7 @@ fn drive(
         moment,
         follow,
         require_done,
+        require_now,
         report,
         older: Vec::new(alloc),
     }
@@ -122,59 +160,81 @@ dali_bench drive --moment 18446744073709551615 o.json b.bin|18446744073709551615
 fn command_lines_of_a_drive(rt: HostRuntime) -> Result<(), Fail> {
     for case in DRIVES.split('\n') {
         let (line, moment) = case.split_once('|').ok_or("a command line")?;
-        let job = drive(rt.alloc(), moment.parse()?, false, false, None);
+        let job = drive(rt.alloc(), moment.parse()?, false, (false, false), None);
         names(rt.alloc(), line, job)?;
     }
     Ok(())
 }
 
-// Command lines of a drive, whether each has orders that come line by line, and wants all orders done, and the file of
-// its report.
-static DRIVES_WITH_OPTIONS: [(&str, bool, bool, Option<&str>); 8] = [
+// Command lines of a drive, whether each has orders that come line by line, and wants all orders done, and done by
+// itself, and the file of its report.
+static DRIVES_WITH_OPTIONS: [(&str, bool, (bool, bool), Option<&str>); 10] = [
+    (
+        "dali_bench drive --require-now o.json b.bin",
+        false,
+        (false, true),
+        None,
+    ),
+    (
+        "dali_bench drive o.json --require-now --follow b.bin --require-done",
+        true,
+        (true, true),
+        None,
+    ),
     (
         "dali_bench drive --require-done o.json b.bin",
         false,
-        true,
+        (true, false),
         None,
     ),
     (
         "dali_bench drive o.json b.bin --require-done",
         false,
-        true,
+        (true, false),
         None,
     ),
-    ("dali_bench drive --follow o.json b.bin", true, false, None),
-    ("dali_bench drive o.json b.bin --follow", true, false, None),
+    (
+        "dali_bench drive --follow o.json b.bin",
+        true,
+        (false, false),
+        None,
+    ),
+    (
+        "dali_bench drive o.json b.bin --follow",
+        true,
+        (false, false),
+        None,
+    ),
     (
         "dali_bench drive o.json b.bin --report r.json",
         false,
-        false,
+        (false, false),
         Some("r.json"),
     ),
     (
         "dali_bench drive o.json --report=r.json b.bin",
         false,
-        false,
+        (false, false),
         Some("r.json"),
     ),
     (
         "dali_bench drive --report r.json --require-done o.json b.bin",
         false,
-        true,
+        (true, false),
         Some("r.json"),
     ),
     (
         "dali_bench drive --follow --report r.json o.json --require-done b.bin",
         true,
-        true,
+        (true, false),
         Some("r.json"),
     ),
 ];
 
 #[test]
 fn command_lines_of_a_drive_with_options(rt: HostRuntime) -> Result<(), Fail> {
-    for &(line, follow, require_done, report) in &DRIVES_WITH_OPTIONS {
-        let job = drive(rt.alloc(), 0, follow, require_done, report);
+    for &(line, follow, required, report) in &DRIVES_WITH_OPTIONS {
+        let job = drive(rt.alloc(), 0, follow, required, report);
         names(rt.alloc(), line, job)?;
     }
     Ok(())
@@ -213,6 +273,7 @@ fn command_lines_of_a_drive_with_older_journals(rt: HostRuntime) -> Result<(), F
             moment: 0,
             follow: false,
             require_done: false,
+            require_now: false,
             report: None,
             older: words_of(rt.alloc(), older)?,
         };
@@ -297,13 +358,16 @@ dali_bench scan a
 dali_bench scan --all";
 
 const TWICE: &str = "dali_bench run --frames a --frames
+dali_bench check --journal b a --journal b
 dali_bench drive --moment 1 a b --moment 1
 dali_bench drive --require-done a b --require-done
 dali_bench drive --follow a b --follow
 dali_bench drive --report r a b --report r
 dali_bench journal --updates a --updates";
 
-const NO_VALUE: &str = "dali_bench drive a b --moment
+const NO_VALUE: &str = "dali_bench check a --journal
+dali_bench check a --older
+dali_bench drive a b --moment
 dali_bench drive a b --report
 dali_bench drive a b --older
 dali_bench drive a b --older c --older

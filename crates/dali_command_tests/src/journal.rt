@@ -219,7 +219,7 @@ type Cases<'a> = &'a [(&'a [u8], usize, &'a str)];
 // Tests how the command ends over each of the journals, and what it writes.
 fn answers_fronts(
     alloc: Global,
-    command: FileCommand,
+    command: FileCommand<'_>,
     status: Status,
     cases: Cases<'_>,
 ) -> Result<(), Fail> {

@@ -8,6 +8,7 @@ use crate::drive_memory::{OTHER, SILENT_AT_7};
 use dali_commands::drive::{DriveTask, drive_input};
 use dali_commands::lines::Lines;
 use dali_commands::older::{OlderFault, Unusable, joined_behind, joined_older};
+use dali_commands::required::Required;
 use dali_commands::{
     Fault, Input, MemoryStore, Output, Report, Status, StdSink, StdSource, StoreDesk,
 };
@@ -237,7 +238,7 @@ fn is_behind(alloc: Global, drive: &Behind<'_>) -> Result<bool, AllocError> {
         journal: "journal",
         older: &[],
         moment: 7,
-        require_done: false,
+        required: Required::Nothing,
     };
     let mut desk = StoreDesk {
         link_in: StdSource::new(b"".as_slice()),
@@ -247,7 +248,7 @@ fn is_behind(alloc: Global, drive: &Behind<'_>) -> Result<bool, AllocError> {
             output: Output::new(&mut told),
         },
     };
-    let mut report = Report::new(alloc, Some(Output::new(&mut reported)));
+    let mut report = Report::new(alloc, 1, Some(Output::new(&mut reported)));
     let older = older_of(alloc, &SILENT)?;
     let mut input = Input::new(drive.orders.as_bytes());
     let status = drive_input(alloc, older, task, &mut input, &mut desk, &mut report);

@@ -11,7 +11,7 @@ use std::test::Fail;
 // Whether a command ends so over what a reader has, and writes this, where there is this room.
 fn does<R: Read>(
     alloc: Global,
-    command: FileCommand,
+    command: FileCommand<'_>,
     input: &mut Input<R>,
     room: Option<usize>,
     status: Status,
@@ -27,7 +27,7 @@ fn does<R: Read>(
 /// what was to be written.
 pub fn answers(
     alloc: Global,
-    command: FileCommand,
+    command: FileCommand<'_>,
     input: &[u8],
     status: Status,
     text: &str,
@@ -41,7 +41,7 @@ pub fn answers(
 /// the next there is a line `====`.
 pub fn answers_each(
     alloc: Global,
-    command: FileCommand,
+    command: FileCommand<'_>,
     status: Status,
     cases: &str,
 ) -> Result<(), Fail> {
@@ -55,7 +55,7 @@ pub fn answers_each(
 /// The same of inputs of a line each, whose text is a line too, with a bar between them.
 pub fn answers_lines(
     alloc: Global,
-    command: FileCommand,
+    command: FileCommand<'_>,
     status: Status,
     lines: &str,
 ) -> Result<(), Fail> {
@@ -67,7 +67,7 @@ pub fn answers_lines(
 }
 
 /// Tests that spaces without end are refused, once one more than the limit was read.
-pub fn refuses_past(alloc: Global, command: FileCommand, limit: u64) -> Result<(), Fail> {
+pub fn refuses_past(alloc: Global, command: FileCommand<'_>, limit: u64) -> Result<(), Fail> {
     let mut reader = TestReader::new(&[], Behind::SpacesWithoutEnd);
     let mut input = Input::new(&mut reader);
     let told = b"fault 13 TooBig\n";
@@ -79,14 +79,14 @@ pub fn refuses_past(alloc: Global, command: FileCommand, limit: u64) -> Result<(
 }
 
 // Whether the command tells that the reader fails behind these bytes.
-fn fails_behind(alloc: Global, command: FileCommand, bytes: &[u8]) -> bool {
+fn fails_behind(alloc: Global, command: FileCommand<'_>, bytes: &[u8]) -> bool {
     let mut input = Input::new(TestReader::new(bytes, Behind::Failures));
     let told = b"fault 21 File\n";
     does(alloc, command, &mut input, None, Status::Failed, told)
 }
 
 /// Tests a reader that fails at each place of an input.
-pub fn fails_to_read(alloc: Global, command: FileCommand, input: &[u8]) -> Result<(), Fail> {
+pub fn fails_to_read(alloc: Global, command: FileCommand<'_>, input: &[u8]) -> Result<(), Fail> {
     for count in 0..=input.len() {
         let is_so = fails_behind(alloc, command, &input[..count]);
         expect_at(count, is_so, "a reader that fails")?;
@@ -95,7 +95,7 @@ pub fn fails_to_read(alloc: Global, command: FileCommand, input: &[u8]) -> Resul
 }
 
 // Whether the command ends as unwritten over an input, where there is room for this text alone.
-fn is_cut(alloc: Global, command: FileCommand, input: &[u8], text: &[u8]) -> bool {
+fn is_cut(alloc: Global, command: FileCommand<'_>, input: &[u8], text: &[u8]) -> bool {
     let mut reader = Input::new(TestReader::new(input, Behind::Nothing));
     let room = Some(text.len());
     does(alloc, command, &mut reader, room, Status::Unwritten, text)
@@ -105,7 +105,7 @@ fn is_cut(alloc: Global, command: FileCommand, input: &[u8], text: &[u8]) -> boo
 /// written then.
 pub fn fails_to_write(
     alloc: Global,
-    command: FileCommand,
+    command: FileCommand<'_>,
     input: &[u8],
     text: &str,
 ) -> Result<(), Fail> {

@@ -10,7 +10,8 @@ pub use dali_follow::OrderLines;
 pub use dali_input::{Input, InputFault};
 pub use dali_job::{Job, job_of};
 pub use dali_link_commands::{
-    LinkCommand, drive, drive_files, follow, follow_files, lines, older, read, survey, survey_files,
+    LinkCommand, asked, drive, drive_files, follow, follow_files, lines, older, read, required,
+    survey, survey_files,
 };
 pub use dali_notes::FirstLines;
 pub use dali_report::Report;

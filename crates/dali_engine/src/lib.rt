@@ -10,4 +10,4 @@ mod writer;
 pub use dali_laws::laws;
 pub use dali_trace::{Event, Happening, Reply, RunFault, Want};
 pub use runs::{Outcome, run, run_sim};
-pub use writer::Writer;
+pub use writer::{Writer, known_reply};

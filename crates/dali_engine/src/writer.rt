@@ -236,8 +236,9 @@ impl Writer {
     }
 }
 
-// The reply that the journal has for an order, whatever else is at work: Kept or IdReused.
-fn known_reply(journal: &Journal, order: &Order) -> Option<Reply>
+/// The reply that the journal has for an order, whatever else is at work: Kept or IdReused. None where it hasn't ended
+/// the order, and its number is no other's.
+pub fn known_reply(journal: &Journal, order: &Order) -> Option<Reply>
     ensures some { IfSome result (λ reply. IsKnownReply order.now (kept_of order.now.id journal.now.records) reply) }
     ensures none { IsNone result → IsNotEnded order.now (kept_of order.now.id journal.now.records) }
 {

@@ -1,6 +1,8 @@
 pub mod FailureLemmas
+pub mod KnownLemmas
 pub mod FrameLemmas
 pub mod ReportLemmas
 pub mod RunLemmas
 pub mod NoteLemmas
 mod WorkedNoteLemmas
+mod WorkedKnownLemmas

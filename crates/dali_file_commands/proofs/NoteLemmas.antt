@@ -1,6 +1,6 @@
 -- Lemmas on what a person is told beside what is written.
-use Rattle.std.proofs.Common.{◌≡◌, ◌⊎◌, ℕ, suc, ◌+◌, List, [], ◌∷◌, ◌++◌, Option, Result, Ok, Err, IfOk, OnOk}
-use Rattle.std.proofs.Common.{length, inr, refl, ap, sym, ◌∙◌, arith, append_assoc, append-nil, add-zero, subst}
+use Rattle.std.proofs.Common.{◌≡◌, ◌⊎◌, ℕ, ◌+◌, List, [], ◌∷◌, ◌++◌, Option, Result, Ok, Err, IfOk, OnOk}
+use Rattle.std.proofs.Common.{length, inr, refl, subst}
 use Rattle.std.specs.Io.KnownBytes.{Appends}
 use Rattle.dali_text.specs.declared.output.Output.{Output}
 use Rattle.dali_text.proofs.StreamLemmas.{appends_both}
@@ -10,27 +10,9 @@ use Rattle.dali_faults.specs.declared.fault.Fault.{Fault}
 use Rattle.dali_faults.specs.declared.fault.Status.{Status}
 use Rattle.dali_faults.specs.Faults.{told_line}
 use Rattle.dali_file_commands.specs.Notes.{AreItemNotes, IsFaultNote, IsItemNote, IsNotedFault}
+use Rattle.dali_file_commands.proofs.ReportLemmas.{each_one_more}
 
--- the notes of one item more
-are_one_more : (i : ℕ) (xs : List Outcome) (x : Outcome) (note here : List ℕ)
-    → AreItemNotes i xs note → IsItemNote (i + length xs) x here → AreItemNotes i (xs ++ x ∷ []) (note ++ here)
-are_one_more i [] x note here are is = (
-  here,
-  [],
-  subst (λ n. IsItemNote n x here) (add-zero i) is,
-  refl,
-  rw are (sym (append-nil here)),
-)
-are_one_more i (y ∷ xs) x note here (first, later, first_is, are, split) is =
-    let there : i + suc (length xs) ≡ i + 1 + length xs = omega arith in (
-      first,
-      later ++ here,
-      first_is,
-      are_one_more (i + 1) xs x later here are (subst (λ n. IsItemNote n x here) there is),
-      ap (λ t. t ++ here) split ∙ append_assoc first later here,
-    )
-
--- and an output that takes them
+-- an output that takes the notes of one item more
 pub tells_one_more : {N : Type 0} (contents : N → Option (List ℕ)) (old mid new : Output N) (x : Outcome) (n : ℕ)
     (xs : List Outcome)
     → Tells contents mid new (IsItemNote n x)
@@ -42,7 +24,7 @@ tells_one_more contents old mid new x n xs step at before failed =
       old_good,
       (
         note ++ here,
-        are_one_more 1 xs x note here are (subst (λ k. IsItemNote k x here) at is),
+        each_one_more IsItemNote 1 xs x note here are (subst (λ k. IsItemNote k x here) at is),
         appends_both _ _ _ note here taken took,
       ),
     )

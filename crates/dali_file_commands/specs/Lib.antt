@@ -1,3 +1,5 @@
+pub mod Known
+pub mod Survey
 pub mod Report
 pub mod FrameAnswers
 pub mod BankAnswers

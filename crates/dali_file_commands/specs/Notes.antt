@@ -1,10 +1,11 @@
 -- What a person is told beside what a command writes: of each item and each fault, by the number that stands there too.
-use Rattle.std.specs.Prelude.{◌≡◌, ◌⊎◌, ◌+◌, ℕ, List, [], ◌∷◌, ◌++◌, Ok, Err, codes}
+use Rattle.std.specs.Prelude.{◌≡◌, ◌⊎◌, ℕ, List, [], Option, Ok, Err, codes}
 use Rattle.dali_notes.specs.Notes.{SomeAbout, SomeLines}
 use Rattle.dali_input.specs.declared.fault.InputFault.{InputFault}
 use Rattle.dali_input.specs.declared.fault.InputFault.TheVariants.{Json, Document, TooBig, Hex, Memory, File}
 use Rattle.dali_input.specs.declared.setup.SetupFault.TheVariants as setup
 use Rattle.dali_input.specs.Orders.{Outcome}
+use Rattle.dali_journal.specs.JournalState.{JournalState}
 use Rattle.dali_journal.specs.declared.fault.JournalFault.{JournalFault}
 use Rattle.dali_journal.specs.declared.fault.JournalFault.TheVariants as journals
 use Rattle.dali_trace.specs.declared.fault.RunFault.TheVariants.{Limit, NoMemory}
@@ -15,7 +16,8 @@ use Rattle.dali_faults.specs.declared.fault.Status.TheVariants.{Good}
 use Rattle.dali_file_commands.specs.declared.file_command.FileCommand.{FileCommand}
 use Rattle.dali_file_commands.specs.declared.file_command.FileCommand.TheVariants as commands
 use Rattle.dali_faults.specs.Faults.{told_line}
-use Rattle.dali_file_commands.specs.Report.{report}
+use Rattle.dali_file_commands.specs.Known.{asked}
+use Rattle.dali_file_commands.specs.Report.{AreEach, IsReportText}
 
 -- of a refused item, lines with its number; of an accepted one none, or lines with its number too
 abbrev pub IsItemNote : ℕ → Outcome → List ℕ → Type 0
@@ -24,9 +26,7 @@ IsItemNote number (Err fault) note = SomeAbout (codes "item") number note
 
 -- of each item, counted from a number on
 abbrev pub AreItemNotes : ℕ → List Outcome → List ℕ → Type 0
-AreItemNotes number [] note = note ≡ []
-AreItemNotes number (outcome ∷ outcomes) note = (here : List ℕ) × (later : List ℕ)
-    × IsItemNote number outcome here × AreItemNotes (number + 1) outcomes later × (note ≡ here ++ later)
+AreItemNotes number outcomes note = AreEach IsItemNote number outcomes note
 
 -- of a fault of a whole input: of what it says or how long it is, lines; of want of memory and of a failed reader, none
 abbrev pub IsInputNote : InputFault → List ℕ → Type 0
@@ -66,8 +66,9 @@ abbrev pub IsNotedFault : List ℕ → List ℕ → Type 0
 IsNotedFault text note = (fault : Fault) × (text ≡ told_line fault) × IsFaultNote fault note
 
 -- what `check` wrote, and the note beside it
-abbrev pub IsNotedCheck : List ℕ → List ℕ → Type 0
-IsNotedCheck text note = ((outcomes : List Outcome) × (text ≡ report outcomes) × AreItemNotes 1 outcomes note)
+abbrev pub IsNotedCheck : Option JournalState → List ℕ → List ℕ → Type 0
+IsNotedCheck journal text note =
+    ((outcomes : List Outcome) × IsReportText journal outcomes text × AreItemNotes 1 outcomes note)
     ⊎ IsNotedFault text note
 
 -- how another command ended and what it wrote, and the note beside it: none where it ended well
@@ -76,7 +77,7 @@ IsNotedAnswer status text note = ((status ≡ Good) × (note ≡ [])) ⊎ IsNote
 
 -- the note of a command over a file
 abbrev pub IsNoted : FileCommand → Status → List ℕ → List ℕ → Type 0
-IsNoted commands.Check status text note = IsNotedCheck text note
+IsNoted (commands.Check journal) status text note = IsNotedCheck (asked journal) text note
 IsNoted (commands.Run single_frames) status text note = IsNotedAnswer status text note
 IsNoted commands.Show status text note = IsNotedAnswer status text note
 IsNoted (commands.Journal with_updates) status text note = IsNotedAnswer status text note

@@ -1,4 +1,4 @@
-ghost use Rattle.std.specs.Prelude.{◌≡◌, ◌≢◌, ◌↔◌, ◌⊎◌, ℕ, List, [], IfOk, true, is_ok, codes};
+ghost use Rattle.std.specs.Prelude.{◌≡◌, ◌≢◌, ◌↔◌, ◌⊎◌, ℕ, List, [], IfOk, Ok, true, is_ok, codes};
 ghost use Rattle.serde_json.specs.View.{view, items_view};
 ghost use Rattle.dali_text.specs.Output.{TellsFailure, Takes, has_failed, is_flushed};
 ghost use Rattle.dali_input.specs.Input.{ReadsAtMost, state_of};
@@ -6,22 +6,38 @@ ghost use Rattle.dali_input.specs.Items.{Judges};
 ghost use Rattle.dali_input.specs.Orders.{Outcome, JudgesEach, orders_limit};
 ghost use Rattle.dali_faults.specs.Ends.{TellsEnd};
 ghost use Rattle.dali_notes.specs.Notes.{SomeAbout, Tells};
-ghost use Rattle.dali_file_commands.specs.Report.{accepted_count, item_lines, lines_from, refused_count, report};
-ghost use Rattle.dali_file_commands.specs.Report.{report_status, IsChecked, IsAnswered};
+ghost use Rattle.dali_file_commands.specs.Known.{asked};
+ghost use Rattle.dali_file_commands.specs.Survey.{IsSurveyed};
+ghost use Rattle.dali_file_commands.specs.Report.{accepted_count, refused_count, report_status, AreEach, AreItemLines};
+ghost use Rattle.dali_file_commands.specs.Report.{IsAnswered, IsChecked, IsReportText};
 ghost use Rattle.dali_file_commands.specs.Notes.{AreItemNotes, IsItemNote, IsNotedCheck};
 
+use crate::known::{Ledger, write_free, write_known};
 use crate::notes::write_noted_failure;
 use dali_bank::Order;
 use dali_faults::{Fault, Status, write_refused_item};
 use dali_input::{Input, ItemFault, ORDERS_LIMIT, items_of, order_of, read_input};
+use dali_journal::Journal;
 use dali_notes::{Note, Repeats, note_of_item, note_of_orders};
 use dali_text::{Output, OutputFailed, write_order, write_tally};
 use serde_json::Value;
 use std::alloc::Global;
 use std::io::{Read, Write};
 
+// An item and its number in the list, counted from 1.
+#[derive(Drop)]
+struct NumberedItem {
+    number: u64,
+    item: Value,
+}
+
 /// Reads a JSON list of orders, and writes what becomes of each: the updates of an accepted item,
 /// the fault of a refused one, and how many there were of both.
+///
+/// Where a journal is to be asked, one line behind the updates of an accepted item tells what it says of that order, as
+/// a writer over it would reply: `known kept C NAME` (with ` closed` behind it where the order left its unit open and
+/// that was closed since), `known reused`, `known begun`, `new` or `full`; and a last line the first number above all
+/// that it has, `free N`, or `free none`. The journal stays as it is.
 ///
 /// Where the input is no such list it writes the fault alone: 13 TooBig over 16777216 bytes,
 /// 11 Json, 12 Document, 20 Memory or 21 File.
@@ -35,18 +51,20 @@ pub fn check<R: Read, W: Write, N: Write>(
     alloc: Global,
     input: &mut Input<R>,
     output: &mut Output<W>,
+    known: Option<&Journal>,
     notes: &mut Output<N>,
 ) -> Status
     ensures checked { result ≢ Status.Unwritten → (text : List ℕ)
-        × IsChecked orders_limit (state_of R.remaining input.old) (state_of R.remaining input.new) result text
+        × IsChecked (asked known.entry) orders_limit (state_of R.remaining input.old) (state_of R.remaining input.new)
+        result text
         × Takes W.contents output.old output.new text }
     ensures read { ReadsAtMost orders_limit (state_of R.remaining input.old) (state_of R.remaining input.new) }
     ensures unwritten { result ≡ Status.Unwritten ↔ has_failed output.new ≡ true }
     ensures flushed { result ≢ Status.Unwritten → is_flushed output.new ≡ true }
     ensures noted { result ≢ Status.Unwritten → (text : List ℕ) × Takes W.contents output.old output.new text
-        × Tells N.contents notes.old notes.new (IsNotedCheck text) }
+        × Tells N.contents notes.old notes.new (IsNotedCheck (asked known.entry) text) }
 {
-    match try_check(alloc, input, output, notes) {
+    match try_check(alloc, input, output, &Ledger::of(known), notes) {
         Ok(status) => status,
         Err(_) => Status::Unwritten,
     }
@@ -57,18 +75,20 @@ fn try_check<R: Read, W: Write, N: Write>(
     alloc: Global,
     input: &mut Input<R>,
     output: &mut Output<W>,
+    ledger: &Ledger<'_>,
     notes: &mut Output<N>,
 ) -> Result<Status, OutputFailed>
-    ensures checked { IfOk result (λ status. (text : List ℕ)
-        × IsChecked orders_limit (state_of R.remaining input.old) (state_of R.remaining input.new) status text
+    requires surveyed { IsSurveyed ledger.now }
+    ensures checked { IfOk result (λ status. (text : List ℕ) × IsChecked (asked ledger.now.journal) orders_limit
+        (state_of R.remaining input.old) (state_of R.remaining input.new) status text
         × Takes W.contents output.old output.new text) }
     ensures read { ReadsAtMost orders_limit (state_of R.remaining input.old) (state_of R.remaining input.new) }
     ensures noted { IfOk result (λ _. (text : List ℕ) × Takes W.contents output.old output.new text
-        × Tells N.contents notes.old notes.new (IsNotedCheck text)) }
+        × Tells N.contents notes.old notes.new (IsNotedCheck (asked ledger.now.journal) text)) }
     ensures end { TellsEnd result output.new }
 {
     match read_input(alloc, input, ORDERS_LIMIT) {
-        Ok(bytes) => write_checked(alloc, bytes.as_slice(), output, notes),
+        Ok(bytes) => write_checked(alloc, bytes.as_slice(), output, ledger, notes),
         Err(fault) => write_noted_failure(output, Fault::Input(fault), notes, &Note::new(alloc)),
     }
 }
@@ -78,16 +98,19 @@ fn write_checked<W: Write, N: Write>(
     alloc: Global,
     input: &[u8],
     output: &mut Output<W>,
+    ledger: &Ledger<'_>,
     notes: &mut Output<N>,
 ) -> Result<Status, OutputFailed>
-    ensures answered { IfOk result (λ status. (text : List ℕ) × IsAnswered orders_limit input.now status text
+    requires surveyed { IsSurveyed ledger.now }
+    ensures answered { IfOk result (λ status. (text : List ℕ)
+        × IsAnswered (asked ledger.now.journal) orders_limit input.now status text
         × Takes W.contents output.old output.new text) }
     ensures noted { IfOk result (λ _. (text : List ℕ) × Takes W.contents output.old output.new text
-        × Tells N.contents notes.old notes.new (IsNotedCheck text)) }
+        × Tells N.contents notes.old notes.new (IsNotedCheck (asked ledger.now.journal) text)) }
     ensures end { TellsEnd result output.new }
 {
     match items_of(alloc, input, ORDERS_LIMIT) {
-        Ok(items) => write_report(alloc, items, output, notes),
+        Ok(items) => write_report(alloc, items, output, ledger, notes),
         Err(fault) => {
             let note = note_of_orders(alloc, input, fault);
             write_noted_failure(output, Fault::Input(fault), notes, &note)
@@ -101,16 +124,20 @@ fn write_report<W: Write, N: Write>(
     alloc: Global,
     items: Vec<Value>,
     output: &mut Output<W>,
+    ledger: &Ledger<'_>,
     notes: &mut Output<N>,
 ) -> Result<Status, OutputFailed>
+    requires surveyed { IsSurveyed ledger.now }
     ensures report { IfOk result (λ status. (outcomes : List Outcome) × JudgesEach (items_view items.items) outcomes
         × (status ≡ report_status outcomes)
-        × Takes W.contents output.old output.new (report outcomes)
+        × (text : List ℕ) × IsReportText (asked ledger.now.journal) outcomes text
+        × Takes W.contents output.old output.new text
         × Tells N.contents notes.old notes.new (AreItemNotes 1 outcomes)) }
     ensures end { TellsEnd result output.new }
 {
-    let (accepted, refused) = write_items(alloc, items, output, notes)?;
+    let (accepted, refused) = write_items(alloc, items, output, ledger, notes)?;
     write_tally(output, accepted, refused)?;
+    write_free(output, ledger)?;
     output.flush()?;
     Ok(if refused == 0 {
         Status::Good
@@ -124,11 +151,14 @@ fn write_items<W: Write, N: Write>(
     alloc: Global,
     items: Vec<Value>,
     output: &mut Output<W>,
+    ledger: &Ledger<'_>,
     notes: &mut Output<N>,
 ) -> Result<(u64, u64), OutputFailed>
+    requires surveyed { IsSurveyed ledger.now }
     ensures lines { IfOk result (λ counted. (outcomes : List Outcome) × JudgesEach (items_view items.items) outcomes
         × (accepted_count outcomes ≡ counted.0) × (refused_count outcomes ≡ counted.1)
-        × Takes W.contents output.old output.new (lines_from 1 outcomes)
+        × (text : List ℕ) × AreEach (AreItemLines (asked ledger.now.journal)) 1 outcomes text
+        × Takes W.contents output.old output.new text
         × Tells N.contents notes.old notes.new (AreItemNotes 1 outcomes)) }
     ensures failed { TellsFailure result output.old output.new }
 {
@@ -136,14 +166,9 @@ fn write_items<W: Write, N: Write>(
     let mut refused = 0u64;
     let mut repeats = Repeats::new(alloc);
     for item in items {
-        if write_item(
-            alloc,
-            output,
-            accepted + refused + 1,
-            item,
-            notes,
-            &mut repeats,
-        )? {
+        let number = accepted + refused + 1;
+        let item = NumberedItem { number, item };
+        if write_item(alloc, output, item, ledger, notes, &mut repeats)? {
             accepted += 1;
         } else {
             refused += 1;
@@ -157,29 +182,48 @@ fn write_items<W: Write, N: Write>(
 fn write_item<W: Write, N: Write>(
     alloc: Global,
     output: &mut Output<W>,
-    number: u64,
-    item: Value,
+    item: NumberedItem,
+    ledger: &Ledger<'_>,
     notes: &mut Output<N>,
     repeats: &mut Repeats,
 ) -> Result<bool, OutputFailed>
-    ensures lines { IfOk result (λ accepted. (outcome : Outcome) × Judges (view item) outcome
+    requires surveyed { IsSurveyed ledger.now }
+    ensures lines { IfOk result (λ accepted. (outcome : Outcome) × Judges (view item.item) outcome
         × (is_ok outcome ≡ accepted)
-        × Takes W.contents output.old output.new (item_lines number outcome)
-        × Tells N.contents notes.old notes.new (IsItemNote number outcome)) }
+        × (text : List ℕ) × AreItemLines (asked ledger.now.journal) item.number outcome text
+        × Takes W.contents output.old output.new text
+        × Tells N.contents notes.old notes.new (IsItemNote item.number outcome)) }
     ensures failed { TellsFailure result output.old output.new }
 {
-    match order_of(&item) {
+    match order_of(&item.item) {
         Ok(order) => {
-            note_accepted(notes, number, &order, repeats);
-            write_order(output, number, &order)?;
+            note_accepted(notes, item.number, &order, repeats);
+            write_accepted(output, item.number, &order, ledger)?;
             Ok(true)
         }
         Err(fault) => {
-            note_refused(alloc, notes, number, &item, fault);
-            write_refused_item(output, number, fault)?;
+            note_refused(alloc, notes, item.number, &item.item, fault);
+            write_refused_item(output, item.number, fault)?;
             Ok(false)
         }
     }
+}
+
+// Writes an accepted item with its updates, and what the journal that is asked says of it.
+fn write_accepted<W: Write>(
+    output: &mut Output<W>,
+    number: u64,
+    order: &Order,
+    ledger: &Ledger<'_>,
+) -> Result<(), OutputFailed>
+    requires surveyed { IsSurveyed ledger.now }
+    ensures lines { IfOk result (λ _. (text : List ℕ)
+        × AreItemLines (asked ledger.now.journal) number (Ok order.now) text
+        × Takes W.contents output.old output.new text) }
+    ensures failed { TellsFailure result output.old output.new }
+{
+    write_order(output, number, order)?;
+    write_known(output, ledger.known(order))
 }
 
 // Tells where an accepted item has the number of an earlier one.

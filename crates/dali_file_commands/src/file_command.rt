@@ -11,15 +11,16 @@ use crate::run_scenario::run_scenario;
 use crate::show::show;
 use dali_faults::Status;
 use dali_input::Input;
+use dali_journal::Journal;
 use dali_text::Output;
 use std::alloc::Global;
 use std::io::{Read, Write};
 
 /// A command over what one file has (profile).
 #[derive(Clone, Copy)]
-pub enum FileCommand {
-    /// `check`, over orders.
-    Check,
+pub enum FileCommand<'a> {
+    /// `check`, over orders, of which it tells what this journal says of each, if one is to be asked.
+    Check { known: Option<&'a Journal> },
     /// `run`, over a scenario, with a line for each frame or one for each run of frames.
     Run { single_frames: bool },
     /// `show`, over the digits of a memory bank.
@@ -28,7 +29,7 @@ pub enum FileCommand {
     Journal { with_updates: bool },
 }
 
-impl FileCommand {
+impl FileCommand<'_> {
     /// Carries the command out over what the reader has, and writes its text. It ends as `Unwritten` where the text
     /// can't be written.
     ///
@@ -52,7 +53,7 @@ impl FileCommand {
             × Tells N.contents notes.old notes.new (IsNoted self.now result text) }
     {
         match *self {
-            FileCommand::Check => check(alloc, input, output, notes),
+            FileCommand::Check { known } => check(alloc, input, output, known, notes),
             FileCommand::Run { single_frames } => {
                 run_scenario(alloc, input, output, single_frames, notes)
             }

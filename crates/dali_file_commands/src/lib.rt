@@ -6,6 +6,7 @@ pub mod check;
 mod file_command;
 pub mod frame;
 pub mod journal;
+pub mod known;
 mod notes;
 pub mod run_scenario;
 pub mod show;

@@ -14,7 +14,9 @@ use Rattle.dali_drive.specs.Lines.{IsInLine}
 use Rattle.dali_follow.specs.declared.order_lines.OrderLines.{OrderLines}
 use Rattle.dali_follow.specs.Lines.{bytes_of}
 use Rattle.dali_follow.specs.Read.{IsBroken}
-use Rattle.dali_follow.specs.Gave.{Gave, LineGives, LinesGive, AreLines, IsEnd, is_refusal, refuses}
+use Rattle.dali_drive.specs.declared.following.Given.TheVariants as gives
+use Rattle.arrayvec.specs.ArrayVec.{ArrayVec}
+use Rattle.dali_follow.specs.Gave.{Gave, IsGiven, LineGives, LinesGive, AreLines, IsEnd, is_refusal, ready_line, refuses}
 
 turned : (a b c : Bool) → ((a || b) || c) ≡ (a || (c || b))
 turned true b c = refl
@@ -36,6 +38,52 @@ whole : {R : Type 0} (left : R → Option (List ℕ)) (failed : R → Bool) (fir
 whole left failed first now lines bytes goes_on (inl going) = (sym going.0 ∙ goes_on, going.1)
 whole left failed first now lines bytes goes_on (inr over) = let is = over.0 in cc
 
+-- behind `ready`, what the next line comes to is given
+given_next : (first old new : Bool) (lines more : List (List ℕ)) (bytes longer : List ℕ) (come given : List Given)
+    (next : Option Given) → (old ≡ true) × (new ≡ true) → IsGiven first old lines bytes come given
+    → IsGiven first new more longer (with_next next come) (with_next next given)
+given_next true true true lines more bytes longer come given next begun is =
+    (refl, ap (λ (g : List Given). with_next next g) is.1)
+given_next false true true lines more bytes longer come given None begun is = is
+given_next false true true lines more bytes longer come given (Some one) begun (text, ready, is) =
+    (text, ready, ap (λ (g : List Given). one ∷ g) is)
+given_next first false new lines more bytes longer come given next begun is = let old_is = begun.0 in cc
+given_next first true false lines more bytes longer come given next begun is = let new_is = begun.1 in cc
+
+-- and `ready` itself, before any line was read
+ready_given : (first old new : Bool) (lines : List (List ℕ)) (bytes : List ℕ) (come given : List Given)
+    (text : ArrayVec ℕ) → old ≡ false → new ≡ true → text.items ≡ ready_line → (lines ≡ [] → come ≡ [])
+    → IsGiven first old lines bytes come given → IsGiven first new lines bytes come (gives.Line text ∷ given)
+ready_given true old new lines bytes come given text old_is new_is ready none is = let begun = is.0 in cc
+ready_given false false true lines bytes come given text old_is new_is ready none (no_line, no_byte, nothing) =
+    (text, ready, rw (none no_line, nothing) refl)
+ready_given false true new lines bytes come given text old_is new_is ready none is = cc
+ready_given false false false lines bytes come given text old_is new_is ready none is = cc
+
+nothing_of_no_lines : (before moment : ℕ) (lines : List (List ℕ)) (come : List Given)
+    → LinesGive before moment lines come → lines ≡ [] → come ≡ []
+nothing_of_no_lines before moment [] come are none = are
+nothing_of_no_lines before moment (line ∷ lines) come are none = cc
+
+pub gave_ready : {R : Type 0} (left : R → Option (List ℕ)) (failed : R → Bool) (first old : OrderLines R)
+    (given : List Given) (text : ArrayVec ℕ) → old.is_begun ≡ false → text.items ≡ ready_line
+    → Gave left failed first old given
+    → Gave left failed first (record old { is_begun = true }) (gives.Line text ∷ given)
+gave_ready left failed first old given text unbegun ready gave = record {
+  lines = gave.lines;
+  bytes = gave.bytes;
+  taken = gave.taken;
+  inside = gave.inside;
+  lines_are = gave.lines_are;
+  moment_is = gave.moment_is;
+  count_is = gave.count_is;
+  come = gave.come;
+  come_are = gave.come_are;
+  given_are = ready_given first.is_begun old.is_begun true gave.lines gave.bytes gave.come given text unbegun refl ready
+      (nothing_of_no_lines first.count first.moment gave.lines gave.come gave.come_are) gave.given_are;
+  refused_is = gave.refused_is;
+}
+
 -- what the next line is: one with its line feed, or the last one without
 abbrev pub IsNext : {R : Type 0} → (R → Option (List ℕ)) → OrderLines R → OrderLines R → List ℕ → Type 0
 IsNext left old new line =
@@ -48,26 +96,27 @@ pub gave_next : {R : Type 0} (left : R → Option (List ℕ)) (failed : R → Bo
     (given : List Given) (line : List ℕ) (next : Option Given) → old.is_over ≡ false
     → Gave left failed first old given → IsInLine line → IsNext left old new line → new.moment ≡ old.moment
     → new.count ≡ old.count + 1 → new.has_refused ≡ (old.has_refused || refuses next)
+    → (old.is_begun ≡ true) × (new.is_begun ≡ true)
     → LineGives new.count old.moment line next → Gave left failed first new (with_next next given)
-gave_next {R} left failed first old new given line next goes_on gave inside is_next moment count refused gives =
+gave_next {R} left failed first old new given line next goes_on gave inside is_next moment count refused begun gives =
     by (whole left failed first old gave.lines gave.bytes goes_on gave.lines_are) is_next
   where
     number : new.count ≡ first.count + length (line ∷ gave.lines)
     number = let before = gave.count_is in omega arith
 
-    all_given : LinesGive first.count first.moment (line ∷ gave.lines) (with_next next given)
-    all_given = (
+    all_come : LinesGive first.count first.moment (line ∷ gave.lines) (with_next next gave.come)
+    all_come = (
       next,
-      given,
+      gave.come,
       subst (λ (n : ℕ). LineGives n first.moment line next) number
           (subst (λ (m : ℕ). LineGives new.count m line next) gave.moment_is gives),
-      gave.given_are,
+      gave.come_are,
       refl,
     )
 
-    all_refused : new.has_refused ≡ (first.has_refused || list_any is_refusal (with_next next given))
+    all_refused : new.has_refused ≡ (first.has_refused || list_any is_refusal (with_next next gave.come))
     all_refused =
-        refused ∙ ap (λ (b : Bool). b || refuses next) gave.refused_is ∙ refused_next first.has_refused given next
+        refused ∙ ap (λ (b : Bool). b || refuses next) gave.refused_is ∙ refused_next first.has_refused gave.come next
 
     by : (first.is_over ≡ false) × (gave.bytes ≡ bytes_of gave.lines) → IsNext left old new line
         → Gave left failed first new (with_next next given)
@@ -79,7 +128,10 @@ gave_next {R} left failed first old new given line next goes_on gave inside is_n
       lines_are = inl (feed.0 ∙ sym before.0, ap (λ (b : List ℕ). b ++ (line ++ codes "\n")) before.1);
       moment_is = moment ∙ gave.moment_is;
       count_is = number;
-      given_are = all_given;
+      come = with_next next gave.come;
+      come_are = all_come;
+      given_are = given_next first.is_begun old.is_begun new.is_begun gave.lines (line ∷ gave.lines) gave.bytes _
+          gave.come given next begun gave.given_are;
       refused_is = all_refused;
     }
     by before (inr last) = record {
@@ -90,7 +142,10 @@ gave_next {R} left failed first old new given line next goes_on gave inside is_n
       lines_are = inr (last.0, inl (last.1.2, inr (last.1.0, ap (λ (b : List ℕ). b ++ line) before.1)));
       moment_is = moment ∙ gave.moment_is;
       count_is = number;
-      given_are = all_given;
+      come = with_next next gave.come;
+      come_are = all_come;
+      given_are = given_next first.is_begun old.is_begun new.is_begun gave.lines (line ∷ gave.lines) gave.bytes _
+          gave.come given next begun gave.given_are;
       refused_is = all_refused;
     }
 
@@ -101,18 +156,22 @@ pub gave_no_more : {R : Type 0} (left : R → Option (List ℕ)) (failed : R →
     → Consumes (left old.source) (left new.source) line
     → ((line ≡ []) × IsAtEnd (left new.source)) ⊎ IsBroken (failed new.source) line
     → new.moment ≡ old.moment → new.count ≡ old.count → new.has_refused ≡ old.has_refused
-    → Gave left failed first new given
-gave_no_more {R} left failed first old new given line goes_on gave inside over taken why moment count refused = record {
-  lines = gave.lines;
-  bytes = gave.bytes ++ line;
-  taken = Consumes-trans _ _ _ _ _ gave.taken taken;
-  inside = gave.inside;
-  lines_are = inr (over, by why);
-  moment_is = moment ∙ gave.moment_is;
-  count_is = count ∙ gave.count_is;
-  given_are = gave.given_are;
-  refused_is = refused ∙ gave.refused_is;
-}
+    → (old.is_begun ≡ true) × (new.is_begun ≡ true) → Gave left failed first new given
+gave_no_more {R} left failed first old new given line goes_on gave inside over taken why moment count refused begun =
+    record {
+      lines = gave.lines;
+      bytes = gave.bytes ++ line;
+      taken = Consumes-trans _ _ _ _ _ gave.taken taken;
+      inside = gave.inside;
+      lines_are = inr (over, by why);
+      moment_is = moment ∙ gave.moment_is;
+      count_is = count ∙ gave.count_is;
+      come = gave.come;
+      come_are = gave.come_are;
+      given_are = given_next first.is_begun old.is_begun new.is_begun gave.lines gave.lines gave.bytes
+          (gave.bytes ++ line) gave.come given None begun gave.given_are;
+      refused_is = refused ∙ gave.refused_is;
+    }
   where
     before : (first.is_over ≡ false) × (gave.bytes ≡ bytes_of gave.lines)
     before = whole left failed first old gave.lines gave.bytes goes_on gave.lines_are

@@ -1,5 +1,5 @@
 -- What is submitted on a line, and what is none.
-use Rattle.std.proofs.Common.{◌≡◌, refl, sym, ap, subst, ℕ, Option, None, Err}
+use Rattle.std.proofs.Common.{◌≡◌, refl, sym, subst, ℕ, Option, None, Err}
 use Rattle.std.specs.Prelude.{IsSome, MatchOption, codes}
 use Rattle.serde_json.specs.Data.{Data}
 use Rattle.serde_json.specs.Find.{get}
@@ -8,7 +8,7 @@ use Rattle.dali_input.specs.declared.fault.InputFault.TheVariants.{Document}
 use Rattle.dali_input.specs.Scenario.{IsEvent, submit}
 use Rattle.dali_input.specs.Values.{IsNoReading}
 use Rattle.dali_follow.specs.declared.fault.LineFault.TheVariants.{Input}
-use Rattle.dali_follow.specs.Judged.{Outcome, IsSubmitted, IsNoSubmission}
+use Rattle.dali_follow.specs.Judged.{Outcome, IsSubmitted, IsNoSubmission, no_submission_on}
 
 -- a value without the key of a submission is submitted itself
 pub submitted_itself : (moment : ℕ) (json : Data) → get (codes "submit") json ≡ None
@@ -22,12 +22,10 @@ submitted_by moment at json item event =
     (sym event.1) event
 
 -- and an object with its key that is no event of a scenario is none
-pub no_submission : (json : Data) (fault : InputFault) → IsSome (get (codes "submit") json) → fault ≡ Document
-    → IsNoReading (IsEvent json) fault
-    → IsNoSubmission json × (◌≡◌ {A = Outcome} (Err (Input fault)) (Err (Input Document)))
-no_submission json fault some document none =
+pub no_submission : (json : Data) (fault : InputFault) (order : Option ℕ) → IsSome (get (codes "submit") json)
+    → fault ≡ Document → IsNoReading (IsEvent json) fault → order ≡ (no_submission_on json).order
+    → IsNoSubmission json
+    × (◌≡◌ {A = Outcome} (Err (record { order = order; fault = Input fault })) (Err (no_submission_on json)))
+no_submission json fault order some document none same =
     let never = rw document at none in
-    ((some, λ item at. never (submit item at)), ap (λ (f : InputFault). refused f) document)
-  where
-    refused : InputFault → Outcome
-    refused f = Err (Input f)
+    ((some, λ item at. never (submit item at)), rw (document, same) refl)

@@ -1,3 +1,4 @@
+pub mod FaultLemmas
 pub mod JudgedLemmas
 pub mod GaveLemmas
 pub mod WorkedLineLemmas

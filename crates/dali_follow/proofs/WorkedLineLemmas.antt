@@ -12,10 +12,10 @@ use Rattle.dali_input.specs.declared.item.ItemFault.TheVariants.{Bank}
 use Rattle.dali_input.specs.Input.{IsJson, IsNoJson}
 use Rattle.dali_drive.specs.declared.following.Given.{Given}
 use Rattle.dali_drive.specs.declared.following.Given.TheVariants as gives
-use Rattle.dali_follow.specs.declared.fault.LineFault.TheVariants.{Input, Item}
+use Rattle.dali_follow.specs.declared.fault.LineFault.TheVariants.{Item}
 use Rattle.dali_follow.specs.declared.order_lines.OrderLines.{OrderLines}
 use Rattle.dali_follow.specs.Faults.{item_line}
-use Rattle.dali_follow.specs.Judged.{IsSubmitted, IsNoSubmission, JudgesLine}
+use Rattle.dali_follow.specs.Judged.{IsSubmitted, IsNoSubmission, JudgesLine, no_json_on}
 use Rattle.dali_follow.specs.Lines.{line_limit, is_blank, bytes_of}
 use Rattle.dali_follow.specs.Read.{IsBroken}
 use Rattle.dali_follow.specs.Gave.{Gave, AreLines, EndsUnended, IsOver, LinesGive}
@@ -113,11 +113,16 @@ decimal_11 =
     decimal_step 11 (omega arith) (omega arith)
     ∙ ap (λ (digits : List ℕ). digits ++ codes "1") (decimal_digit 1 (omega arith))
 
-pub too_long_line_told : item_line 7 (Input TooBig) ≡ codes "item 7 fault 13 TooBig\n"
+pub too_long_line_told : item_line 7 (no_json_on TooBig) ≡ codes "item 7 fault 13 TooBig\n"
 too_long_line_told = rw (decimal_digit 7 (omega arith), decimal_13) refl
 
-pub item_told : item_line 2 (Item (Bank Gtin)) ≡ codes "item 2 fault 4 Gtin\n"
+pub item_told : item_line 2 (record { order = None; fault = Item (Bank Gtin) }) ≡ codes "item 2 fault 4 Gtin\n"
 item_told = rw (decimal_digit 2 (omega arith), decimal_digit 4 (omega arith)) refl
+
+pub item_of_an_order_told :
+    item_line 2 (record { order = Some 7; fault = Item (Bank Gtin) }) ≡ codes "item 2 order 7 fault 4 Gtin\n"
+item_of_an_order_told = rw (decimal_digit 2 (omega arith), decimal_digit 7 (omega arith), decimal_digit 4 (omega arith))
+    refl
 
 -- ---- what lines give, in turn: the first an order at its moment, the second is blank, the third no JSON
 
@@ -125,12 +130,12 @@ abbrev third_line : ArrayVec ℕ
 third_line = record { items = codes "item 3 fault 11 Json\n" }
 
 pub given_in_turn : (one three : List ℕ) (order : Contents) → is_blank one ≡ false → is_blank three ≡ false
-    → JudgesLine 5 one (Ok (order, 8)) → JudgesLine 5 three (Err (Input Json))
+    → JudgesLine 5 one (Ok (order, 8)) → JudgesLine 5 three (Err (no_json_on Json))
     → LinesGive 0 5 (three ∷ codes " " ∷ one ∷ []) (gives.Line third_line ∷ gives.Order order 8 ∷ [])
 given_in_turn one three order one_told three_told is_order no_json = (
   Some (gives.Line third_line),
   gives.Order order 8 ∷ [],
-  (three_told, (Input Json, no_json, sym (rw (decimal_digit 3 (omega arith), decimal_11) refl))),
+  (three_told, (no_json_on Json, no_json, sym (rw (decimal_digit 3 (omega arith), decimal_11) refl))),
   (
     None,
     gives.Order order 8 ∷ [],
@@ -148,8 +153,8 @@ given_in_turn one three order one_told three_told is_order no_json = (
 pub why_over : {R : Type 0} (left : R → Option (List ℕ)) (failed : R → Bool) (first now : OrderLines R)
     (given : List Given) → first.is_over ≡ false → Gave left failed first now given → IsOver now
     → (IsAtEnd (left now.source) ⊎ ((begun : List ℕ) × IsBroken (failed now.source) begun)) ⊎ (now.count ≡ 2 ^ 64 - 1)
-why_over left failed first now given at_first gave (inr many) = inr many
-why_over left failed first now given at_first gave (inl over) = inl (by gave.lines_are)
+why_over left failed first now given at_first gave (begun, inr many) = inr many
+why_over left failed first now given at_first gave (begun, inl over) = inl (by gave.lines_are)
   where
     by : AreLines left failed first now gave.lines gave.bytes
         → IsAtEnd (left now.source) ⊎ ((begun : List ℕ) × IsBroken (failed now.source) begun)

@@ -1,6 +1,6 @@
 -- What the lines of a stream give.
 use Rattle.std.specs.Prelude.{◌≡◌, ◌≢◌, ◌⊎◌, ◌||◌, ◌+◌, ◌++◌, ◌-◌, ◌^◌, ℕ, Bool, true, false, List, [], ◌∷◌, length}
-use Rattle.std.specs.Prelude.{Option, Some, None, Ok, Err}
+use Rattle.std.specs.Prelude.{Option, Some, None, Ok, Err, codes}
 use Rattle.std.specs.List.{All, list_any}
 use Rattle.std.specs.Io.KnownBytes.{Consumes, IsAtEnd}
 use Rattle.std.proofs.Common.{refl, sym, inl}
@@ -12,7 +12,8 @@ use Rattle.dali_drive.specs.declared.following.Given.{Given}
 use Rattle.dali_drive.specs.declared.following.Given.TheVariants as gives
 use Rattle.dali_drive.specs.Followed.{with_next}
 use Rattle.dali_drive.specs.Lines.{IsInLine}
-use Rattle.dali_follow.specs.declared.fault.LineFault.{LineFault}
+use Rattle.arrayvec.specs.ArrayVec.{ArrayVec}
+use Rattle.dali_follow.specs.declared.fault.RefusedLine.{RefusedLine}
 use Rattle.dali_follow.specs.declared.order_lines.OrderLines.{OrderLines}
 use Rattle.dali_follow.specs.Faults.{item_line}
 use Rattle.dali_follow.specs.Judged.{JudgesLine}
@@ -20,12 +21,13 @@ use Rattle.dali_follow.specs.Lines.{is_blank, bytes_of}
 use Rattle.dali_follow.specs.Read.{IsBroken}
 
 -- what is known of the orders of a source: the source, the moment of what brings none, how many lines were read,
--- whether one was refused, and whether no more is read
+-- whether one was refused, whether it was told that they are read from here on, and whether no more is
 pub record LinesState (R : Type 0) : Type 0 where
   pub source : R
   pub moment : ℕ
   pub count : ℕ
   pub has_refused : Bool
+  pub is_begun : Bool
   pub is_over : Bool
 
 abbrev pub state_of : {R : Type 0} → OrderLines R → LinesState R
@@ -34,12 +36,14 @@ state_of lines = record {
   moment = lines.moment;
   count = lines.count;
   has_refused = lines.has_refused;
+  is_begun = lines.is_begun;
   is_over = lines.is_over;
 }
 
--- no more is given: the stream has ended or was broken off, or the lines can't be counted any further
+-- no more is given: it was told that lines are read, and the stream has ended or was broken off, or the lines can't be
+-- counted any further
 abbrev pub IsOver : {R : Type 0} → OrderLines R → Type 0
-IsOver lines = (lines.is_over ≡ true) ⊎ (lines.count ≡ 2 ^ 64 - 1)
+IsOver lines = (lines.is_begun ≡ true) × ((lines.is_over ≡ true) ⊎ (lines.count ≡ 2 ^ 64 - 1))
 
 -- ---- which lines were read
 
@@ -76,7 +80,7 @@ LineGives number moment line None = is_blank line ≡ true
 LineGives number moment line (Some (gives.Order order at)) =
     (is_blank line ≡ false) × JudgesLine moment line (Ok (order, at))
 LineGives number moment line (Some (gives.Line text)) = (is_blank line ≡ false)
-    × ((fault : LineFault) × JudgesLine moment line (Err fault) × (text.items ≡ item_line number fault))
+    × ((refused : RefusedLine) × JudgesLine moment line (Err refused) × (text.items ≡ item_line number refused))
 
 -- what lines give behind so many others, both the newest first
 abbrev pub LinesGive : ℕ → ℕ → List (List ℕ) → List Given → Type 0
@@ -96,7 +100,19 @@ refuses (Some given) = is_refusal given
 
 -- ---- the whole
 
--- since it was the first of the two, these lines were read of the source and no other byte, and they gave this
+-- the line that tells that lines are read from here on
+abbrev pub ready_line : List ℕ
+ready_line = codes "ready\n"
+
+-- what was given where these lines and bytes were read and came to that, by whether `ready` had been told at first, and
+-- is now: it is told once, and no byte is read before it
+abbrev pub IsGiven : Bool → Bool → List (List ℕ) → List ℕ → List Given → List Given → Type 0
+IsGiven true now lines bytes come given = (now ≡ true) × (given ≡ come)
+IsGiven false true lines bytes come given =
+    (text : ArrayVec ℕ) × (text.items ≡ ready_line) × (given ≡ come ++ (gives.Line text ∷ []))
+IsGiven false false lines bytes come given = (lines ≡ []) × (bytes ≡ []) × (given ≡ [])
+
+-- since it was the first of the two, these lines were read of the source and no other byte, and they came to this
 pub record Gave {R : Type 0} (left : R → Option (List ℕ)) (failed : R → Bool) (first now : OrderLines R)
     (given : List Given) : Type 0 where
   pub lines : List (List ℕ)
@@ -106,10 +122,16 @@ pub record Gave {R : Type 0} (left : R → Option (List ℕ)) (failed : R → Bo
   pub lines_are : AreLines left failed first now lines bytes
   pub moment_is : now.moment ≡ first.moment
   pub count_is : now.count ≡ first.count + length lines
-  pub given_are : LinesGive first.count first.moment lines given
-  pub refused_is : now.has_refused ≡ (first.has_refused || list_any is_refusal given)
+  pub come : List Given
+  pub come_are : LinesGive first.count first.moment lines come
+  pub given_are : IsGiven first.is_begun now.is_begun lines bytes come given
+  pub refused_is : now.has_refused ≡ (first.has_refused || list_any is_refusal come)
 
 -- at first, nothing
+none_given : (begun : Bool) → IsGiven begun begun [] [] [] []
+none_given true = (refl, refl)
+none_given false = (refl, refl, refl)
+
 pub gave_none : {R : Type 0} (left : R → Option (List ℕ)) (failed : R → Bool) (lines : OrderLines R)
     → Gave left failed lines lines []
 gave_none left failed lines = record {
@@ -120,6 +142,8 @@ gave_none left failed lines = record {
   lines_are = inl (refl, refl);
   moment_is = refl;
   count_is = sym (add-zero lines.count);
-  given_are = refl;
+  come = [];
+  come_are = refl;
+  given_are = none_given lines.is_begun;
   refused_is = sym (or-false lines.has_refused);
 }

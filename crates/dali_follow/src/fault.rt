@@ -1,8 +1,9 @@
 // Why a line is refused, and how that is told.
 ghost use Rattle.std.specs.Prelude.{◌≡◌, ◌≤◌, length};
+ghost use Rattle.arrayvec.specs.ArrayVec.{array_vec_len};
 ghost use Rattle.dali_bank.specs.Faults.{name_of as bank_fault_name};
 ghost use Rattle.dali_input.specs.Faults.{name_of as input_fault_name};
-ghost use Rattle.dali_follow.specs.Faults.{item_line};
+ghost use Rattle.dali_follow.specs.Faults.{item_line, item_head};
 
 use dali_bank::BankFault;
 use dali_drive::{Line, push_decimal, push_text};
@@ -59,6 +60,13 @@ impl fmt::Display for LineFault {
 
 impl Error for LineFault {}
 
+// A line that is refused: the number of the order on it, where it has one, and why.
+#[derive(Clone, Copy)]
+pub(crate) struct RefusedLine {
+    pub(crate) order: Option<u64>,
+    pub(crate) fault: LineFault,
+}
+
 fn input_name(fault: InputFault) -> &'static str
     ensures name { result.now ≡ input_fault_name fault }
     ensures short { length result.now ≤ 8 }
@@ -89,17 +97,31 @@ fn bank_name(fault: BankFault) -> &'static str
     }
 }
 
-// The line of a refused item.
-pub(crate) fn item_line(number: u64, fault: LineFault) -> Line
-    ensures { result.items ≡ item_line number fault }
+// The line of a refused item, on the line of this number.
+#[tactic(auto, using(crate::proofs::FaultLemmas::byte_is_short))]
+pub(crate) fn item_line(number: u64, refused: RefusedLine) -> Line
+    ensures { result.items ≡ item_line number refused }
+{
+    let mut line = item_head(number, refused.order);
+    push_text(&mut line, " fault ");
+    push_decimal(&mut line, u64::from(refused.fault.number()));
+    push_text(&mut line, " ");
+    push_text(&mut line, refused.fault.name());
+    push_text(&mut line, "\n");
+    line
+}
+
+// How it begins: which line it is, and which order's.
+fn item_head(number: u64, order: Option<u64>) -> Line
+    ensures items { result.items ≡ item_head number order }
+    ensures short { array_vec_len result ≤ 52 }
 {
     let mut line = Line::new();
     push_text(&mut line, "item ");
     push_decimal(&mut line, number);
-    push_text(&mut line, " fault ");
-    push_decimal(&mut line, u64::from(fault.number()));
-    push_text(&mut line, " ");
-    push_text(&mut line, fault.name());
-    push_text(&mut line, "\n");
+    if let Some(order) = order {
+        push_text(&mut line, " order ");
+        push_decimal(&mut line, order);
+    }
     line
 }

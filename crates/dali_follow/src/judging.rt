@@ -1,10 +1,11 @@
 // What a line comes to.
-ghost use Rattle.std.specs.Prelude.{ℕ, List};
+ghost use Rattle.std.specs.Prelude.{◌≡◌, ℕ, List};
 ghost use Rattle.serde_json.specs.View.{view};
 ghost use Rattle.dali_follow.specs.Buffers.{Holds};
-ghost use Rattle.dali_follow.specs.Judged.{JudgesAt, JudgesValue, JudgesLine};
+ghost use Rattle.dali_follow.specs.Judged.{JudgesAt, JudgesValue, JudgesLine, no_json_on, no_submission_on};
+ghost use Rattle.dali_follow.specs.Judged.{order_number as number_of_order};
 
-use crate::fault::LineFault;
+use crate::fault::{LineFault, RefusedLine};
 use crate::line_buffer::{LINE_LIMIT, LineBuffer};
 use dali_bank::Order;
 use dali_input::{InputFault, json_of, order_of, submission_of};
@@ -13,40 +14,70 @@ use std::alloc::Global;
 
 // The order of a line and its moment: the one that stands there, or that of the stream.
 //
-// The first LineFault that stands (profile): 13 TooBig, 11 Json, 20 Memory, 12 Document, and then that of the item.
+// The first fault that stands (profile): 13 TooBig, 11 Json, 20 Memory, 12 Document, and then that of the item.
 pub(crate) fn judge_line(
     alloc: Global,
     line: &LineBuffer,
     moment: u64,
-) -> Result<(Order, u64), LineFault>
+) -> Result<(Order, u64), RefusedLine>
     ensures { (text : List ℕ) → Holds line.now text → JudgesLine moment text result }
 {
     if line.is_long {
-        return Err(LineFault::Input(InputFault::TooBig));
+        return Err(no_json(InputFault::TooBig));
     }
     match json_of(alloc, line.bytes.as_slice(), LINE_LIMIT) {
         Ok(json) => judge_value(&json, moment),
-        Err(fault) => Err(LineFault::Input(fault)),
+        Err(fault) => Err(no_json(fault)),
     }
 }
 
 // What a value on a line comes to.
-fn judge_value(json: &Value, moment: u64) -> Result<(Order, u64), LineFault>
+fn judge_value(json: &Value, moment: u64) -> Result<(Order, u64), RefusedLine>
     ensures { JudgesValue moment (view json.now) result }
 {
     match submission_of(json) {
         None => judge_at(json, moment),
         Some(Ok((order, at))) => judge_at(order, at),
-        Some(Err(fault)) => Err(LineFault::Input(fault)),
+        Some(Err(fault)) => Err(RefusedLine {
+            order: submitted_number(json),
+            fault: LineFault::Input(fault),
+        }),
     }
 }
 
 // What becomes of what is submitted at a moment.
-fn judge_at(item: &Value, moment: u64) -> Result<(Order, u64), LineFault>
+fn judge_at(item: &Value, moment: u64) -> Result<(Order, u64), RefusedLine>
     ensures { JudgesAt moment (view item.now) result }
 {
     match order_of(item) {
         Ok(order) => Ok((order, moment)),
-        Err(fault) => Err(LineFault::Item(fault)),
+        Err(fault) => Err(RefusedLine {
+            order: order_number(item),
+            fault: LineFault::Item(fault),
+        }),
+    }
+}
+
+// The number that an item has for its order, whatever else is wrong with it.
+fn order_number(item: &Value) -> Option<u64>
+    ensures { result ≡ number_of_order (view item.now) }
+{
+    item.get("order").and_then(Value::as_u64)
+}
+
+// The same of what a value would submit, though it can't be read.
+fn submitted_number(json: &Value) -> Option<u64>
+    ensures { result ≡ (no_submission_on (view json.now)).order }
+{
+    order_number(json.get("submit")?)
+}
+
+// How a line is refused that has no JSON.
+fn no_json(fault: InputFault) -> RefusedLine
+    ensures { result ≡ no_json_on fault }
+{
+    RefusedLine {
+        order: None,
+        fault: LineFault::Input(fault),
     }
 }

@@ -1,23 +1,24 @@
-ghost use Rattle.std.specs.Prelude.{◌≡◌, ◌+◌, ◌<◌, ◌⊎◌, ◌^◌, ◌-◌, ◌||◌, List, ℕ, IfSome, false, true};
+ghost use Rattle.std.specs.Prelude.{◌≡◌, ◌+◌, ◌<◌, ◌⊎◌, ◌^◌, ◌-◌, ◌||◌, ◌∷◌, List, ℕ, IfSome, IfNone, false, true};
 ghost use Rattle.dali_drive.specs.declared.following.Given.{Given};
 ghost use Rattle.dali_drive.specs.Followed.{with_next};
 ghost use Rattle.dali_follow.specs.Buffers.{Holds};
-ghost use Rattle.dali_follow.specs.Gave.{Gave, LineGives, refuses};
+ghost use Rattle.dali_follow.specs.Gave.{Gave, IsOver, LineGives, ready_line as line_when_ready, refuses};
 
 use crate::fault::item_line;
 use crate::judging::judge_line;
 use crate::line_buffer::LineBuffer;
 use crate::reading::{LineEnd, read_line};
-use dali_drive::{Given, Orders, Source};
+use dali_drive::{Given, Line, Orders, Source, push_text};
 use std::alloc::Global;
 use std::io::ErrorKind;
 
 /// Orders that a source gives in lines (profile). A line is a value of JSON of at most 16,384 bytes: an object with the
 /// key "submit" is a submission as in a scenario, and any other value is an order itself, submitted at the moment that
-/// the stream has. A line that is refused is told as `item I fault F NAME`, where I counts the lines from 1; one of
-/// spaces, tabs and carriage returns alone is passed over. A line ends at its line feed, the last one also where the
-/// stream ends.
+/// the stream has. A line that is refused is told as `item I order N fault F NAME`, where I counts the lines from 1,
+/// and `order N` stands only where the item has a whole number for its order; one of spaces, tabs and carriage returns
+/// alone is passed over. A line ends at its line feed, the last one also where the stream ends.
 ///
+/// First of all, and before a byte is read, it gives the line `ready`: whoever asks for an order is ready to take one.
 /// A line is read when the next order is wanted, and no further. No more is held than one line.
 #[derive(Drop)]
 pub struct OrderLines<R> {
@@ -28,6 +29,8 @@ pub struct OrderLines<R> {
     count: u64,
     // Whether one was refused.
     has_refused: bool,
+    // Whether it was told that lines are read from here on.
+    is_begun: bool,
     // Whether no more is read: the stream has ended, or it was broken off.
     is_over: bool,
     buffer: LineBuffer,
@@ -43,6 +46,7 @@ impl<R: Source> OrderLines<R> {
           moment = moment;
           count = 0;
           has_refused = false;
+          is_begun = false;
           is_over = false;
         } }
     {
@@ -52,6 +56,7 @@ impl<R: Source> OrderLines<R> {
             moment,
             count: 0,
             has_refused: false,
+            is_begun: false,
             is_over: false,
             buffer: LineBuffer::new(),
         }
@@ -78,10 +83,37 @@ impl<R: Source> OrderLines<R> {
         self.source.cause()
     }
 
+    // Tells that lines are read from here on.
+    fn begin(&mut self) -> Given
+        requires { self.old.is_begun ≡ false }
+        ensures given { (first : OrderLines R) (given : List Given) → Gave R.left R.failed first self.old given
+            → Gave R.left R.failed first self.new (result ∷ given) }
+    {
+        self.is_begun = true;
+        Given::Line(ready_line())
+    }
+
+    // Reads lines up to the next one that gives something, if there is one.
+    fn next_given(&mut self) -> Option<Given>
+        requires { self.old.is_begun ≡ true }
+        ensures given { (first : OrderLines R) (given : List Given) → Gave R.left R.failed first self.old given
+            → Gave R.left R.failed first self.new (with_next result given) }
+        ensures over { IfNone result (IsOver self.new) }
+    {
+        while !self.is_over && self.count < u64::MAX {
+            if let Some(given) = self.take_line() {
+                return Some(given);
+            }
+        }
+        None
+    }
+
     // Reads the next line, and gives what it comes to: nothing where it is blank, or where there is none.
     fn take_line(&mut self) -> Option<Given>
         requires goes_on { self.old.is_over ≡ false }
         requires more { self.old.count < 2 ^ 64 - 1 }
+        requires begun { self.old.is_begun ≡ true }
+        ensures begun { self.new.is_begun ≡ true }
         ensures given { (first : OrderLines R) (given : List Given) → Gave R.left R.failed first self.old given
             → Gave R.left R.failed first self.new (with_next result given) }
         ensures counted { ((self.new.is_over ≡ true) × (self.new.count ≡ self.old.count))
@@ -115,9 +147,9 @@ impl<R: Source> OrderLines<R> {
         }
         match judge_line(self.alloc, &self.buffer, self.moment) {
             Ok((order, moment)) => Some(Given::Order(order, moment)),
-            Err(fault) => {
+            Err(refused) => {
                 self.has_refused = true;
-                Some(Given::Line(item_line(self.count, fault)))
+                Some(Given::Line(item_line(self.count, refused)))
             }
         }
     }
@@ -131,13 +163,21 @@ impl<R: Source> Orders for OrderLines<R> {
     ghost over = { IsOver };
 
     fn next(&mut self) -> Option<Given> {
-        while !self.is_over && self.count < u64::MAX {
-            if let Some(given) = self.take_line() {
-                return Some(given);
-            }
+        if self.is_begun {
+            self.next_given()
+        } else {
+            Some(self.begin())
         }
-        None
     }
 
     ghost gave_none = { gave_none R.left R.failed };
+}
+
+// The line that tells that lines are read from here on.
+fn ready_line() -> Line
+    ensures { result.items ≡ line_when_ready }
+{
+    let mut line = Line::new();
+    push_text(&mut line, "ready\n");
+    line
 }

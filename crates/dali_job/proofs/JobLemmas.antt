@@ -12,8 +12,8 @@ use Rattle.clap.specs.declared.builder.command.Command.{Command}
 use Rattle.clap.specs.declared.builder.command.Command.TheViews.{out-Command as fields_of}
 use Rattle.clap.specs.declared.parser.matches.ArgMatches.{ArgMatches}
 use Rattle.clap.proofs.OnLiterals.{clap_on_literals}
-use Rattle.dali_job.specs.Jobs.{HasFlag, HasNumber, HasOption, HasValue, IsEntered, IsJob, IsNoDrive, IsNoJob}
-use Rattle.dali_job.specs.Jobs.{IsNumber, bench_app}
+use Rattle.dali_job.specs.Jobs.{HasFlag, HasNumber, HasOption, HasValue, IsEntered, IsJob, IsNoCheck, IsNoDrive}
+use Rattle.dali_job.specs.Jobs.{IsNoJob, IsNumber, bench_app}
 use Rattle.dali_job.specs.declared.job.Job.{Job}
 use Rattle.dali_job.specs.declared.job.Job.TheVariants.{Check, Run, Frame, Show, Journal, Drive, Read, Verify, Scan}
 
@@ -148,24 +148,24 @@ with_added E (Err error) was all before next is_next local was_is added = absurd
 
 -- where no command has its value, the parse entered no job's
 pub no_job : (entered : Option (Text × List Row))
-    → ((value : Text) → ¬ HasValue entered (codes "check") (codes "ORDERS") value)
     → ((value : Text) → ¬ HasValue entered (codes "run") (codes "SCENARIO") value)
     → ((value : Text) → ¬ HasValue entered (codes "frame") (codes "HEX") value)
     → ((value : Text) → ¬ HasValue entered (codes "show") (codes "HEXFILE") value)
     → ((value : Text) → ¬ HasValue entered (codes "journal") (codes "FILE") value)
     → ((value : Text) → ¬ HasValue entered (codes "verify") (codes "ORDERS") value)
     → ¬ IsEntered entered (codes "scan")
-    → ((unit : ℕ) (bank : Bor Text) → ¬ IsJob entered (Read unit bank)) → IsNoDrive entered → IsNoJob entered
-no_job _ no_orders _ _ _ _ _ _ _ _ (Check orders) = no_orders orders.now
-no_job _ _ no_scenario _ _ _ _ _ _ _ (Run scenario _) = λ named. no_scenario scenario.now named.0
-no_job _ _ _ no_digits _ _ _ _ _ _ (Frame digits) = no_digits digits.now
-no_job _ _ _ _ no_dump _ _ _ _ _ (Show dump) = no_dump dump.now
-no_job _ _ _ _ _ no_records _ _ _ _ (Journal records _) = λ named. no_records records.now named.0
-no_job _ _ _ _ _ _ no_compared _ _ _ (Verify orders _) = λ named. no_compared orders.now named.0
-no_job _ _ _ _ _ _ _ no_scan _ _ Scan = no_scan
-no_job _ _ _ _ _ _ _ _ no_read _ (Read unit bank) = no_read unit bank
-no_job _ _ _ _ _ _ _ _ _ no_drive (Drive orders journal moment follow require_done report older) =
-    no_drive orders journal moment follow require_done report older
+    → ((unit : ℕ) (bank : Bor Text) → ¬ IsJob entered (Read unit bank)) → IsNoCheck entered → IsNoDrive entered
+    → IsNoJob entered
+no_job _ no_scenario _ _ _ _ _ _ _ _ (Run scenario _) = λ named. no_scenario scenario.now named.0
+no_job _ _ no_digits _ _ _ _ _ _ _ (Frame digits) = no_digits digits.now
+no_job _ _ _ no_dump _ _ _ _ _ _ (Show dump) = no_dump dump.now
+no_job _ _ _ _ no_records _ _ _ _ _ (Journal records _) = λ named. no_records records.now named.0
+no_job _ _ _ _ _ no_compared _ _ _ _ (Verify orders _) = λ named. no_compared orders.now named.0
+no_job _ _ _ _ _ _ no_scan _ _ _ Scan = no_scan
+no_job _ _ _ _ _ _ _ no_read _ _ (Read unit bank) = no_read unit bank
+no_job _ _ _ _ _ _ _ _ no_check _ (Check orders journal older) = no_check orders journal older
+no_job _ _ _ _ _ _ _ _ _ no_drive (Drive orders journal moment follow require_done require_now report older) =
+    no_drive orders journal moment follow require_done require_now report older
 
 -- what follows from what there is where no job was found
 pub none_then : (found : Option Job) (P Q : Type 0) → (P → Q) → IfNone found P → IfNone found Q

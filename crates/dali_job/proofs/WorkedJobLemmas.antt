@@ -1,7 +1,9 @@
 -- Which job short command lines ask for, by hand, on both sides of each rule.
-use Rattle.std.proofs.Common.{◌≡◌, ◌∙◌, refl, ap, ℕ, true, false, List, [], ◌∷◌, Option, Some, None, Bor, codes, arith}
+use Rattle.std.proofs.Common.{◌≡◌, ◌∙◌, refl, ap, ℕ, false, List, [], ◌∷◌, Option, Some, None, Bor, codes, arith}
 use Rattle.std.proofs.Common.{option_map, subst, get_or}
 use Rattle.std.specs.Prelude.{unwrap_or}
+use Rattle.std.specs.declared.vec.Vec.{Vec}
+use Rattle.std.specs.declared.alloc.Global.{Global}
 use Rattle.clap.specs.Words.{Row, Text, all_of, first_of, one_of, subcommand_of}
 use Rattle.clap.proofs.OnLiterals.{clap_on_literals}
 use Rattle.dali_job.specs.declared.job.Job.TheVariants.{Check, Run, Read, Verify, Scan}
@@ -77,17 +79,33 @@ unfolding clap_on_literals
 no_scan_asked_by_check = λ (rows, is).
     let other : codes "check" ≡ codes "scan" = ap name_in is in cc
 
-pub check_asked : (orders : Bor Text) → orders.now ≡ codes "a"
-    → IsJobOf (codes "dali_bench" ∷ codes "check" ∷ codes "a" ∷ []) (Check orders)
-unfolding clap_on_literals
-check_asked orders is = (rows_in (entered_by (codes "check" ∷ codes "a" ∷ [])), refl, rw is refl)
+-- the rows of a check of one file
+abbrev checked : List Text → Option (Text × List Row)
+checked options = entered_by (codes "check" ∷ codes "a" ∷ options)
 
-pub no_other_file_checked : (orders : Bor Text) → orders.now ≡ codes "b"
-    → ¬ IsJobOf (codes "dali_bench" ∷ codes "check" ∷ codes "a" ∷ []) (Check orders)
+pub check_asked : (orders : Bor Text) (older : Vec (Bor Text) Global) → orders.now ≡ codes "a" → older.items ≡ []
+    → IsJobOf (codes "dali_bench" ∷ codes "check" ∷ codes "a" ∷ []) (Check orders None older)
 unfolding clap_on_literals
-no_other_file_checked orders is = λ has.
-    a_is_not_b orders.now
-    (value_is (entered_by (codes "check" ∷ codes "a" ∷ [])) (codes "check") (codes "ORDERS") orders.now has) is
+check_asked orders older is none = (
+  (rows_in (checked []), refl, rw is refl),
+  (rows_in (checked []), refl, refl),
+  (rows_in (checked []), refl, rw none refl),
+)
+
+pub no_other_file_checked : (orders : Bor Text) (journal : Option (Bor Text)) (older : Vec (Bor Text) Global)
+    → orders.now ≡ codes "b"
+    → ¬ IsJobOf (codes "dali_bench" ∷ codes "check" ∷ codes "a" ∷ []) (Check orders journal older)
+unfolding clap_on_literals
+no_other_file_checked orders journal older is = λ has.
+    a_is_not_b orders.now (value_is (checked []) (codes "check") (codes "ORDERS") orders.now has.0) is
+
+pub journal_not_dropped : (orders : Bor Text) (older : Vec (Bor Text) Global)
+    → ¬ IsJobOf (codes "dali_bench" ∷ codes "check" ∷ codes "a" ∷ codes "--journal" ∷ codes "j" ∷ [])
+    (Check orders None older)
+unfolding clap_on_literals
+journal_not_dropped orders older = λ is.
+    let (rows, entered, none) = is.1 in
+    let left_out : Some (codes "j") ≡ None = ap (λ e. first_of (codes "journal") (rows_in e)) entered ∙ none in cc
 
 -- ---- a flag
 

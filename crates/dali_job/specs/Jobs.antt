@@ -51,6 +51,11 @@ command_app name id = with_rule (new_app name) (value_rule id)
 abbrev pub top_app : App
 top_app = let app = new_app (codes "dali_bench") in record app { top = record app.top { subcommand_required = true } }
 
+-- the command that checks, with the journal that is asked and the older ones
+abbrev pub check_app : App
+check_app = let asked = with_rule (command_app (codes "check") (codes "ORDERS")) (option_rule (codes "journal")) in
+    with_rule asked (many_rule (codes "older"))
+
 -- the command that runs a scenario, with its flag
 abbrev pub run_app : App
 run_app = with_rule (command_app (codes "run") (codes "SCENARIO")) (flag_rule (codes "frames"))
@@ -59,14 +64,15 @@ run_app = with_rule (command_app (codes "run") (codes "SCENARIO")) (flag_rule (c
 abbrev pub journal_app : App
 journal_app = with_rule (command_app (codes "journal") (codes "FILE")) (flag_rule (codes "updates"))
 
--- the command that drives, with its two files, the moment, which is 0 where it isn't given, its two flags, its
+-- the command that drives, with its two files, the moment, which is 0 where it isn't given, its three flags, its
 -- report, and the older journals
 abbrev pub drive_app : App
 drive_app = let files = with_rule (command_app (codes "drive") (codes "ORDERS")) (value_rule (codes "JOURNAL")) in
     let timed = with_rule files (number_rule (codes "moment") (codes "0")) in
     let followed = with_rule timed (flag_rule (codes "follow")) in
     let flagged = with_rule followed (flag_rule (codes "require-done")) in
-    with_rule (with_rule flagged (option_rule (codes "report"))) (many_rule (codes "older"))
+    let strict = with_rule flagged (flag_rule (codes "require-now")) in
+    with_rule (with_rule strict (option_rule (codes "report"))) (many_rule (codes "older"))
 
 -- the command that reads, with its unit and its file
 abbrev pub read_app : App
@@ -78,7 +84,7 @@ verify_app = with_rule (command_app (codes "verify") (codes "ORDERS")) (option_r
 
 -- the program's commands and their arguments, as `clap` sees them
 abbrev pub bench_app : App
-bench_app = let checks = with_subcommand top_app (command_app (codes "check") (codes "ORDERS")).top in
+bench_app = let checks = with_subcommand top_app check_app.top in
     let runs = with_subcommand checks run_app.top in
     let frames = with_subcommand runs (command_app (codes "frame") (codes "HEX")).top in
     let shows = with_subcommand frames (command_app (codes "show") (codes "HEXFILE")).top in
@@ -134,7 +140,10 @@ HasUnit entered command id unit = HasNumber entered command id unit × (unit ≤
 
 -- the job is the command that a parse entered, with its values, flags, numbers and options
 abbrev pub IsJob : Option (Text × List Row) → Job → Type 0
-IsJob entered (Check orders) = HasValue entered (codes "check") (codes "ORDERS") orders.now
+IsJob entered (Check orders journal older) =
+    HasValue entered (codes "check") (codes "ORDERS") orders.now
+    × HasOption entered (codes "check") (codes "journal") journal
+    × HasValues entered (codes "check") (codes "older") (map (λ value. value.now) older.items)
 IsJob entered (Run scenario single_frames) =
     HasValue entered (codes "run") (codes "SCENARIO") scenario.now
     × Decides single_frames (HasFlag entered (codes "run") (codes "frames"))
@@ -143,12 +152,13 @@ IsJob entered (Show dump) = HasValue entered (codes "show") (codes "HEXFILE") du
 IsJob entered (Journal records with_updates) =
     HasValue entered (codes "journal") (codes "FILE") records.now
     × Decides with_updates (HasFlag entered (codes "journal") (codes "updates"))
-IsJob entered (Drive orders journal moment follow require_done report older) =
+IsJob entered (Drive orders journal moment follow require_done require_now report older) =
     HasValue entered (codes "drive") (codes "ORDERS") orders.now
     × HasValue entered (codes "drive") (codes "JOURNAL") journal.now
     × HasNumber entered (codes "drive") (codes "moment") moment
     × Decides follow (HasFlag entered (codes "drive") (codes "follow"))
     × Decides require_done (HasFlag entered (codes "drive") (codes "require-done"))
+    × Decides require_now (HasFlag entered (codes "drive") (codes "require-now"))
     × HasOption entered (codes "drive") (codes "report") report
     × HasValues entered (codes "drive") (codes "older") (map (λ value. value.now) older.items)
 IsJob entered (Read unit bank) =
@@ -159,10 +169,16 @@ IsJob entered (Verify orders report) =
     × HasOption entered (codes "verify") (codes "report") report
 IsJob entered Scan = IsEntered entered (codes "scan")
 
+-- no job of checking is that of the command that a parse entered
+abbrev pub IsNoCheck : Option (Text × List Row) → Type 0
+IsNoCheck entered = (orders : Bor Text) (journal : Option (Bor Text)) (older : Vec (Bor Text) Global)
+    → ¬ IsJob entered (Check orders journal older)
+
 -- no job of driving is that of the command that a parse entered
 abbrev pub IsNoDrive : Option (Text × List Row) → Type 0
-IsNoDrive entered = (orders journal : Bor Text) (moment : ℕ) (follow require_done : Bool) (report : Option (Bor Text))
-    (older : Vec (Bor Text) Global) → ¬ IsJob entered (Drive orders journal moment follow require_done report older)
+IsNoDrive entered = (orders journal : Bor Text) (moment : ℕ) (follow require_done require_now : Bool)
+    (report : Option (Bor Text)) (older : Vec (Bor Text) Global)
+    → ¬ IsJob entered (Drive orders journal moment follow require_done require_now report older)
 
 -- no job is that of the command that a parse entered
 abbrev pub IsNoJob : Option (Text × List Row) → Type 0

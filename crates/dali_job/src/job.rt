@@ -1,32 +1,26 @@
-ghost use Rattle.std.specs.Prelude.{◌≡◌, ◌⊎◌, [], List, ℕ, IfOk, IfErr, IfSome, IfNone, IsOkAnd, codes};
-ghost use Rattle.std.specs.Prelude.{false, map, unwrap_or};
-ghost use Rattle.clap.specs.declared.builder.command.Command.TheViews.{out-Command as fields_of};
+ghost use Rattle.std.specs.Prelude.{◌≡◌, ◌⊎◌, [], List, ℕ, IfOk, IfErr, IfSome, IfNone, map, unwrap_or};
 ghost use Rattle.std.specs.Bool.{Decides};
-ghost use Rattle.clap.specs.Words.{HasKind, all_of, app_of, fault_of, found_of, new_app, rows_of, rule_of};
-ghost use Rattle.clap.specs.Words.{subcommand_rows_of, AddsSubcommand};
-ghost use Rattle.dali_job.specs.Jobs.{HasFlag, HasNumber, HasUnit, HasValue, HasValues, IsEntered, IsJob, IsJobOf};
-ghost use Rattle.dali_job.specs.Jobs.{IsNoDrive, IsNoJob, NamesNoJob, bench_app, command_app, drive_app, flag_rule};
-ghost use Rattle.dali_job.specs.Jobs.{journal_app, many_rule, number_rule, option_rule, read_app, run_app, unit_rule};
-ghost use Rattle.dali_job.specs.Jobs.{value_rule, verify_app};
-ghost use Rattle.dali_job.specs.declared.job.Job.TheVariants.{Read};
 ghost use Rattle.std.specs.Borrow.{Bor};
+ghost use Rattle.clap.specs.Words.{HasKind, all_of, app_of, fault_of, found_of, rows_of, subcommand_rows_of};
+ghost use Rattle.dali_job.specs.Jobs.{HasFlag, HasNumber, HasUnit, HasValue, HasValues, IsEntered, IsJob, IsJobOf};
+ghost use Rattle.dali_job.specs.Jobs.{IsNoCheck, IsNoDrive, IsNoJob, NamesNoJob, bench_app};
+ghost use Rattle.dali_job.specs.declared.job.Job.TheVariants.{Read};
 
-use crate::usages::{
-    ABOUT, Argument, CHECK, CHECK_ORDERS, DRIVE, DRIVE_DONE_HELP, DRIVE_FOLLOW_HELP,
-    DRIVE_JOURNAL_HELP, DRIVE_MOMENT_HELP, DRIVE_OLDER_HELP, DRIVE_REPORT_HELP, FRAME, FRAME_HEX,
-    JOURNAL, JOURNAL_FILE, JOURNAL_UPDATES_HELP, LINK_ORDERS, READ, READ_BANK_HELP, READ_UNIT_HELP,
-    RUN, RUN_FRAMES_HELP, RUN_SCENARIO, SCAN, SHOW, SHOW_DUMP, TOP_HELP, Usage, VERIFY,
-    VERIFY_REPORT_HELP,
-};
+use crate::commands::bench_command;
 use clap::error::ErrorKind;
-use clap::{Arg, ArgAction, ArgMatches, Command, Error, value_parser};
+use clap::{ArgMatches, Command, Error};
 use std::alloc::{AllocError, Global};
 
 /// What the command line asks for.
 #[derive(Drop, Debug, PartialEq, Eq)]
 pub enum Job<'a> {
-    /// To check a file of orders.
-    Check(&'a str),
+    /// To check a file of orders. `journal` is the one, if any is to be asked, that tells what it says of each order,
+    /// behind the `older` ones, in the order in which they were given.
+    Check {
+        orders: &'a str,
+        journal: Option<&'a str>,
+        older: Vec<&'a str>,
+    },
     /// To run the events of a scenario file on simulated units; with `single_frames`, each frame
     /// has a line of its own.
     Run {
@@ -44,7 +38,8 @@ pub enum Job<'a> {
     },
     /// To carry out a file of orders over a link, with the journal of a file. `moment` is kept with
     /// each order that begins. With `follow` the file is a stream, of which each line is carried out
-    /// before the next is read. With `require_done` it is to end well only where each order is done.
+    /// before the next is read. With `require_done` it is to end well only where each order is done,
+    /// with `require_now` only where each was done by it.
     /// `report` is the file, if one is wanted, that gets a line for each order at its last reply.
     /// `older` are the journals whose orders get their kept replies, in the order in which they were
     /// given.
@@ -54,6 +49,7 @@ pub enum Job<'a> {
         moment: u64,
         follow: bool,
         require_done: bool,
+        require_now: bool,
         report: Option<&'a str>,
         older: Vec<&'a str>,
     },
@@ -125,21 +121,22 @@ fn job_in<'a>(alloc: Global, matches: &ArgMatches<'a>) -> Result<Option<Job<'a>>
     ensures named { IfOk result (λ found. IfSome found (IsJob (subcommand_rows_of matches.now))) }
     ensures none { IfOk result (λ found. IfNone found (IsNoJob (subcommand_rows_of matches.now))) }
 {
-    match other_job_in(matches) {
+    if let Some(job) = other_job_in(matches) {
+        return Ok(Some(job));
+    }
+    match check_in(alloc, matches)? {
         Some(job) => Ok(Some(job)),
         None => drive_in(alloc, matches),
     }
 }
 
-// The job of the command that a parse entered, where that is another than `drive`.
+// The job of the command that a parse entered, where that is another than `check` and `drive`.
 fn other_job_in<'a>(matches: &ArgMatches<'a>) -> Option<Job<'a>>
     ensures named { IfSome result (IsJob (subcommand_rows_of matches.now)) }
     ensures none { IfNone result
-        (IsNoDrive (subcommand_rows_of matches.now) → IsNoJob (subcommand_rows_of matches.now)) }
+        (IsNoCheck (subcommand_rows_of matches.now) → IsNoDrive (subcommand_rows_of matches.now)
+        → IsNoJob (subcommand_rows_of matches.now)) }
 {
-    if let Some(orders) = value_of(matches, "check", "ORDERS") {
-        return Some(Job::Check(orders));
-    }
     if let Some(scenario) = value_of(matches, "run", "SCENARIO") {
         let single_frames = has_flag(matches, "run", "frames");
         return Some(Job::Run {
@@ -181,6 +178,26 @@ fn read_in<'a>(matches: &ArgMatches<'a>) -> Option<Job<'a>>
     Some(Job::Read { unit, bank })
 }
 
+// The job of the command that checks, where a parse entered it.
+fn check_in<'a>(alloc: Global, matches: &ArgMatches<'a>) -> Result<Option<Job<'a>>, AllocError>
+    ensures named { IfOk result (λ found. IfSome found (IsJob (subcommand_rows_of matches.now))) }
+    ensures none { IfOk result (λ found. IfNone found (IsNoCheck (subcommand_rows_of matches.now))) }
+{
+    let Some(orders) = value_of(matches, "check", "ORDERS") else {
+        return Ok(None);
+    };
+    let Some(older) = values_of(alloc, matches, "check", "older")? else {
+        return Ok(None);
+    };
+    let journal = value_of(matches, "check", "journal");
+    let job = Job::Check {
+        orders,
+        journal,
+        older,
+    };
+    Ok(Some(job))
+}
+
 // The job of the command that drives, where a parse entered it.
 fn drive_in<'a>(alloc: Global, matches: &ArgMatches<'a>) -> Result<Option<Job<'a>>, AllocError>
     ensures named { IfOk result (λ found. IfSome found (IsJob (subcommand_rows_of matches.now))) }
@@ -200,6 +217,7 @@ fn drive_in<'a>(alloc: Global, matches: &ArgMatches<'a>) -> Result<Option<Job<'a
     };
     let follow = has_flag(matches, "drive", "follow");
     let require_done = has_flag(matches, "drive", "require-done");
+    let require_now = has_flag(matches, "drive", "require-now");
     let report = value_of(matches, "drive", "report");
     let job = Job::Drive {
         orders,
@@ -207,6 +225,7 @@ fn drive_in<'a>(alloc: Global, matches: &ArgMatches<'a>) -> Result<Option<Job<'a
         moment,
         follow,
         require_done,
+        require_now,
         report,
         older,
     };
@@ -299,182 +318,6 @@ fn has_flag(matches: &ArgMatches<'_>, command: &str, id: &str) -> bool
         Some(found) => found.get_one(id) == Some(true),
         None => false,
     }
-}
-
-// The program's commands.
-fn bench_command<'a>(alloc: Global) -> Result<Command<'a>, AllocError>
-    ensures { IfOk result (λ command. app_of command ≡ bench_app) }
-{
-    let top = Command::new(alloc, "dali_bench")
-        .about(ABOUT)
-        .after_help(TOP_HELP)
-        .subcommand_required(true);
-    let checks = with_made(top, command_of(alloc, &CHECK, &CHECK_ORDERS))?;
-    let runs = with_made(checks, run_command(alloc))?;
-    let frames = with_made(runs, command_of(alloc, &FRAME, &FRAME_HEX))?;
-    let shows = with_made(frames, command_of(alloc, &SHOW, &SHOW_DUMP))?;
-    let journals = with_made(shows, journal_command(alloc))?;
-    let drives = with_made(journals, drive_command(alloc))?;
-    let reads = with_made(drives, read_command(alloc))?;
-    let verifies = with_made(reads, verify_command(alloc))?;
-    verifies.subcommand(plain_command(alloc, &SCAN))
-}
-
-// The program with one more command, where that one could be made.
-fn with_made<'a>(
-    program: Command<'a>,
-    made: Result<Command<'a>, AllocError>,
-) -> Result<Command<'a>, AllocError>
-    ensures { IfOk result (λ all. IsOkAnd made.entry (λ command. AddsSubcommand program.entry command all)) }
-{
-    match made {
-        Ok(command) => program.subcommand(command),
-        Err(error) => Err(error),
-    }
-}
-
-// The command that runs a scenario, with its flag.
-fn run_command<'a>(alloc: Global) -> Result<Command<'a>, AllocError>
-    ensures app { IfOk result (λ command. app_of command ≡ run_app) }
-    ensures local { IfOk result (λ command. (fields_of command).has_globals ≡ false) }
-{
-    command_of(alloc, &RUN, &RUN_SCENARIO)?.arg(flag_of(alloc, "frames", RUN_FRAMES_HELP))
-}
-
-// The command that prints a journal, with its flag.
-fn journal_command<'a>(alloc: Global) -> Result<Command<'a>, AllocError>
-    ensures app { IfOk result (λ command. app_of command ≡ journal_app) }
-    ensures local { IfOk result (λ command. (fields_of command).has_globals ≡ false) }
-{
-    command_of(alloc, &JOURNAL, &JOURNAL_FILE)?.arg(flag_of(alloc, "updates", JOURNAL_UPDATES_HELP))
-}
-
-// The command that carries out orders over a link.
-fn drive_command<'a>(alloc: Global) -> Result<Command<'a>, AllocError>
-    ensures app { IfOk result (λ command. app_of command ≡ drive_app) }
-    ensures local { IfOk result (λ command. (fields_of command).has_globals ≡ false) }
-{
-    let files = command_of(alloc, &DRIVE, &LINK_ORDERS)?.arg(value_argument(
-        alloc,
-        "JOURNAL",
-        DRIVE_JOURNAL_HELP,
-    ))?;
-    let timed = files.arg(moment_option(alloc))?;
-    let followed = timed.arg(flag_of(alloc, "follow", DRIVE_FOLLOW_HELP))?;
-    let flagged = followed.arg(flag_of(alloc, "require-done", DRIVE_DONE_HELP))?;
-    let reported = flagged.arg(report_option(alloc, DRIVE_REPORT_HELP))?;
-    reported.arg(older_option(alloc))
-}
-
-// The command that compares units with orders, with its report.
-fn verify_command<'a>(alloc: Global) -> Result<Command<'a>, AllocError>
-    ensures app { IfOk result (λ command. app_of command ≡ verify_app) }
-    ensures local { IfOk result (λ command. (fields_of command).has_globals ≡ false) }
-{
-    command_of(alloc, &VERIFY, &LINK_ORDERS)?.arg(report_option(alloc, VERIFY_REPORT_HELP))
-}
-
-// The command that reads a bank over a link.
-fn read_command<'a>(alloc: Global) -> Result<Command<'a>, AllocError>
-    ensures app { IfOk result (λ command. app_of command ≡ read_app) }
-    ensures local { IfOk result (λ command. (fields_of command).has_globals ≡ false) }
-{
-    let unit = plain_command(alloc, &READ).arg(unit_argument(alloc))?;
-    unit.arg(value_argument(alloc, "HEXFILE", READ_BANK_HELP))
-}
-
-// A command with one argument, which has to be there.
-fn command_of<'a>(
-    alloc: Global,
-    usage: &Usage<'a>,
-    argument: &Argument<'a>,
-) -> Result<Command<'a>, AllocError>
-    ensures app { IfOk result (λ command. app_of command ≡ command_app usage.now.name.now argument.now.id.now) }
-    ensures local { IfOk result (λ command. (fields_of command).has_globals ≡ false) }
-{
-    plain_command(alloc, usage).arg(value_argument(alloc, argument.id, argument.help))
-}
-
-// A command with no argument.
-fn plain_command<'a>(alloc: Global, usage: &Usage<'a>) -> Command<'a>
-    ensures app { app_of result ≡ new_app usage.now.name.now }
-    ensures local { (fields_of result).has_globals ≡ false }
-{
-    Command::new(alloc, usage.name)
-        .about(usage.about)
-        .after_help(usage.faults)
-}
-
-// An argument that has to be there, and takes one value.
-fn value_argument<'a>(alloc: Global, id: &'a str, help: &'a str) -> Arg<'a>
-    ensures rule { rule_of result ≡ value_rule id.entry.now }
-    ensures local { result.global ≡ false }
-{
-    Arg::new(alloc, id)
-        .help(help)
-        .required(true)
-        .action(ArgAction::Set)
-}
-
-// The unit of `read`, which has to be there.
-fn unit_argument<'a>(alloc: Global) -> Arg<'a>
-    ensures rule { rule_of result ≡ unit_rule (codes "UNIT") }
-    ensures local { result.global ≡ false }
-{
-    Arg::new(alloc, "UNIT")
-        .help(READ_UNIT_HELP)
-        .required(true)
-        .value_parser(value_parser!(u64).range(..=63))
-        .action(ArgAction::Set)
-}
-
-// A flag under its own name.
-fn flag_of<'a>(alloc: Global, id: &'a str, help: &'a str) -> Arg<'a>
-    ensures rule { rule_of result ≡ flag_rule id.entry.now }
-    ensures local { result.global ≡ false }
-{
-    Arg::new(alloc, id)
-        .long(id)
-        .help(help)
-        .action(ArgAction::SetTrue)
-}
-
-// The option that names the file of a report, and may be left out.
-fn report_option<'a>(alloc: Global, help: &'a str) -> Arg<'a>
-    ensures rule { rule_of result ≡ option_rule (codes "report") }
-    ensures local { result.global ≡ false }
-{
-    Arg::new(alloc, "report")
-        .long("report")
-        .value_name("FILE")
-        .help(help)
-        .action(ArgAction::Set)
-}
-
-// The option of `drive` that names older journals, one each time that it is given.
-fn older_option<'a>(alloc: Global) -> Arg<'a>
-    ensures rule { rule_of result ≡ many_rule (codes "older") }
-    ensures local { result.global ≡ false }
-{
-    Arg::new(alloc, "older")
-        .long("older")
-        .value_name("FILE")
-        .help(DRIVE_OLDER_HELP)
-        .action(ArgAction::Append)
-}
-
-// The option of `drive`, with the number that stands where it isn't given.
-fn moment_option<'a>(alloc: Global) -> Arg<'a>
-    ensures rule { rule_of result ≡ number_rule (codes "moment") (codes "0") }
-    ensures local { result.global ≡ false }
-{
-    Arg::new(alloc, "moment")
-        .long("moment")
-        .value_name("M")
-        .help(DRIVE_MOMENT_HELP)
-        .value_parser(value_parser!(u64))
-        .default_value("0")
-        .action(ArgAction::Set)
 }
 
 // The error of a command line that names no job.

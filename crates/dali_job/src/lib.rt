@@ -1,6 +1,7 @@
 //! Which job a command line asks for (profile).
 #![tactic(auto)]
 
+mod commands;
 mod job;
 mod usages;
 

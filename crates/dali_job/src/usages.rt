@@ -49,8 +49,18 @@ or no 16 hexadecimal digits), 7 Voltage (minimum over maximum), 8 Empty (no fiel
 9 Shape (no object, or order or unit is missing or no whole number), 10 Key (unknown key).
 Faults of the file: 11 Json, 12 Document (no array), 13 TooBig (over 16777216 bytes),
 20 Memory, 21 File (can't be opened or read).
+With --journal one line behind each accepted order tells what the writer with that journal would reply:
+`known kept C NAME` (and `closed` where the unit was left open and closed since), `known reused`, `known begun`
+(the next drive goes on with it), `new`, or `full`; the last line is `free N`, the first number above all there.
+Neither a journal nor a link is touched. Faults of JOURNAL: those of `journal`; with --older as of `drive`.
 Exit status: 0 all accepted, 1 something refused, 2 a file, the memory or the output failed.",
 };
+
+pub(crate) const CHECK_JOURNAL_HELP: &str =
+    "A writer's journal: tells of each order what it says of it, and which number is free";
+
+pub(crate) const CHECK_OLDER_HELP: &str =
+    "With --journal: an older journal, as for `drive`. May be given again";
 
 pub(crate) static CHECK_ORDERS: Argument<'static> = Argument {
     id: "ORDERS",
@@ -146,7 +156,8 @@ Faults of a drive: 1 Journal (can't be written), 2 Link (can't be read or writte
 After a fault, a kill or a loss of power run the same command again: it goes on from the journal.
 A report that can't be written is told and doesn't stop the drive; the status is then 2.
 Exit status: 0 each order has its reply, whatever it says, 1 something refused, or 3 Line, 4 End, 6 TooLong,
-or with --require-done an order isn't done, 2 a file, the memory, the link, the report or the output failed.",
+or with --require-done or --require-now an order isn't done so, or none was replied to,
+2 a file, the memory, the link, the report or the output failed.",
 };
 
 pub(crate) static LINK_ORDERS: Argument<'static> = Argument {
@@ -166,8 +177,11 @@ pub(crate) const DRIVE_FOLLOW_HELP: &str =
 pub(crate) const DRIVE_DONE_HELP: &str =
     "Ends with 1 where the last reply of some order isn't `kept 0 Done`";
 
+pub(crate) const DRIVE_NOW_HELP: &str =
+    "The same, and where it isn't this drive that ended the order";
+
 pub(crate) const DRIVE_REPORT_HELP: &str =
-    "A file that gets a line of JSON for each order at its last reply";
+    "A file to which a line of JSON is added for each order at its last reply";
 
 pub(crate) const DRIVE_OLDER_HELP: &str = "\
 A journal that is full or retired, and at rest: its orders get their kept replies. May be given again";
@@ -201,12 +215,13 @@ Nothing is written to a unit, and none is write-enabled.
 Nothing is sent where an item is refused, with the faults of `check`, or where ORDERS has a fault: 11 Json,
 12 Document, 13 TooBig (over 16777216 bytes), 20 Memory, 21 File. Faults of the link as of `read`.
 A report that can't be written is told and doesn't stop the comparison; the status is then 2.
-Exit status: 0 all are the same, 1 another ends, something refused, or 3 Line, 4 End, 6 TooLong,
+Exit status: 0 all are the same, 1 another ends, there are no orders, something refused, or 3 Line, 4 End,
+6 TooLong,
 2 a file, the memory, the link, the report or the output failed.",
 };
 
 pub(crate) const VERIFY_REPORT_HELP: &str =
-    "A file that gets a line of JSON for each order with what was found";
+    "A file to which a line of JSON is added for each order with what was found";
 
 pub(crate) static SCAN: Usage<'static> = Usage {
     name: "scan",

@@ -18,8 +18,7 @@ use Rattle.dali_drive.specs.Streams.{PutsFirst}
 use Rattle.dali_faults.specs.declared.fault.Status.{Status}
 use Rattle.dali_faults.specs.declared.fault.Status.TheVariants.{Unwritten}
 use Rattle.dali_link_commands.specs.OrdersAnswers.{IsInputAnswer, IsReaderAnswer, IsFileAnswer, IsUnread}
-use Rattle.dali_link_commands.specs.ReadAnswers.{TellsLine}
-use Rattle.dali_link_commands.specs.Told.{IsFaultTold, IsFaultText, IsPlain, error_line, is_out, refused_lines}
+use Rattle.dali_link_commands.specs.Told.{IsFaultTold, IsFaultText, IsPlain, TellsLine, error_line, is_out, refused_lines}
 use Rattle.dali_faults.specs.declared.fault.Fault.{Fault}
 use Rattle.dali_faults.specs.declared.fault.Fault.TheVariants.{Drive}
 use Rattle.dali_faults.specs.Faults.{item_line, status_of, told_line}

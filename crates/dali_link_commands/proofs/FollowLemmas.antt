@@ -11,6 +11,7 @@ pub new_are_unread : {R : Type 0} (failed : R → Bool) (source : R) (moment : �
       moment = moment;
       count = 0;
       has_refused = false;
+      is_begun = false;
       is_over = false;
     } → failed source ≡ false → AreUnread failed moment orders
 new_are_unread failed source moment orders is unfailed = search (is, unfailed)

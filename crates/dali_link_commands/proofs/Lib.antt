@@ -6,6 +6,7 @@ pub mod BehindLemmas
 pub mod OlderLemmas
 mod WorkedEndLemmas
 mod WorkedFollowLemmas
+mod WorkedBareLemmas
 mod WorkedBehindLemmas
 mod WorkedWordsLemmas
 pub mod WorkedBenchLemmas

@@ -12,6 +12,7 @@ use Rattle.dali_follow.specs.declared.order_lines.OrderLines.{OrderLines}
 use Rattle.dali_report.specs.declared.report.Report.{Report}
 use Rattle.dali_faults.specs.declared.fault.Status.{Status}
 use Rattle.dali_link_commands.specs.BehindAnswers.{UnopenedBehind, UnjoinedBehind, BrokenBehind, FollowsBehind}
+use Rattle.dali_link_commands.specs.declared.required.Required.{Required}
 use Rattle.dali_link_commands.specs.BehindAnswers.{EndsLinesBehind, EndsListBehind}
 use Rattle.dali_link_commands.proofs.WorkedBenchLemmas.{emptied_unsettled}
 
@@ -79,21 +80,21 @@ pub ended_and_unsettled : {G N : Type 0} (gave : G → G → List Given → Type
 ended_and_unsettled _ _ _ _ _ _ _ _ _ _ f shows less = emptied_unsettled _ _ shows less f.settled
 
 pub lines_ended_and_unsettled : {R N : Type 0} (rest : R → Option (List ℕ)) (failed : R → Bool)
-    (contents : N → Option (List ℕ)) (older : Option JournalState) (require_done : Bool) (before after : Report N)
+    (contents : N → Option (List ℕ)) (older : Option JournalState) (required : Required) (before after : Report N)
     (orders left : OrderLines R) (first : Look) (status : Status) (last : Look)
-    → EndsLinesBehind rest failed contents older require_done before after orders left first status last
+    → EndsLinesBehind rest failed contents older required before after orders left first status last
     → last.streams.journal ≡ Some (1 ∷ []) → last.may_leave [] → ⊥
 lines_ended_and_unsettled _ _ _ _ _ _ _ _ _ _ _ _ e shows less = emptied_unsettled _ _ shows less e.follows.settled
 
 pub list_ended_and_unsettled : {N : Type 0} (older : Option JournalState) (contents : N → Option (List ℕ)) (moment : ℕ)
-    (require_done : Bool) (before after : Report N) (orders : List Contents) (first : Look) (status : Status)
-    (last : Look) → EndsListBehind older contents moment require_done before after orders first status last
+    (required : Required) (before after : Report N) (orders : List Contents) (first : Look) (status : Status)
+    (last : Look) → EndsListBehind older contents moment required before after orders first status last
     → last.streams.journal ≡ Some (1 ∷ []) → last.may_leave [] → ⊥
 list_ended_and_unsettled _ _ _ _ _ _ _ _ _ _ e shows less = emptied_unsettled _ _ shows less e.settled
 
 pub list_ended_where_a_store_failed : {N : Type 0} (older : Option JournalState) (contents : N → Option (List ℕ))
-    (moment : ℕ) (require_done : Bool) (before after : Report N) (orders : List Contents) (first : Look)
+    (moment : ℕ) (required : Required) (before after : Report N) (orders : List Contents) (first : Look)
     (status : Status) (last : Look)
-    → EndsListBehind older contents moment require_done before after orders first status last
+    → EndsListBehind older contents moment required before after orders first status last
     → last.failed.journal ≡ true → ⊥
 list_ended_where_a_store_failed _ _ _ _ _ _ _ _ _ _ e failed = cc (sym failed, e.unfailed.0)

@@ -24,16 +24,18 @@ use Rattle.dali_drive.specs.Desks.{Look, Settled, IsUnfailed, FailsOpen, ShowsFa
 use Rattle.dali_follow.specs.declared.order_lines.OrderLines.{OrderLines}
 use Rattle.dali_follow.specs.Gave as lines
 use Rattle.dali_report.specs.declared.report.Report.{Report}
-use Rattle.dali_report.specs.Reports.{all_done}
+use Rattle.dali_report.specs.Reports.{outcome_of}
 use Rattle.dali_report.specs.Told.{IsTold, IsToldEnd}
-use Rattle.dali_engine.specs.WriterState.{WriterState}
+use Rattle.dali_engine.specs.WriterState.{WriterState, start_of}
 use Rattle.dali_faults.specs.declared.fault.Fault.{Fault}
 use Rattle.dali_faults.specs.declared.fault.Fault.TheVariants.{Input}
 use Rattle.dali_faults.specs.declared.fault.Status.{Status}
 use Rattle.dali_link_commands.specs.declared.older.OlderFault.{OlderFault}
 use Rattle.dali_link_commands.specs.declared.older.OlderFault.TheVariants.{Join, Unloaded}
-use Rattle.dali_link_commands.specs.DriveAnswers.{ended_status, fault_unopened}
-use Rattle.dali_link_commands.specs.FollowAnswers.{AreUnread, TellsFollowed, followed_status}
+use Rattle.dali_link_commands.specs.DriveAnswers.{fault_unopened}
+use Rattle.dali_link_commands.specs.Bare.{TellsEnded}
+use Rattle.dali_link_commands.specs.declared.required.Required.{Required}
+use Rattle.dali_link_commands.specs.FollowAnswers.{AreUnread, TellsFollowed}
 use Rattle.dali_faults.specs.JournalInput.{journal_limit, order_limit}
 use Rattle.dali_link_commands.specs.Older.{IsOlderFault, fault_older}
 use Rattle.dali_link_commands.specs.Benches.{IsUndriven, with_lines}
@@ -105,7 +107,7 @@ module _ {G N : Type 0} (gave : G → G → List Given → Type 0) (contents : N
   BreaksBehind = UnopenedBehind ⊎ UnjoinedBehind ⊎ BrokenBehind
 
 module _ {R N : Type 0} (rest : R → Option (List ℕ)) (failed : R → Bool) (contents : N → Option (List ℕ))
-    (older : Option JournalState) (require_done : Bool) (before after : Report N) (orders left : OrderLines R)
+    (older : Option JournalState) (required : Required) (before after : Report N) (orders left : OrderLines R)
     (first : Look) (status : Status) (last : Look) where
   -- what the lines of a stream gave was followed, and a failure of their source is told
   pub record EndsLinesBehind : Type 0 where
@@ -113,9 +115,8 @@ module _ {R N : Type 0} (rest : R → Option (List ℕ)) (failed : R → Bool) (
     pub lost : Bool
     pub follows : FollowsBehind (lines.Gave rest failed) lines.IsOver contents older before after orders left first
         (with_lines last replies lost)
-    pub told : TellsFollowed (failed (lines.state_of left).source)
-        (followed_status (lines.state_of left).has_refused require_done
-        (all_done (happenings follows.followed.observed.follow.steps)))
+    pub told : TellsFollowed (failed (lines.state_of left).source) (lines.state_of left).has_refused required
+        (outcome_of (start_of follows.followed.behind.journal) (happenings follows.followed.observed.follow.steps))
         status replies last.streams.out
 
   abbrev pub IsLinesBehind : Type 0
@@ -123,16 +124,20 @@ module _ {R N : Type 0} (rest : R → Option (List ℕ)) (failed : R → Bool) (
       EndsLinesBehind ⊎ BreaksBehind (lines.Gave rest failed) contents older before after orders left first status last
 
 module _ {N : Type 0} (older : Option JournalState) (contents : N → Option (List ℕ)) (moment : ℕ)
-    (require_done : Bool) (before after : Report N) (orders : List Contents) (first : Look) (status : Status)
+    (required : Required) (before after : Report N) (orders : List Contents) (first : Look) (status : Status)
     (last : Look) where
-  -- all the orders of a list were asked at this moment, nothing more is to be done, and the report has all of it
+  -- all the orders of a list were asked at this moment, nothing more is to be done, and the report has all of it; what
+  -- is told then goes behind what the lines held, which hadn't failed
   pub record EndsListBehind : Type 0 where
     pub writer : WriterState
+    pub replies : Option (List ℕ)
+    pub lost : Bool
     pub driven : IsDriveBehind (IsTold contents) older order_limit journal_limit (at_moment moment orders)
-        first.streams before writer last.streams after
-    pub unfailed : IsUnfailed last.failed
+        first.streams before writer (with_lines last replies lost).streams after
+    pub unfailed : IsUnfailed (with_lines last replies lost).failed
     pub settled : Settled last
-    pub status_is : status ≡ ended_status require_done (all_done driven.observed.drive.past)
+    pub told : TellsEnded required (outcome_of (start_of driven.behind.journal) driven.observed.drive.past)
+        status replies last.streams.out
 
   -- what is answered of a list of orders, behind an older journal where there is one
   abbrev pub IsAnswerBehind : Type 0
@@ -162,9 +167,9 @@ EndsUnread before after first status last =
 
 -- The same of a file of lines, of which nothing is known: of what it gave, or of one that isn't opened.
 abbrev pub IsFileFollow : {F N : Type 0} → Option JournalState → (F → Option (List ℕ)) → (N → Option (List ℕ)) → ℕ
-    → Bool → Report N → Report N → Look → Status → Look → Type 0
-IsFileFollow {F} older remaining contents moment require_done before after first status last =
+    → Required → Report N → Report N → Look → Status → Look → Type 0
+IsFileFollow {F} older remaining contents moment required before after first status last =
     ((orders : OrderLines (StdSource F)) × (left : OrderLines (StdSource F)) × AreUnread source_failed moment orders
-    × IsLinesBehind (source_left remaining) source_failed contents older require_done before after orders left first
+    × IsLinesBehind (source_left remaining) source_failed contents older required before after orders left first
     status last)
     ⊎ ((fault : InputFault) × IsUnread fault × EndsUndriven fault first status last × (after ≡ before))

@@ -1,9 +1,11 @@
 pub mod Told
+pub mod Bare
 pub mod Benches
 pub mod OrdersAnswers
 pub mod DriveAnswers
 pub mod FollowAnswers
 pub mod Older
+pub mod Asked
 pub mod BehindAnswers
 pub mod ReadAnswers
 pub mod LinkCommands

@@ -90,10 +90,10 @@ anything leaves = ⊤
 abbrev pub IsLinkAnswer : LinkCommand → Look → Status → Look → Type 0
 IsLinkAnswer (Drive task report) first status last =
     IsReported (is_some report) (BehindNamed task.older.now (λ older.
-    OverOrders (IsAnswerBehind older report_contents task.moment task.require_done))) first status last
+    OverOrders (IsAnswerBehind older report_contents task.moment task.required))) first status last
 IsLinkAnswer (Follow task report) first status last =
     IsReported (is_some report) (BehindNamed task.older.now (λ older.
-    IsFileFollow older file_contents report_contents task.moment task.require_done)) first status last
+    IsFileFollow older file_contents report_contents task.moment task.required)) first status last
 IsLinkAnswer (Read unit bank) first status last = IsReadAnswer unit anything first status last
 IsLinkAnswer (Verify orders report) first status last =
     IsReported (is_some report) (OverOrders (IsVerifyAnswer report_contents)) first status last

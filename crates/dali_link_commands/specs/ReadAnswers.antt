@@ -1,6 +1,5 @@
 -- What `read`, `verify` and `scan` answer and write.
 use Rattle.std.specs.Prelude.{◌≡◌, ◌⊎◌, ℕ, Bool, List, Option, Some, None, length, if◌then◌else◌}
-use Rattle.std.specs.Io.KnownBytes.{Appends}
 use Rattle.dali_bank.specs.Order.{Contents}
 use Rattle.dali_input.specs.declared.fault.InputFault.TheVariants.{File}
 use Rattle.dali_input.specs.BankText.{rows_text}
@@ -9,7 +8,6 @@ use Rattle.dali_store.specs.declared.store.StoreFault.TheVariants as stores
 use Rattle.dali_store.specs.Stores.{Becomes, KeepsOrBecomes}
 use Rattle.dali_read.specs.Places.{bank_course}
 use Rattle.dali_trace.specs.declared.fault.DriveFault.{DriveFault}
-use Rattle.dali_drive.specs.Streams.{PutsFirst}
 use Rattle.dali_drive.specs.SurveyLines.{bytes_line, silent_line}
 use Rattle.dali_drive.specs.Surveys.{IsScan, ScanBroke, IsVerifiedTold, VerifyBrokeTold, link_of}
 use Rattle.dali_drive.specs.Transcript.{Streams}
@@ -19,14 +17,10 @@ use Rattle.dali_report.specs.declared.report.Report.{Report}
 use Rattle.dali_report.specs.Told.{IsToldFound}
 use Rattle.dali_faults.specs.declared.fault.Fault.TheVariants.{Input}
 use Rattle.dali_faults.specs.declared.fault.Status.{Status}
-use Rattle.dali_faults.specs.declared.fault.Status.TheVariants.{Good, Refused, Unwritten}
+use Rattle.dali_faults.specs.declared.fault.Status.TheVariants.{Good, Refused}
 use Rattle.dali_link_commands.specs.Benches.{with_lines}
-use Rattle.dali_link_commands.specs.Told.{IsFaultTold, IsFileFaultTold}
-
--- a line was written whole and the command ends so, or the output failed and holds a first part of it
-abbrev pub TellsLine : List ℕ → Status → Status → Option (List ℕ) → Option (List ℕ) → Type 0
-TellsLine line good status before after =
-    ((status ≡ good) × Appends before after line) ⊎ ((status ≡ Unwritten) × PutsFirst before after line)
+use Rattle.dali_link_commands.specs.Bare.{TellsBare, is_empty}
+use Rattle.dali_link_commands.specs.Told.{IsFaultTold, IsFileFaultTold, TellsLine}
 
 -- what a survey goes over: a desk without its journal, which is left alone
 abbrev pub on_link : Look → Streams
@@ -87,13 +81,17 @@ module _ (unit : ℕ) (leaves_only : (List ℕ → Type 0) → Type 0) (first : 
 
 module _ {N : Type 0} (contents : N → Option (List ℕ)) (before after : Report N) (orders : List Contents)
     (first : Look) (status : Status) (last : Look) where
-  -- the units of all the orders were read and what was found was reported, and it ended well where all are the same
+  -- the units of all the orders were read and what was found was reported, and it ended well where all are the same;
+  -- where there are none, that is told behind what the lines held then, which hadn't failed, and refused
   pub record EndsVerified : Type 0 where
     pub all_same : Bool
-    pub verified : IsVerifiedTold (IsToldFound contents) orders all_same (on_link first) before (on_link last) after
+    pub lines : Option (List ℕ)
+    pub lost : Bool
+    pub verified : IsVerifiedTold (IsToldFound contents) orders all_same (on_link first) before
+        (on_link (with_lines last lines lost)) after
     pub untouched : IsUntouched first last
-    pub unfailed : IsUnfailed last.failed
-    pub status_is : status ≡ (if all_same then Good else Refused)
+    pub unfailed : IsUnfailed (with_lines last lines lost).failed
+    pub told : TellsBare (is_empty orders) (if all_same then Good else Refused) status lines last.streams.out
 
   -- the link or the output broke it off, which is told
   pub record EndsUnverified : Type 0 where

@@ -49,6 +49,11 @@ shown_text text = flat_map shown_letter (chars text)
 abbrev pub error_line : List ℕ → List ℕ
 error_line words = codes "error: " ++ words ++ codes "\n"
 
+-- a line was written whole and the command ends so, or the output failed and holds a first part of it
+abbrev pub TellsLine : List ℕ → Status → Status → Option (List ℕ) → Option (List ℕ) → Type 0
+TellsLine line good status before after =
+    ((status ≡ good) × Appends before after line) ⊎ ((status ≡ Unwritten) × PutsFirst before after line)
+
 -- such a line, of plain words, and then that of the fault
 abbrev pub TellsWorded : Fault → Option (List ℕ) → Option (List ℕ) → Type 0
 TellsWorded fault before after =

@@ -6,13 +6,13 @@ ghost use Rattle.dali_input.specs.Orders.{orders_limit};
 ghost use Rattle.dali_store.specs.Stores.{LeavesOnly};
 ghost use Rattle.dali_link_commands.specs.Benches.{TellsUnwritten, bench};
 ghost use Rattle.dali_link_commands.specs.BehindAnswers.{IsAnswerBehind};
-ghost use Rattle.dali_link_commands.specs.DriveAnswers.{ended_status as status_at_end};
 ghost use Rattle.dali_link_commands.specs.OrdersAnswers.{IsReaderAnswer};
 ghost use Rattle.dali_faults.specs.JournalInput.{order_limit};
 
 use crate::broken::tell_broken;
 use crate::drive_lines::{FileFault, tell_file, tell_refused};
 use crate::lines::Lines;
+use crate::required::{Required, tell_ended};
 use dali_bank::Order;
 use dali_drive::{JournalLimits, ListedOrders, Sink, Source, StoreDesk, follow_stored};
 use dali_faults::{JOURNAL_LIMIT, Status};
@@ -41,8 +41,8 @@ pub struct DriveTask<'a> {
     pub older: &'a [&'a str],
     /// The moment that is kept with each order that begins.
     pub moment: u64,
-    /// Whether each last reply has to be `kept 0 Done`.
-    pub require_done: bool,
+    /// What the last replies have to be.
+    pub required: Required,
 }
 
 /// Carries out the orders that a reader gives over a link, with the journal that a store holds, as `drive_orders` does.
@@ -60,7 +60,7 @@ pub fn drive_input<R: Read, I: Source, L: Sink, S: Store, W: Write, N: Write + D
     requires ready { IsReadyBehind older
         (bench S.seen S.failed S.may_leave L.held L.failed I.left I.failed W.contents desk.old) }
     ensures driven { IsReaderAnswer
-        (IsAnswerBehind older N.contents task.entry.moment task.entry.require_done report.old report.new)
+        (IsAnswerBehind older N.contents task.entry.moment task.entry.required report.old report.new)
         (report.new ≡ report.old)
         (bench S.seen S.failed S.may_leave L.held L.failed I.left I.failed W.contents desk.old)
         result (bench S.seen S.failed S.may_leave L.held L.failed I.left I.failed W.contents desk.new)
@@ -101,7 +101,8 @@ pub(crate) fn failure_of(cause: Option<ErrorKind>) -> Option<io::Error>
 
 /// Carries out what the journal of a store still asks for, and then the orders one after the other, over streams that
 /// haven't failed. Each reply has its line in `lines`, and so has the fault that ends it; the report has a line for
-/// each last reply. It ends as `Refused` where each last reply has to be `kept 0 Done` and one isn't.
+/// each last reply. It ends as `Refused` where the last replies aren't what is required, and where that is since there
+/// were none it tells that nothing was done.
 ///
 /// Nothing is sent where no journal is opened, for at most 100000 orders and of at most 33554432 bytes: 13 TooBig, 7
 /// Header, 3 Record, 4 Sequence, 5 Repeated, 6 Full, 20 Memory or 21 File. A drive breaks off at 1 Journal, 2 Link, 3
@@ -120,7 +121,7 @@ pub fn drive_orders<I: Source, L: Sink, S: Store, W: Write, N: Write + Drop>(
 ) -> Status
     requires ready { IsReadyBehind older
         (bench S.seen S.failed S.may_leave L.held L.failed I.left I.failed W.contents desk.old) }
-    ensures answer { IsAnswerBehind older N.contents task.entry.moment task.entry.require_done
+    ensures answer { IsAnswerBehind older N.contents task.entry.moment task.entry.required
         report.old report.new orders.now
         (bench S.seen S.failed S.may_leave L.held L.failed I.left I.failed W.contents desk.old) result
         (bench S.seen S.failed S.may_leave L.held L.failed I.left I.failed W.contents desk.new)
@@ -132,18 +133,7 @@ pub fn drive_orders<I: Source, L: Sink, S: Store, W: Write, N: Write + Drop>(
 {
     let mut listed = ListedOrders::new(orders, task.moment);
     match follow_stored(alloc, older, LIMITS, &mut listed, desk, report) {
-        Ok(_writer) => ended_status(task.require_done, report.all_done()),
+        Ok(_writer) => tell_ended(&mut desk.out, task.required, report.outcome()),
         Err(fault) => tell_broken(alloc, task.journal, desk, fault),
-    }
-}
-
-// How a drive ends that came to its end.
-pub(crate) fn ended_status(require_done: bool, done: bool) -> Status
-    ensures { result ≡ status_at_end require_done done }
-{
-    if require_done && !done {
-        Status::Refused
-    } else {
-        Status::Good
     }
 }

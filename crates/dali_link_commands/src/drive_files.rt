@@ -21,6 +21,7 @@ use dali_text::Output;
 use std::alloc::Global;
 use std::fs::{File, Files, Metadata};
 use std::io::{ErrorKind, Read, Write};
+use std::os::unix::fs::{FileTypeExt, MetadataExt};
 use std::{fs, io};
 
 /// Carries out the orders of a file over a link, with the journal that another file holds, as `drive_input` does.
@@ -42,7 +43,7 @@ pub fn drive_files<
     requires unfailed { IsUnfailed (std_bench L.contents I.remaining O.contents desk.old).failed }
     ensures driven { IsBehindNamed task.entry.older.now
         (λ older. IsFileAnswer
-        (IsAnswerBehind older N.contents task.entry.moment task.entry.require_done report.old report.new)
+        (IsAnswerBehind older N.contents task.entry.moment task.entry.required report.old report.new)
         (report.new ≡ report.old) (std_bench L.contents I.remaining O.contents desk.old) result
         (std_bench L.contents I.remaining O.contents desk.new))
         (EndsUnread report.old report.new (std_bench L.contents I.remaining O.contents desk.old) result
@@ -94,9 +95,27 @@ pub(crate) fn tell_unjoined<O: Write>(
     tell_file(alloc, output, unjoined.name, fault)
 }
 
-// Opens a file to read it, and looks which one it is.
+// What is told where ORDERS is what the link has for its answers.
+const ANSWERS_THERE: &str =
+    "ORDERS has to be a file or a named pipe: standard input has the answers";
+
+// Opens a file to read it, and looks which one it is. One that is standard input is refused.
 pub(crate) fn opened<R: Files<File = File>>(rt: &R, name: &str) -> io::Result<(File, Metadata)> {
+    if matches!(name, "-" | "/dev/stdin" | "/dev/fd/0" | "/proc/self/fd/0") {
+        return Err(io::Error::new(ErrorKind::InvalidInput, ANSWERS_THERE));
+    }
     let file = fs::open(rt, name)?;
     let found = file.metadata()?;
+    if found.file_type().is_fifo() && is_standard_input(rt, &found) {
+        return Err(io::Error::new(ErrorKind::InvalidInput, ANSWERS_THERE));
+    }
     Ok((file, found))
+}
+
+// Whether this file is the one that standard input is of.
+fn is_standard_input<R: Files<File = File>>(rt: &R, found: &Metadata) -> bool {
+    match fs::metadata(rt, "/dev/fd/0") {
+        Ok(input) => found.dev() == input.dev() && found.ino() == input.ino(),
+        Err(_) => false,
+    }
 }

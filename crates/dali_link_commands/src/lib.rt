@@ -2,6 +2,7 @@
 //! status.
 #![tactic(auto)]
 
+pub mod asked;
 mod broken;
 pub mod drive;
 pub mod drive_files;
@@ -14,7 +15,9 @@ pub mod older;
 mod older_lines;
 pub mod read;
 mod report_file;
+mod report_lines;
 mod report_output;
+pub mod required;
 pub mod survey;
 pub mod survey_files;
 mod words;

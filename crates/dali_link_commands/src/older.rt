@@ -199,7 +199,7 @@ fn all_opened<'a, R: Files<File = File> + AllocGlobal>(
 }
 
 // Words for why the reading of an input has failed, where it has.
-fn failure_words(alloc: Global, input: &Input<File>) -> Option<String> {
+pub(crate) fn failure_words(alloc: Global, input: &Input<File>) -> Option<String> {
     match input.cause() {
         Some(cause) => format!(in alloc; "{cause}").ok(),
         None => None,
@@ -208,7 +208,7 @@ fn failure_words(alloc: Global, input: &Input<File>) -> Option<String> {
 
 // Why a file isn't opened.
 #[derive(Drop)]
-enum Unopened {
+pub(crate) enum Unopened {
     // Nobody knows when a pipe ends.
     NotRegular,
     // A drive has it: its orders aren't all there yet.
@@ -217,7 +217,7 @@ enum Unopened {
 }
 
 impl Unopened {
-    fn fault(&self) -> InputFault
+    pub(crate) fn fault(&self) -> InputFault
         ensures { IsUnread result }
     {
         match self {
@@ -227,7 +227,7 @@ impl Unopened {
         }
     }
 
-    fn words(&self, alloc: Global) -> Option<String> {
+    pub(crate) fn words(&self, alloc: Global) -> Option<String> {
         match self {
             Unopened::NotRegular => String::from_str(alloc, "it is no regular file").ok(),
             Unopened::InUse => String::from_str(alloc, "it is in use").ok(),
@@ -236,17 +236,22 @@ impl Unopened {
     }
 }
 
-// Opens a file that no drive has open.
-fn opened<R: Files<File = File>>(rt: &R, name: &str) -> Result<File, Unopened> {
+// Opens a regular file.
+pub(crate) fn opened_regular<R: Files<File = File>>(rt: &R, name: &str) -> Result<File, Unopened> {
     match fs::metadata(rt, name) {
         Ok(found) if !found.is_file() => return Err(Unopened::NotRegular),
         Ok(_) => {}
         Err(error) => return Err(Unopened::Refused(error)),
     }
-    let file = match fs::open(rt, name) {
-        Ok(file) => file,
-        Err(error) => return Err(Unopened::Refused(error)),
-    };
+    match fs::open(rt, name) {
+        Ok(file) => Ok(file),
+        Err(error) => Err(Unopened::Refused(error)),
+    }
+}
+
+// Opens a regular file that no drive has open.
+fn opened<R: Files<File = File>>(rt: &R, name: &str) -> Result<File, Unopened> {
+    let file = opened_regular(rt, name)?;
     match file.try_lock_shared() {
         Ok(()) => Ok(file),
         Err(TryLockError::WouldBlock) => Err(Unopened::InUse),

@@ -1,6 +1,7 @@
 // How a journal is told that can't stand behind others.
+ghost use Rattle.std.specs.Prelude.{IfSome, string_bytes};
 ghost use Rattle.dali_link_commands.specs.Older.{fault_older};
-ghost use Rattle.dali_link_commands.specs.Told.{IsFaultWritten};
+ghost use Rattle.dali_link_commands.specs.Told.{IsFaultWritten, IsPlain};
 
 use crate::drive_lines::write_worded;
 use crate::older::OlderFault;
@@ -22,14 +23,26 @@ pub(crate) fn write_older<W: Write>(
 ) -> Result<Status, OutputFailed>
     ensures { IsFaultWritten (fault_older fault) result W.contents output.old output.new }
 {
-    let made = words_for(alloc, name, fault, words);
-    match plain_words(alloc, made) {
+    match older_words(alloc, name, fault, words) {
         Some(words) => write_worded(output, words.as_str(), fault.fault()),
         None => write_worded(output, "an older journal can't be used", fault.fault()),
     }
 }
 
-// Words for a person, where there is memory for them.
+/// Words for a person that tell why a file can't be used as an older journal, where there is memory for them.
+pub(crate) fn older_words(
+    alloc: Global,
+    name: &str,
+    fault: OlderFault,
+    words: Option<&str>,
+) -> Option<String>
+    ensures { IfSome result (λ words. IsPlain (string_bytes words)) }
+{
+    let made = words_for(alloc, name, fault, words);
+    plain_words(alloc, made)
+}
+
+// The same words, as they were made.
 fn words_for(alloc: Global, name: &str, fault: OlderFault, words: Option<&str>) -> Option<String> {
     if let Some(words) = words {
         return format!(in alloc; "the older journal can't be used: {name}: {words}").ok();

@@ -3,7 +3,8 @@ ghost use Rattle.dali_drive.specs.Desks.{IsUnfailed};
 ghost use Rattle.dali_store.specs.Stores.{LeavesOnly};
 ghost use Rattle.dali_text.specs.Output.{has_failed, held};
 ghost use Rattle.dali_link_commands.specs.Benches.{TellsUnwritten, bench};
-ghost use Rattle.dali_link_commands.specs.ReadAnswers.{IsReadAnswer, TellsLine};
+ghost use Rattle.dali_link_commands.specs.ReadAnswers.{IsReadAnswer};
+ghost use Rattle.dali_link_commands.specs.Told.{TellsLine};
 
 use crate::drive_lines::{Causes, FileFault, tell_fault, tell_file};
 use crate::lines::Lines;

@@ -6,19 +6,17 @@ ghost use Rattle.dali_link_commands.specs.LinkCommands.{EndsReported, TellsUnrep
 ghost use Rattle.dali_link_commands.specs.Told.{IsPlain, error_line};
 
 use crate::lines::Lines;
+use crate::report_lines::ReportLines;
 use crate::report_output::ReportOutput;
 use crate::words::plain_words;
 use dali_faults::Status;
-use dali_report::Report;
+use dali_report::{Report, run_behind};
 use dali_text::{Output, OutputFailed};
 use std::alloc::Global;
 use std::fs::{File, Files, Metadata, OpenOptions, TryLockError};
-use std::io::{ErrorKind, Read, Write};
-use std::os::unix::fs::MetadataExt;
+use std::io::{ErrorKind, Write};
+use std::os::unix::fs::{FileTypeExt, MetadataExt};
 use std::{fs, io};
-
-// How the lines of a report begin: of a last reply, of an answer that broke a drive off, of a verification.
-const BEGINNINGS: [&[u8]; 3] = [b"{\"code\":", b"{\"answer\":", b"{\"byte\":"];
 
 // Why a file can't be opened for a report.
 #[derive(Drop)]
@@ -54,8 +52,9 @@ pub(crate) struct ReportFile {
 }
 
 impl ReportFile {
-    /// Opens the file, or makes it, for this command alone; with no name there is none. What it holds stays until there
-    /// is something to report. It is none of the command's other files, no link, and has to be a report or empty.
+    /// Opens the file, or makes it, for this command alone; with no name there is none. What it holds stays, and what
+    /// there is to report goes behind it. It is none of the command's other files, no link, and has to be a report or
+    /// empty.
     pub(crate) fn open<R: Files<File = File> + AllocGlobal>(
         rt: &R,
         name: Option<&str>,
@@ -65,15 +64,15 @@ impl ReportFile {
         ensures unopened { is_some result.unopened ≡ true → is_some name.entry ≡ true }
         ensures unfailed { report_failed result.report ≡ false }
     {
-        let (output, unopened) = match name {
+        let (run, output, unopened) = match name {
             Some(name) => match opened(rt, name, others) {
-                Ok(file) => (Some(Output::new(file)), None),
-                Err(unopened) => (None, Some(unopened)),
+                Ok((run, file)) => (run, Some(Output::new(file)), None),
+                Err(unopened) => (1, None, Some(unopened)),
             },
-            None => (None, None),
+            None => (1, None, None),
         };
         ReportFile {
-            report: Report::new(rt.alloc(), output),
+            report: Report::new(rt.alloc(), run, output),
             unopened,
         }
     }
@@ -118,12 +117,12 @@ impl ReportFile {
     }
 }
 
-// Opens a report, locked.
+// Opens a report, locked, and tells which run this is.
 fn opened<R: Files<File = File> + AllocGlobal>(
     rt: &R,
     name: &str,
     others: Others<'_>,
-) -> Result<ReportOutput, Unopened> {
+) -> Result<(u64, ReportOutput), Unopened> {
     if name == "-" {
         return Err(Unopened::Dash);
     }
@@ -132,7 +131,7 @@ fn opened<R: Files<File = File> + AllocGlobal>(
     }
     match fs::symlink_metadata(rt, name) {
         Ok(found) if found.is_symlink() => return Err(Unopened::Link),
-        Ok(found) if !found.is_file() => return opened_other(rt, name),
+        Ok(found) if !found.is_file() => return opened_other(rt, name, found.file_type().is_fifo()),
         Ok(_) => {}
         Err(error) if error.kind() == ErrorKind::NotFound => {}
         Err(error) => return Err(Unopened::Refused(error)),
@@ -143,8 +142,8 @@ fn opened<R: Files<File = File> + AllocGlobal>(
         Ok(file) => file,
         Err(error) => return Err(Unopened::Refused(error)),
     };
-    judged(rt, &mut file, others)?;
-    Ok(ReportOutput::new(file, true))
+    let lines = judged(rt, &mut file, others)?;
+    Ok((lines.run(), ReportOutput::new(file, lines.is_torn())))
 }
 
 // Whether the name is one of these: a file that isn't there yet isn't made then. (One that was made by another name of
@@ -157,12 +156,34 @@ fn is_named(name: &str, others: Others<'_>) -> bool {
         || others.older.iter().any(|&older| name == older)
 }
 
-// What is no regular file, as a pipe or a terminal, is written to as it is.
-fn opened_other<R: Files<File = File>>(rt: &R, name: &str) -> Result<ReportOutput, Unopened> {
+// What is no regular file, as a pipe or a terminal, is written to as it is. A pipe that nobody reads would be waited
+// for, so it is held open for reading too until it is open.
+fn opened_other<R: Files<File = File>>(
+    rt: &R,
+    name: &str,
+    is_pipe: bool,
+) -> Result<(u64, ReportOutput), Unopened> {
     let mut how = OpenOptions::new();
     let _ = how.write(true);
+    let held = if is_pipe {
+        Some(opened_both(rt, name)?)
+    } else {
+        None
+    };
+    let opened = how.open(rt, name);
+    drop(held);
+    match opened {
+        Ok(file) => Ok((run_behind(0), ReportOutput::new(file, false))),
+        Err(error) => Err(Unopened::Refused(error)),
+    }
+}
+
+// Opens a pipe for both, which never waits.
+fn opened_both<R: Files<File = File>>(rt: &R, name: &str) -> Result<File, Unopened> {
+    let mut how = OpenOptions::new();
+    let _ = how.read(true).write(true);
     match how.open(rt, name) {
-        Ok(file) => Ok(ReportOutput::new(file, false)),
+        Ok(file) => Ok(file),
         Err(error) => Err(Unopened::Refused(error)),
     }
 }
@@ -172,7 +193,7 @@ fn judged<R: Files<File = File> + AllocGlobal>(
     rt: &R,
     file: &mut File,
     others: Others<'_>,
-) -> Result<(), Unopened> {
+) -> Result<ReportLines, Unopened> {
     match is_taken(rt, file, others) {
         Ok(true) => return Err(Unopened::Taken),
         Ok(false) => {}
@@ -183,9 +204,9 @@ fn judged<R: Files<File = File> + AllocGlobal>(
         Err(TryLockError::WouldBlock) => return Err(Unopened::InUse),
         Err(TryLockError::Error(error)) => return Err(Unopened::Refused(error)),
     }
-    match is_report(file) {
-        Ok(true) => Ok(()),
-        Ok(false) => Err(Unopened::NoReport),
+    match ReportLines::read(rt.alloc(), file) {
+        Ok(Some(lines)) => Ok(lines),
+        Ok(None) => Err(Unopened::NoReport),
         Err(error) => Err(Unopened::Refused(error)),
     }
 }
@@ -217,19 +238,6 @@ fn is_same<R: Files<File = File>>(rt: &R, own: &Metadata, name: &str) -> bool {
         Ok(found) => found.dev() == own.dev() && found.ino() == own.ino(),
         Err(_) => false,
     }
-}
-
-// Whether it is empty, or begins as a line of a report does.
-fn is_report(file: &mut File) -> io::Result<bool> {
-    let mut first = [0u8; 10];
-    let count = file.read(&mut first)?;
-    let text = &first[..count];
-    Ok(
-        count == 0
-            || BEGINNINGS
-                .iter()
-                .any(|beginning| text.starts_with(beginning)),
-    )
 }
 
 // Tells that a report can't be written.

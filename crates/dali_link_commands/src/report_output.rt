@@ -3,41 +3,30 @@ use std::fs::File;
 use std::io;
 use std::io::Write;
 
-/// The file of a report. What it held is cut away at its first write or flush, and not before: so a command that ends
-/// before it has anything to report leaves it as it was.
+/// The file of a report, which is added to. Where its last line is torn, a line feed ends that before the first write.
 #[derive(Drop)]
 pub struct ReportOutput {
     file: File,
-    // Whether what it held is still to be cut away.
-    is_old: bool,
+    is_torn: bool,
 }
 
 impl ReportOutput {
-    /// An output into this file, of which what it holds is cut away once, where it is a regular one.
-    pub(crate) fn new(file: File, is_regular: bool) -> ReportOutput {
-        ReportOutput {
-            file,
-            is_old: is_regular,
-        }
-    }
-
-    fn begin(&mut self) -> io::Result<()> {
-        if self.is_old {
-            self.file.set_len(0)?;
-            self.is_old = false;
-        }
-        Ok(())
+    /// An output behind what this file holds, of which the last line is torn or not.
+    pub(crate) fn new(file: File, is_torn: bool) -> ReportOutput {
+        ReportOutput { file, is_torn }
     }
 }
 
 impl Write for ReportOutput {
     fn write(&mut self, buf: &[u8]) -> io::Result<usize> {
-        self.begin()?;
+        if self.is_torn {
+            self.file.write_all(b"\n")?;
+            self.is_torn = false;
+        }
         self.file.write(buf)
     }
 
     fn flush(&mut self) -> io::Result<()> {
-        self.begin()?;
         self.file.flush()
     }
 }

@@ -1,7 +1,9 @@
-ghost use Rattle.std.specs.Prelude.{◌≡◌};
+ghost use Rattle.std.specs.Prelude.{◌≡◌, ◌↔◌, if◌then◌else◌, false, true};
 ghost use Rattle.dali_drive.specs.Desks.{IsUnfailed};
 ghost use Rattle.dali_input.specs.Input.{ReadsAtMost, state_of};
 ghost use Rattle.dali_input.specs.Orders.{orders_limit};
+ghost use Rattle.dali_text.specs.Output.{has_failed, held};
+ghost use Rattle.dali_link_commands.specs.Bare.{TellsBare, is_empty as no_orders};
 ghost use Rattle.dali_link_commands.specs.Benches.{TellsUnwritten, bench};
 ghost use Rattle.dali_link_commands.specs.OrdersAnswers.{IsReaderAnswer};
 ghost use Rattle.dali_link_commands.specs.ReadAnswers.{IsScanAnswer, IsVerifyAnswer};
@@ -9,6 +11,7 @@ ghost use Rattle.dali_link_commands.specs.ReadAnswers.{IsScanAnswer, IsVerifyAns
 use crate::drive::failure_of;
 use crate::drive_lines::{Causes, FileFault, tell_fault, tell_file, tell_refused};
 use crate::lines::Lines;
+use crate::required::tell_bare;
 use dali_bank::Order;
 use dali_drive::{Sink, Source, StoreDesk, scan_units, verify_orders};
 use dali_faults::Status;
@@ -58,7 +61,7 @@ pub fn verify_input<R: Read, I: Source, L: Sink, S: Store, W: Write, N: Write + 
 
 /// Compares units with orders, over streams that haven't failed, as `verify_orders` does: a line for each order, and
 /// one for the fault that ends it, 2 Link, 3 Line, 4 End or 6 TooLong; the report has a line for each order. It ends as
-/// `Good` where all are the same, else as `Refused`.
+/// `Good` where all are the same, else as `Refused`; where there are no orders it tells that nothing was done.
 ///
 /// Where `lines` fails it is 7 Out, or there stands a first part of the fault's line.
 pub fn verify_units<I: Source, L: Sink, S: Store, W: Write, N: Write + Drop>(
@@ -83,8 +86,7 @@ pub fn verify_units<I: Source, L: Sink, S: Store, W: Write, N: Write + Drop>(
         report,
     );
     match ended {
-        Ok(true) => Status::Good,
-        Ok(false) => Status::Refused,
+        Ok(all_same) => tell_verified(&mut desk.out, orders, all_same),
         Err(fault) => {
             let causes = Causes {
                 link_in: desk.link_in.cause(),
@@ -94,6 +96,21 @@ pub fn verify_units<I: Source, L: Sink, S: Store, W: Write, N: Write + Drop>(
             tell_fault(alloc, &mut desk.out, fault, causes)
         }
     }
+}
+
+// How a comparison ends that came to its end, where all are the same or one is not.
+fn tell_verified<W: Write>(lines: &mut Lines<W>, orders: &[Order], all_same: bool) -> Status
+    requires { has_failed lines.old.output ≡ false }
+    ensures told { TellsBare (no_orders orders.now) (if all_same then Status.Good else Status.Refused) result
+        (held W.contents lines.old.output) (held W.contents lines.new.output) }
+    ensures unwritten { result ≡ Status.Unwritten ↔ has_failed lines.new.output ≡ true }
+{
+    let ended = if all_same {
+        Status::Good
+    } else {
+        Status::Refused
+    };
+    tell_bare(lines, orders.is_empty(), ended)
 }
 
 /// Asks each short address for the last location of its memory bank 1, over streams that haven't failed, as

@@ -4,11 +4,20 @@ ghost use Rattle.dali_link_commands.specs.Told.{IsPlain, shown_letter, shown_tex
 
 use std::alloc::{AllocError, Global};
 
+// What the system's words end with where the command may open no more files, and what to do then.
+const TOO_MANY_FILES: &str = "(os error 24)";
+
+const MORE_FILES: &str = "raise the limit, as by ulimit -n 1024";
+
 /// What was made of words, as it is shown; none where there is no memory for that.
 pub(crate) fn plain_words(alloc: Global, made: Option<String>) -> Option<String>
     ensures { IfSome result (λ words. IsPlain (string_bytes words)) }
 {
     let made = made?;
+    if made.as_str().ends_with(TOO_MANY_FILES) {
+        let advised = format!(in alloc; "{made}: {MORE_FILES}").ok()?;
+        return shown(alloc, advised.as_str()).ok();
+    }
     shown(alloc, made.as_str()).ok()
 }
 

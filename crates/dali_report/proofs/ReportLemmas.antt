@@ -1,5 +1,5 @@
 -- How a report goes on.
-use Rattle.std.proofs.Common.{◌≡◌, ◌∙◌, refl, sym, ap, true≢false, ◌||◌, ◌&&◌, ◌++◌, ℕ, Bool, true, false, List, [], ◌∷◌, Option, Some, None}
+use Rattle.std.proofs.Common.{◌≡◌, ◌∙◌, refl, sym, true≢false, ◌||◌, ◌&&◌, ◌++◌, ℕ, Bool, true, false, List, [], ◌∷◌, Option, Some, None}
 use Rattle.std.proofs.Common.{option_map, subst, inl, inr, ◌⊎◌, IsOkAnd, IfOk, Result, Ok, Err, Vec, Global}
 use Rattle.std.specs.Io.KnownBytes.{Appends}
 use Rattle.std.proofs.KnownBytes.{Appends-trans}
@@ -10,13 +10,15 @@ use Rattle.dali_write.specs.Exchanges.{Exchange}
 use Rattle.dali_trace.specs.declared.happening.Reply.{Reply}
 use Rattle.dali_trace.specs.declared.happening.Reply.TheVariants as replies
 use Rattle.dali_trace.specs.declared.happening.Happening.{Happening}
-use Rattle.dali_trace.specs.declared.happening.Happening.TheVariants.{Answered}
+use Rattle.dali_trace.specs.declared.happening.Happening.TheVariants.{Answered, Asked, Kept, Sent, Stopped, Powered}
 use Rattle.dali_trace.specs.Trace.{Start, records_of}
 use Rattle.dali_report.specs.declared.line.LastReply.{LastReply}
+use Rattle.dali_report.specs.declared.outcome.Outcome.{Outcome}
 use Rattle.dali_report.specs.declared.report.Report.{Report}
 use Rattle.dali_report.specs.declared.report.Spoken.{Spoken}
 use Rattle.dali_report.specs.Lines.{line_of, last_data}
 use Rattle.dali_report.specs.Reports.{resumed, spoken_of, is_number_of, exchanges, told_at, is_last_reply, is_well, report_text}
+use Rattle.dali_report.specs.Reports.{all_done, all_ended_now, has_last_reply, is_ended_now, outcome_by, outcome_of}
 use Rattle.dali_report.specs.Tallies.{IsTally}
 use Rattle.dali_report.specs.Told.{IsTold, HasWritten, IsSilent, report_held, has_failed, spoken, is_number}
 
@@ -72,16 +74,45 @@ pub not_both : {W A : Type 0} (report : Report W) → has_failed report ≡ fals
 not_both report well failed = absurd (true≢false (sym failed ∙ well))
 
 -- a last reply has its line
-text_of_last : (start : Start) (past : List Happening) (id : ℕ) (reply : Reply)
+text_of_last : (run : ℕ) (start : Start) (past : List Happening) (id : ℕ) (reply : Reply)
     → is_last_reply (Answered id reply) ≡ true
-    → report_text start (Answered id reply ∷ past)
-    ≡ report_text start past ++ line_of (last_data (told_at start past id reply))
-text_of_last start past id replies.Taken last = cc
-text_of_last start past id (replies.Kept code) last = refl
-text_of_last start past id replies.IdReused last = refl
-text_of_last start past id replies.Busy last = refl
-text_of_last start past id replies.Full last = refl
-text_of_last start past id (replies.Blocked unit) last = refl
+    → report_text run start (Answered id reply ∷ past)
+    ≡ report_text run start past ++ line_of (last_data (told_at run start past id reply))
+text_of_last run start past id replies.Taken last = cc
+text_of_last run start past id (replies.Kept code) last = refl
+text_of_last run start past id replies.IdReused last = refl
+text_of_last run start past id replies.Busy last = refl
+text_of_last run start past id replies.Full last = refl
+text_of_last run start past id (replies.Blocked unit) last = refl
+
+-- and is one of those that the outcome is of
+outcome_of_last : (start : Start) (past : List Happening) (id : ℕ) (reply : Reply)
+    → is_last_reply (Answered id reply) ≡ true
+    → outcome_of start (Answered id reply ∷ past)
+    ≡ outcome_by true (all_done past && is_well reply) (all_ended_now start past && is_ended_now start past id)
+outcome_of_last start past id replies.Taken last = cc
+outcome_of_last start past id (replies.Kept code) last = refl
+outcome_of_last start past id replies.IdReused last = refl
+outcome_of_last start past id replies.Busy last = refl
+outcome_of_last start past id replies.Full last = refl
+outcome_of_last start past id (replies.Blocked unit) last = refl
+
+-- before the first of them nothing was said against any
+pub none_yet : (start : Start) (past : List Happening) → has_last_reply past ≡ false
+    → (all_done past ≡ true) × (all_ended_now start past ≡ true)
+none_yet start [] none = (refl, refl)
+none_yet start (Answered id replies.Taken ∷ past) none =
+    let before = none_yet start past none in (rw before.0 refl, before.1)
+none_yet start (Answered id (replies.Kept code) ∷ past) none = cc
+none_yet start (Answered id replies.IdReused ∷ past) none = cc
+none_yet start (Answered id replies.Busy ∷ past) none = cc
+none_yet start (Answered id replies.Full ∷ past) none = cc
+none_yet start (Answered id (replies.Blocked unit) ∷ past) none = cc
+none_yet start (Asked order moment ∷ past) none = none_yet start past none
+none_yet start (Kept record_ ∷ past) none = none_yet start past none
+none_yet start (Sent frame answer ∷ past) none = none_yet start past none
+none_yet start (Stopped ∷ past) none = none_yet start past none
+none_yet start (Powered unit ∷ past) none = none_yet start past none
 
 -- and no exchange behind it
 none_since : (past : List Happening) (id : ℕ) (reply : Reply) → is_last_reply (Answered id reply) ≡ true
@@ -93,6 +124,7 @@ module _ {W : Type 0} (contents : W → Option (List ℕ)) (start : Start) (firs
   -- what a report has in hand is what is told at the reply
   pub last_is : (records : List Record) → records_of start past ≡ records → (last : LastReply)
       → last ≡ record {
+        run = old.run;
         order = id;
         unit = option_map (λ (one : Spoken). one.unit) old.spoken;
         moment = moment_of id records;
@@ -101,11 +133,12 @@ module _ {W : Type 0} (contents : W → Option (List ℕ)) (start : Start) (firs
         frames = old.tally.frames;
         misses = old.tally.misses;
       }
-      → last ≡ told_at start past id reply
+      → last ≡ told_at first.run start past id reply
   last_is records same last is =
       rw (
         is,
         sym same,
+        told.run_is,
         told.spoken_is,
         told.resumed_is,
         told.ended_is,
@@ -115,21 +148,39 @@ module _ {W : Type 0} (contents : W → Option (List ℕ)) (start : Start) (firs
         number_of id (resumed start),
       ) refl
 
+  -- and what all come to with it
+  pub with_last : (done now : Bool) (comes : Outcome) → done ≡ is_well reply
+      → now ≡ (old.ended || is_number id old.resumed)
+      → ((had every all_now : Bool) → old.outcome ≡ outcome_by had every all_now
+      → (had ≡ false → (every ≡ true) × (all_now ≡ true))
+      → comes ≡ outcome_by true (every && done) (all_now && now))
+      → comes ≡ outcome_by true (all_done past && is_well reply)
+      (all_ended_now start past && is_ended_now start past id)
+  with_last done now comes well ends with =
+      let is_now : now ≡ is_ended_now start past id =
+      rw (ends, told.ended_is, told.resumed_is, number_of id (resumed start)) refl in
+      rw (← is_now, ← well)
+      (with (has_last_reply past) (all_done past) (all_ended_now start past) told.outcome_is (none_yet start past))
+
   -- its line was written, and the next one begins
   pub told_last : (new : Report W) → is_last_reply (Answered id reply) ≡ true
       → new.resumed ≡ old.resumed → new.spoken ≡ old.spoken → new.ended ≡ old.ended → IsTally [] new.tally
-      → new.all_done ≡ (old.all_done && is_well reply)
+      → new.run ≡ old.run
+      → new.outcome ≡ outcome_by true (all_done past && is_well reply)
+      (all_ended_now start past && is_ended_now start past id)
       → (has_failed new ≡ false → (has_failed old ≡ false)
       × Appends (report_held contents old) (report_held contents new)
-      (line_of (last_data (told_at start past id reply))))
+      (line_of (last_data (told_at first.run start past id reply))))
       → (has_failed old ≡ true → IsSilent old new)
       → IsTold contents start first new (Answered id reply ∷ past)
-  told_last new last resumes speaks ends tallies dones writes silent = record {
+  told_last new last resumes speaks ends tallies runs comes writes silent = record {
     resumed_is = resumes ∙ told.resumed_is;
     spoken_is = speaks ∙ told.spoken_is;
     ended_is = ends ∙ told.ended_is;
     tally_is = subst (λ (x : List Exchange). IsTally x new.tally) (sym (none_since past id reply last)) tallies;
-    done_is = dones ∙ ap (λ (b : Bool). b && is_well reply) told.done_is;
-    written = rw (text_of_last start past id reply last) (more_written contents first old new (report_text start past)
-        (line_of (last_data (told_at start past id reply))) told.written writes silent);
+    outcome_is = comes ∙ sym (outcome_of_last start past id reply last);
+    run_is = runs ∙ told.run_is;
+    written = rw (text_of_last first.run start past id reply last) (more_written contents first old new
+        (report_text first.run start past) (line_of (last_data (told_at first.run start past id reply)))
+        told.written writes silent);
   }

@@ -1,21 +1,28 @@
 -- What a report tells of short traces, and what it holds, by hand, on both sides of each rule.
-use Rattle.std.proofs.Common.{◌≡◌, refl, ℕ, true, false, List, [], ◌∷◌, Option, Some, None, length, codes}
+use Rattle.std.proofs.Common.{◌≡◌, ◌∙◌, ◌⊎◌, inl, inr, refl, ℕ, true, false, List, [], ◌∷◌, Option, Some, None, length, codes}
+use Rattle.serde_json.specs.Data.{number, unsigned}
+use Rattle.serde_json.specs.Find.{get}
 use Rattle.dali_bank.specs.Order.{Contents}
 use Rattle.dali_frame.specs.declared.forward.Frame.{Frame}
 use Rattle.dali_frame.specs.declared.forward.Frame.TheVariants.{AskDtr1, Enable}
 use Rattle.dali_journal.specs.declared.record.Code.TheVariants.{Done, Doubt}
 use Rattle.dali_journal.specs.declared.record.Record.TheVariants.{Began, Opened, Ended}
 use Rattle.dali_trace.specs.declared.fault.DriveFault.{DriveFault}
+use Rattle.dali_trace.specs.declared.fault.DriveFault.TheVariants as faults
 use Rattle.dali_trace.specs.declared.happening.Reply.TheVariants as replies
 use Rattle.dali_trace.specs.declared.happening.Happening.{Happening}
 use Rattle.dali_trace.specs.declared.happening.Happening.TheVariants.{Asked, Answered, Sent, Kept}
 use Rattle.dali_trace.specs.Trace.{Start}
+use Rattle.dali_report.specs.declared.outcome.Outcome.TheVariants as outcomes
+use Rattle.dali_report.specs.declared.outcome.Outcome.TheVariants.{Nothing, DoneNow, NotDone}
+use Rattle.dali_read.specs.declared.finding.Finding.{Finding}
 use Rattle.dali_report.specs.declared.report.Report.{Report}
 use Rattle.dali_report.specs.declared.tally.Tally.{Tally}
-use Rattle.dali_report.specs.Lines.{escaped, is_plain}
-use Rattle.dali_report.specs.Reports.{all_done, exchanges, is_ended_now, report_text, resumed, spoken_of}
+use Rattle.dali_report.specs.Lines.{end_data, escaped, found_data, is_plain, last_data}
+use Rattle.dali_report.specs.Reports.{all_done, exchanges, is_ended_now, outcome_of, report_text, resumed, spoken_of}
+use Rattle.dali_report.specs.Reports.{told_at}
 use Rattle.dali_report.specs.Tallies.{IsTally}
-use Rattle.dali_report.specs.Told.{HasWritten, IsTold, IsToldEnd, has_failed, report_held, spoken}
+use Rattle.dali_report.specs.Told.{HasWritten, IsTold, IsToldEnd, IsToldFound, has_failed, report_held, spoken}
 
 -- ---- which order is spoken of, and whether it ended in this drive
 
@@ -32,12 +39,16 @@ new_start = record { records = []; limit = 3 }
 abbrev begun_start : Start
 begun_start = record { records = Began first 7 ∷ []; limit = 3 }
 
+-- and one that has ended it
+abbrev ended_start : Start
+ended_start = record { records = Ended Done ∷ Opened 5 ∷ Began first 7 ∷ []; limit = 3 }
+
 pub the_newest_is_spoken_of : (spoken_of begun_start (Asked second 0 ∷ []) ≡ Some second)
     × (spoken_of begun_start [] ≡ Some first)
 the_newest_is_spoken_of = (refl, refl)
 
 pub of_an_ended_order_none_is_resumed :
-    resumed (record { records = Ended Done ∷ Opened 5 ∷ Began first 7 ∷ []; limit = 3 }) ≡ None
+    resumed ended_start ≡ None
 of_an_ended_order_none_is_resumed = refl
 
 pub ended_now : is_ended_now new_start (Kept (Ended Done) ∷ Asked first 0 ∷ []) 1 ≡ true
@@ -78,8 +89,56 @@ done_and_taken_are_well = refl
 pub one_in_doubt_is_not : all_done (Answered 2 (replies.Kept Done) ∷ Answered 1 (replies.Kept Doubt) ∷ []) ≡ false
 one_in_doubt_is_not = refl
 
-pub taken_has_no_line : report_text new_start (Answered 1 replies.Taken ∷ []) ≡ []
+pub taken_has_no_line : report_text 1 new_start (Answered 1 replies.Taken ∷ []) ≡ []
 taken_has_no_line = refl
+
+-- ---- what all last replies come to
+
+pub nothing_where_none_is_replied :
+    (outcome_of begun_start [] ≡ Nothing)
+    × (outcome_of new_start (Answered 1 replies.Taken ∷ Asked first 0 ∷ []) ≡ Nothing)
+nothing_where_none_is_replied = (refl, refl)
+
+pub done_now : outcome_of new_start (Answered 1 (replies.Kept Done) ∷ Kept (Ended Done) ∷ Asked first 0 ∷ []) ≡ DoneNow
+done_now = refl
+
+-- one that the journal had ended is done, and not by this drive
+pub done_before : outcome_of ended_start (Answered 1 (replies.Kept Done) ∷ Asked first 0 ∷ []) ≡ outcomes.Done
+done_before = refl
+
+-- though another one is
+pub one_done_before_is_enough :
+    outcome_of ended_start (Answered 2 (replies.Kept Done) ∷ Kept (Ended Done) ∷ Asked second 0
+    ∷ Answered 1 (replies.Kept Done) ∷ Asked first 0 ∷ []) ≡ outcomes.Done
+one_done_before_is_enough = refl
+
+-- one that is asked twice was done before the second time
+pub asked_twice_is_done_before :
+    outcome_of new_start (Answered 1 (replies.Kept Done) ∷ Asked first 0
+    ∷ Answered 1 (replies.Kept Done) ∷ Kept (Ended Done) ∷ Asked first 0 ∷ []) ≡ outcomes.Done
+asked_twice_is_done_before = refl
+
+-- one that is resumed and comes again is done by this drive
+pub resumed_is_done_now :
+    outcome_of begun_start (Answered 1 (replies.Kept Done) ∷ Asked first 0 ∷ Kept (Ended Done) ∷ []) ≡ DoneNow
+resumed_is_done_now = refl
+
+pub not_done_where_one_has_no_end :
+    (outcome_of ended_start (Answered 1 replies.IdReused ∷ Asked first 0 ∷ []) ≡ NotDone)
+    × (outcome_of new_start (Answered 1 (replies.Blocked 6) ∷ Asked first 0 ∷ []) ≡ NotDone)
+not_done_where_one_has_no_end = (refl, refl)
+
+pub not_done_in_doubt :
+    outcome_of new_start (Answered 1 (replies.Kept Doubt) ∷ Kept (Ended Doubt) ∷ Asked first 0 ∷ []) ≡ NotDone
+not_done_in_doubt = refl
+
+-- ---- of which run a line is
+
+pub run_is_told :
+    (run : ℕ) → (get (codes "run") (found_data run first None) ≡ Some (number (unsigned run)))
+    × (get (codes "run") (end_data run faults.End (Enable 5) []) ≡ Some (number (unsigned run)))
+    × (get (codes "run") (last_data (told_at run new_start [] 1 replies.Busy)) ≡ Some (number (unsigned run)))
+run_is_told run = (refl, refl, refl)
 
 -- ---- which bytes stand for themselves
 
@@ -119,21 +178,28 @@ module _ {W : Type 0} (contents : W → Option (List ℕ)) (first_report now : R
       let silent = written.1 failed in rw silent.1 refl
 
   pub not_done_where_one_is_refused : IsTold contents new_start first_report now (Answered 1 replies.IdReused ∷ [])
-      → now.all_done ≡ false
-  not_done_where_one_is_refused told = told.done_is
+      → now.outcome ≡ NotDone
+  not_done_where_one_is_refused told = told.outcome_is
 
-  pub done_where_none_is_asked : IsTold contents new_start first_report now [] → now.all_done ≡ true
-  done_where_none_is_asked told = told.done_is
+  pub nothing_where_none_is_asked : IsTold contents new_start first_report now [] → now.outcome ≡ Nothing
+  nothing_where_none_is_asked told = told.outcome_is
 
   -- though a drive breaks off behind it
   pub not_done_though_broken_off : (fault : DriveFault) (frame : Frame) (text : List ℕ)
       → IsToldEnd contents new_start first_report now (Answered 1 replies.IdReused ∷ []) fault frame text
-      → now.all_done ≡ false
-  not_done_though_broken_off fault frame text told = told.done_is
+      → now.outcome ≡ NotDone
+  not_done_though_broken_off fault frame text told = told.outcome_is
 
   pub speaks_of_the_newest : IsTold contents begun_start first_report now (Asked second 0 ∷ [])
       → (now.spoken ≡ Some (spoken second)) × (now.resumed ≡ Some (spoken first)) × (now.ended ≡ false)
   speaks_of_the_newest told = (told.spoken_is, told.resumed_is, told.ended_is)
+
+  -- a report never becomes that of another run
+  pub run_stays : (found : List (Contents × Option Finding)) → first_report.run ≡ 3
+      → (IsTold contents begun_start first_report now [] ⊎ IsToldFound contents first_report now found)
+      → now.run ≡ 3
+  run_stays found is (inl told) = told.run_is ∙ is
+  run_stays found is (inr told) = told.0 ∙ is
 
   pub end_is_kept_in_mind : IsTold contents begun_start first_report now (Kept (Ended Done) ∷ [])
       → now.ended ≡ true

@@ -1,4 +1,5 @@
--- The lines of a report: each is a value of JSON in its shortest text.
+-- The lines of a report: each is a value of JSON in its shortest text, and says of which run it is: a command that
+-- writes into the report.
 use Rattle.std.specs.Prelude.{ℕ, ◌^◌, ◌-◌, ◌++◌, Bool, true, false, List, [], ◌∷◌, Option, Some, None, codes, min}
 use Rattle.std.specs.Prelude.{if◌then◌else◌, nat_le, ◌&&◌, not, ◌==◌}
 use Rattle.std.specs.List.{flat_map}
@@ -61,7 +62,8 @@ last_data last = object (
     (member (codes "name") (name_data last.reply)
     (member (codes "order") (number (unsigned last.order))
     (member (codes "reply") (string (reply_text last.reply))
-    (member (codes "unit") (number_or_null last.unit) no_members)))))))))
+    (member (codes "run") (number (unsigned last.run))
+    (member (codes "unit") (number_or_null last.unit) no_members))))))))))
 
 -- ---- of an answer that broke a drive off
 
@@ -75,13 +77,14 @@ escaped_byte byte = if is_plain byte then byte ∷ [] else codes "\\x" ++ byte_d
 abbrev pub escaped : List ℕ → List ℕ
 escaped bytes = flat_map escaped_byte bytes
 
--- the fault, the frame, and what was read of the answer
-abbrev pub end_data : DriveFault → Frame → List ℕ → Data
-end_data fault frame text = object (
+-- the fault, the frame, and what was read of the answer, in this run of the report
+abbrev pub end_data : ℕ → DriveFault → Frame → List ℕ → Data
+end_data run fault frame text = object (
     member (codes "answer") (string (escaped text))
     (member (codes "fault") (number (unsigned (drive_number fault)))
     (member (codes "frame") (string (word_digits (frame_word frame)))
-    (member (codes "name") (string (drive_name fault)) no_members))))
+    (member (codes "name") (string (drive_name fault))
+    (member (codes "run") (number (unsigned run)) no_members)))))
 
 -- ---- of an order whose unit was read
 
@@ -101,10 +104,11 @@ abbrev pub byte_data : Option Finding → Data
 byte_data (Some (Other location byte)) = number (unsigned byte)
 byte_data other = null
 
-abbrev pub found_data : Contents → Option Finding → Data
-found_data order found = object (
+abbrev pub found_data : ℕ → Contents → Option Finding → Data
+found_data run order found = object (
     member (codes "byte") (byte_data found)
     (member (codes "found") (string (found_text found))
     (member (codes "location") (location_data found)
     (member (codes "order") (number (unsigned order.id))
-    (member (codes "unit") (number (unsigned order.unit)) no_members)))))
+    (member (codes "run") (number (unsigned run))
+    (member (codes "unit") (number (unsigned order.unit)) no_members))))))

@@ -1,9 +1,10 @@
 -- What a report tells of a drive: a line for each order at its last reply. A trace has the newest happening first.
 use Rattle.std.specs.Prelude.{◌==◌, ◌||◌, ◌&&◌, ℕ, Bool, true, false, List, [], ◌∷◌, ◌++◌, Option, Some, None, length}
 use Rattle.std.specs.Prelude.{option_map}
+use Rattle.std.specs.List.{list_any}
 use Rattle.dali_bank.specs.Order.{Contents}
 use Rattle.dali_frame.specs.declared.forward.Frame.{Frame}
-use Rattle.dali_journal.specs.declared.record.Code.TheVariants.{Done}
+use Rattle.dali_journal.specs.declared.record.Code.TheVariants as journal
 use Rattle.dali_journal.specs.declared.record.Record.TheVariants.{Ended}
 use Rattle.dali_journal.specs.declared.standing.Standing.{Standing}
 use Rattle.dali_journal.specs.declared.standing.Standing.TheVariants as standings
@@ -21,6 +22,8 @@ use Rattle.dali_trace.specs.Trace.{Start, records_of}
 use Rattle.dali_trace.specs.declared.fault.DriveFault.{DriveFault}
 use Rattle.dali_report.specs.Lines.{counted, last_data, end_data, found_data, line_of}
 use Rattle.dali_report.specs.declared.line.LastReply.{LastReply}
+use Rattle.dali_report.specs.declared.outcome.Outcome.{Outcome}
+use Rattle.dali_report.specs.declared.outcome.Outcome.TheVariants.{Nothing, DoneNow, Done, NotDone}
 
 -- the order that a standing leaves unfinished
 abbrev pub unfinished_in : Standing → Option Contents
@@ -67,9 +70,10 @@ is_ended_now start past id = has_end (since is_asked past) || is_number_of id (r
 abbrev pub exchanges : List Happening → List Exchange
 exchanges past = frames_in (since is_last_reply past)
 
--- what is told of the order of this number at this reply
-abbrev pub told_at : Start → List Happening → ℕ → Reply → LastReply
-told_at start past id reply = record {
+-- what is told in this run of the order of this number at this reply
+abbrev pub told_at : ℕ → Start → List Happening → ℕ → Reply → LastReply
+told_at run start past id reply = record {
+  run = run;
   order = id;
   unit = option_map (λ order. order.unit) (spoken_of start past);
   moment = moment_of id (records_of start past);
@@ -79,32 +83,54 @@ told_at start past id reply = record {
   misses = counted (misses_in (exchanges past));
 }
 
--- the text of a report: a line for each last reply
-abbrev pub report_text : Start → List Happening → List ℕ
-report_text start [] = []
-report_text start (Answered id replies.Taken ∷ past) = report_text start past
-report_text start (Answered id reply ∷ past) =
-    report_text start past ++ line_of (last_data (told_at start past id reply))
-report_text start (other ∷ past) = report_text start past
+-- the text of a run in a report: a line for each last reply
+abbrev pub report_text : ℕ → Start → List Happening → List ℕ
+report_text run start [] = []
+report_text run start (Answered id replies.Taken ∷ past) = report_text run start past
+report_text run start (Answered id reply ∷ past) =
+    report_text run start past ++ line_of (last_data (told_at run start past id reply))
+report_text run start (other ∷ past) = report_text run start past
 
 -- and with the fault of an answer
-abbrev pub broken_text : Start → List Happening → DriveFault → Frame → List ℕ → List ℕ
-broken_text start past fault frame text = report_text start past ++ line_of (end_data fault frame text)
+abbrev pub broken_text : ℕ → Start → List Happening → DriveFault → Frame → List ℕ → List ℕ
+broken_text run start past fault frame text = report_text run start past ++ line_of (end_data run fault frame text)
 
 -- ---- the text of what was found of orders
 
-abbrev pub found_lines : List (Contents × Option Finding) → List ℕ
-found_lines [] = []
-found_lines (newest ∷ found) = found_lines found ++ line_of (found_data newest.0 newest.1)
+abbrev pub found_lines : ℕ → List (Contents × Option Finding) → List ℕ
+found_lines run [] = []
+found_lines run (newest ∷ found) = found_lines run found ++ line_of (found_data run newest.0 newest.1)
 
--- ---- each last reply is `kept 0 Done`
+-- ---- what all last replies come to
 
+-- some order had its last reply
+abbrev pub has_last_reply : List Happening → Bool
+has_last_reply past = list_any is_last_reply past
+
+-- each last reply is `kept 0 Done`
 abbrev pub is_well : Reply → Bool
 is_well replies.Taken = true
-is_well (replies.Kept Done) = true
+is_well (replies.Kept journal.Done) = true
 is_well other = false
 
 abbrev pub all_done : List Happening → Bool
 all_done [] = true
 all_done (Answered id reply ∷ past) = all_done past && is_well reply
 all_done (other ∷ past) = all_done past
+
+-- at each last reply the order's end was kept in this drive
+abbrev pub all_ended_now : Start → List Happening → Bool
+all_ended_now start [] = true
+all_ended_now start (Answered id replies.Taken ∷ past) = all_ended_now start past
+all_ended_now start (Answered id reply ∷ past) = all_ended_now start past && is_ended_now start past id
+all_ended_now start (other ∷ past) = all_ended_now start past
+
+-- by whether there was a last reply, all were `kept 0 Done`, and all by this drive
+abbrev pub outcome_by : Bool → Bool → Bool → Outcome
+outcome_by false done now = Nothing
+outcome_by true false now = NotDone
+outcome_by true true false = Done
+outcome_by true true true = DoneNow
+
+abbrev pub outcome_of : Start → List Happening → Outcome
+outcome_of start past = outcome_by (has_last_reply past) (all_done past) (all_ended_now start past)

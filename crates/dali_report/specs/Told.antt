@@ -12,9 +12,11 @@ use Rattle.dali_trace.specs.declared.happening.Happening.{Happening}
 use Rattle.dali_trace.specs.Cut.{since}
 use Rattle.dali_trace.specs.Trace.{Start}
 use Rattle.dali_trace.specs.declared.fault.DriveFault.{DriveFault}
+use Rattle.dali_report.specs.declared.outcome.Outcome.{Outcome}
 use Rattle.dali_report.specs.declared.report.Report.{Report}
 use Rattle.dali_report.specs.declared.report.Spoken.{Spoken}
-use Rattle.dali_report.specs.Reports.{resumed, spoken_of, is_asked, has_end, exchanges, report_text, broken_text, found_lines, all_done}
+use Rattle.dali_report.specs.Reports.{resumed, spoken_of, is_asked, has_end, exchanges, report_text, broken_text, found_lines}
+use Rattle.dali_report.specs.Reports.{outcome_of}
 use Rattle.dali_report.specs.Tallies.{IsTally}
 
 -- an output that may be none
@@ -40,6 +42,14 @@ has_failed_output report = output_failed report.output
 -- it goes somewhere
 abbrev pub has_output : {W : Type 0} → Report W → Bool
 has_output report = is_some report.output
+
+-- which run of the report this is
+abbrev pub run_of : {W : Type 0} → Report W → ℕ
+run_of report = report.run
+
+-- what all last replies came to so far
+abbrev pub outcome_so_far : {W : Type 0} → Report W → Outcome
+outcome_so_far report = report.outcome
 
 -- it stays failed, and its output as it is
 abbrev pub IsSilent : {W : Type 0} → Report W → Report W → Type 0
@@ -68,21 +78,25 @@ pub record IsTold {W : Type 0} (contents : W → Option (List ℕ)) (start : Sta
   pub spoken_is : now.spoken ≡ option_map spoken (spoken_of start past)
   pub ended_is : now.ended ≡ has_end (since is_asked past)
   pub tally_is : IsTally (exchanges past) now.tally
-  pub done_is : now.all_done ≡ all_done past
-  pub written : HasWritten contents first now (report_text start past)
+  pub outcome_is : now.outcome ≡ outcome_of start past
+  pub run_is : now.run ≡ first.run
+  pub written : HasWritten contents first now (report_text first.run start past)
 
 -- and then that this fault broke the exchange of this frame off, with what was read of the answer
 pub record IsToldEnd {W : Type 0} (contents : W → Option (List ℕ)) (start : Start) (first now : Report W)
     (past : List Happening) (fault : DriveFault) (frame : Frame) (text : List ℕ) : Type 0 where
-  pub done_is : now.all_done ≡ all_done past
-  pub written : HasWritten contents first now (broken_text start past fault frame text)
+  pub outcome_is : now.outcome ≡ outcome_of start past
+  pub run_is : now.run ≡ first.run
+  pub written : HasWritten contents first now (broken_text first.run start past fault frame text)
 
 -- it was told that this was found of these orders, the newest first
 abbrev pub IsToldFound : {W : Type 0} → (W → Option (List ℕ)) → Report W → Report W
     → List (Contents × Option Finding) → Type 0
-IsToldFound contents first now found = HasWritten contents first now (found_lines found)
+IsToldFound contents first now found =
+    (now.run ≡ first.run) × HasWritten contents first now (found_lines first.run found)
 
 -- at first, nothing
 pub none_found : {W : Type 0} (contents : W → Option (List ℕ)) (report : Report W)
     → IsToldFound contents report report []
-none_found contents report = (λ failed. Appends-nil (report_held contents report), λ failed. (failed, refl))
+none_found contents report =
+    (refl, (λ failed. Appends-nil (report_held contents report), λ failed. (failed, refl)))

@@ -2,7 +2,11 @@
 #![tactic(auto)]
 
 mod line;
+mod outcome;
 mod report;
+mod seen;
 mod tally;
 
+pub use outcome::Outcome;
 pub use report::Report;
+pub use seen::{LINE_LIMIT, Seen, look_at, run_behind};

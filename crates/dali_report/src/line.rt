@@ -31,6 +31,8 @@ pub(crate) struct LastReply {
     pub(crate) ended_now: bool,
     pub(crate) frames: u64,
     pub(crate) misses: u64,
+    // The run of the report.
+    pub(crate) run: u64,
 }
 
 impl LastReply {
@@ -48,6 +50,7 @@ impl LastReply {
         let reply = self.reply;
         let reply = format!(in alloc; "{reply}")?;
         let members = with(Map::new(alloc), alloc, "unit", self.unit())?;
+        let members = with(members, alloc, "run", Value::from(self.run))?;
         let members = with(members, alloc, "reply", Value::from(reply))?;
         let members = with(members, alloc, "order", Value::from(self.order))?;
         let members = with(members, alloc, "name", self.name(alloc)?)?;
@@ -131,31 +134,34 @@ fn number_or_null(value: Option<u64>) -> Value
     }
 }
 
-/// The line of a fault that broke an exchange off: the frame, and what was read of its answer.
+/// The line in this run of a fault that broke an exchange off: the frame, and what was read of its answer.
 pub(crate) fn end_line(
     alloc: Global,
+    run: u64,
     fault: DriveFault,
     frame: &Frame,
     text: &[u8],
 ) -> Result<Vec<u8>, AllocError>
     requires { IsProper frame.now }
-    ensures { IfOk result (λ line. line.items ≡ line_of (end_data fault frame.now text.now)) }
+    ensures { IfOk result (λ line. line.items ≡ line_of (end_data run fault frame.now text.now)) }
 {
-    let value = end_value(alloc, fault, frame, text)?;
+    let value = end_value(alloc, run, fault, frame, text)?;
     line_of(alloc, &value)
 }
 
 fn end_value(
     alloc: Global,
+    run: u64,
     fault: DriveFault,
     frame: &Frame,
     text: &[u8],
 ) -> Result<Value, AllocError>
     requires { IsProper frame.now }
-    ensures { IfOk result (λ value. view value ≡ end_data fault frame.now text.now) }
+    ensures { IfOk result (λ value. view value ≡ end_data run fault frame.now text.now) }
 {
     let name = format!(in alloc; "{fault}")?;
-    let members = with(Map::new(alloc), alloc, "name", Value::from(name))?;
+    let members = with(Map::new(alloc), alloc, "run", Value::from(run))?;
+    let members = with(members, alloc, "name", Value::from(name))?;
     let members = with(members, alloc, "frame", digits_of(alloc, frame)?)?;
     let members = with(members, alloc, "fault", Value::from(fault.number()))?;
     let members = with(members, alloc, "answer", Value::from(escaped(alloc, text)?))?;
@@ -206,22 +212,29 @@ impl fmt::Display for EscapedByte {
     }
 }
 
-/// The line of what was found of an order: nothing of a silent unit.
+/// The line in this run of what was found of an order: nothing of a silent unit.
 pub(crate) fn found_line(
     alloc: Global,
+    run: u64,
     order: &Order,
     found: Option<Finding>,
 ) -> Result<Vec<u8>, AllocError>
-    ensures { IfOk result (λ line. line.items ≡ line_of (found_data order.now found)) }
+    ensures { IfOk result (λ line. line.items ≡ line_of (found_data run order.now found)) }
 {
-    let value = found_value(alloc, order, found)?;
+    let value = found_value(alloc, run, order, found)?;
     line_of(alloc, &value)
 }
 
-fn found_value(alloc: Global, order: &Order, found: Option<Finding>) -> Result<Value, AllocError>
-    ensures { IfOk result (λ value. view value ≡ found_data order.now found) }
+fn found_value(
+    alloc: Global,
+    run: u64,
+    order: &Order,
+    found: Option<Finding>,
+) -> Result<Value, AllocError>
+    ensures { IfOk result (λ value. view value ≡ found_data run order.now found) }
 {
     let members = with(Map::new(alloc), alloc, "unit", Value::from(order.unit()))?;
+    let members = with(members, alloc, "run", Value::from(run))?;
     let members = with(members, alloc, "order", Value::from(order.id()))?;
     let members = with(members, alloc, "location", location_of(found))?;
     let text = Value::try_from_str(alloc, found_text(found))?;

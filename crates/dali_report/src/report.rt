@@ -1,5 +1,5 @@
 ghost use Rattle.std.specs.Prelude.{◌≡◌, ◌∷◌, ◌⊎◌, ◌||◌, List, IsOkAnd, OnOk, None, false, true, is_some, option_map};
-ghost use Rattle.std.specs.Io.KnownBytes.{Appends, Keeps};
+ghost use Rattle.std.specs.Io.KnownBytes.{Appends};
 ghost use Rattle.dali_text.specs.Output.{Takes, TellsFailure, is_flushed};
 ghost use Rattle.dali_trace.specs.declared.happening.Happening.{Happening};
 ghost use Rattle.dali_trace.specs.declared.happening.Happening.TheVariants.{Answered};
@@ -8,9 +8,10 @@ ghost use Rattle.dali_report.specs.Lines.{last_data, line_of};
 ghost use Rattle.dali_report.specs.Reports.{is_last_reply, is_well as well, resumed};
 ghost use Rattle.dali_report.specs.Told.{IsTold, IsToldEnd, output_held, output_failed, report_held};
 ghost use Rattle.dali_report.specs.Told.{has_failed as report_failed, has_failed_output, has_output};
-ghost use Rattle.dali_report.specs.Told.{spoken, is_number, IsToldFound, none_found};
+ghost use Rattle.dali_report.specs.Told.{spoken, is_number, IsToldFound, none_found, outcome_so_far, run_of};
 
 use crate::line::{LastReply, end_line, found_line};
+use crate::outcome::Outcome;
 use crate::tally::Tally;
 use dali_bank::Order;
 use dali_drive::{DriveFault, FindingObserver, Observer};
@@ -41,7 +42,7 @@ impl Spoken {
 }
 
 /// The report of a drive (profile): a line of JSON for each order at its last reply, and one for an answer that broke
-/// the drive off. With no output it keeps in mind alone whether all were done.
+/// the drive off, each with the number of the run. With no output it keeps in mind alone what all of them came to.
 ///
 /// A line is flushed before more happens. Where one can't be written, no more is.
 #[derive(Drop)]
@@ -57,16 +58,18 @@ pub struct Report<W> {
     // Whether an end was kept since an order was asked.
     ended: bool,
     tally: Tally,
-    all_done: bool,
+    outcome: Outcome,
+    run: u64,
 }
 
 impl<W: Write> Report<W> {
-    /// A report into an output, where one is wanted.
-    pub fn new(alloc: Global, output: Option<Output<W>>) -> Report<W>
+    /// This run of a report, into an output where one is wanted.
+    pub fn new(alloc: Global, run: u64, output: Option<Output<W>>) -> Report<W>
         ensures held { report_held W.contents result ≡ output_held W.contents output }
         ensures failed { report_failed result ≡ output_failed output }
         ensures output { has_output result ≡ is_some output }
-        ensures done { result.all_done ≡ true }
+        ensures outcome { outcome_so_far result ≡ Outcome.Nothing }
+        ensures run { run_of result ≡ run }
     {
         Report {
             alloc,
@@ -76,15 +79,16 @@ impl<W: Write> Report<W> {
             spoken: None,
             ended: false,
             tally: Tally::new(),
-            all_done: true,
+            outcome: Outcome::Nothing,
+            run,
         }
     }
 
-    /// Whether each last reply was `kept 0 Done`.
-    pub fn all_done(&self) -> bool
-        ensures { result ≡ self.now.all_done }
+    /// What all last replies came to.
+    pub fn outcome(&self) -> Outcome
+        ensures { result ≡ outcome_so_far self.now }
     {
-        self.all_done
+        self.outcome
     }
 
     /// Whether a line couldn't be written.
@@ -111,17 +115,19 @@ impl<W: Write> Report<W> {
             → is_last_reply (Answered id reply) ≡ true
             → IsTold W.contents start first self.new (Answered id reply ∷ past) }
     {
+        let ended_now = self.ends_now(id);
         self.write_last(&LastReply {
             order: id,
             unit: self.unit(),
             moment: journal.moment(id),
             reply,
-            ended_now: self.ends_now(id),
+            ended_now,
             frames: self.tally.frames,
             misses: self.tally.misses,
+            run: self.run,
         });
         self.tally = Tally::new();
-        self.all_done &= is_well(reply);
+        self.outcome = self.outcome.with(is_well(reply), ended_now);
     }
 
     // The short address of the order of which is spoken.
@@ -172,21 +178,6 @@ impl<W: Write> Report<W> {
         self.output.is_some() && !self.has_failed()
     }
 
-    // Flushes the output, where there is one, so that it stands before the first line.
-    fn start(&mut self)
-        ensures same { self.new ≡ record self.old { output = self.new.output } }
-        ensures kept { Keeps (report_held W.contents self.old) (report_held W.contents self.new) }
-        ensures failed { report_failed self.new ≡ false → report_failed self.old ≡ false }
-        ensures silent { report_failed self.old ≡ true → self.new ≡ self.old }
-    {
-        if !self.is_wanted() {
-            return;
-        }
-        if let Some(output) = &mut self.output {
-            let _ = output.flush();
-        }
-    }
-
     // Writes a line, and flushes it.
     fn put(&mut self, line: Result<Vec<u8>, AllocError>)
         ensures same { self.new ≡ record self.old { output = self.new.output; starved = self.new.starved } }
@@ -213,8 +204,7 @@ impl<W: Write + Drop> Observer for Report<W> {
         self.spoken = self.resumed;
         self.ended = false;
         self.tally = Tally::new();
-        self.all_done = true;
-        self.start();
+        self.outcome = Outcome::Nothing;
     }
 
     fn see(&mut self, happening: &Happening, journal: &Journal) {
@@ -233,7 +223,7 @@ impl<W: Write + Drop> Observer for Report<W> {
 
     fn see_end(&mut self, fault: DriveFault, frame: &Frame, read: &[u8]) {
         if self.is_wanted() {
-            self.put(end_line(self.alloc, fault, frame, read));
+            self.put(end_line(self.alloc, self.run, fault, frame, read));
         }
     }
 }
@@ -243,7 +233,7 @@ impl<W: Write + Drop> FindingObserver for Report<W> {
 
     fn find(&mut self, order: &Order, found: Option<Finding>) {
         if self.is_wanted() {
-            self.put(found_line(self.alloc, order, found));
+            self.put(found_line(self.alloc, self.run, order, found));
         }
     }
 

@@ -3,6 +3,7 @@ mod bench;
 pub(crate) mod case;
 mod gtin;
 mod hostile_bus;
+mod limits;
 mod losses;
 mod moments;
 mod power;

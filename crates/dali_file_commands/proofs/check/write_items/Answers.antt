@@ -7,13 +7,13 @@ use Rattle.std.proofs.KnownBytes.{Appends-nil}
 
 pub loop-item-init : goal.loop-item-init
 loop-item-init g c =
-    (refl, search, none_yet _ _ (λ unfailed. (unfailed, ([], refl, Appends-nil _))), refl)
+    (refl, search, none_yet _ _ _ (λ unfailed. (unfailed, ([], refl, Appends-nil _))), refl)
 
 pub loop-item-preserved-then-branch : goal.loop-item-preserved-then-branch
 loop-item-preserved-then-branch g c =
     let at = c.loop-item in
     let (split, size, so_far, failed) = at.invariant in
-    let (outcome, judged, is, written, noted) = c.in_ok-write_item.ensures.lines in
+    let (outcome, judged, is, text, lines, written, noted) = c.in_ok-write_item.ensures.lines in
     let steps : into_iter_items at.item-iterator ≡ c.in-Some.item ∷ into_iter_items c.next.new.self =
     c.in-Some.ensures.steps.0 in
     let gone = c.in-Some.ensures.steps.1 in
@@ -21,8 +21,8 @@ loop-item-preserved-then-branch g c =
     let short = ap length steps in omega arith in (
       append_assoc at.yielded (c.in-Some.item ∷ []) _ ∙ rw (← steps) split,
       left,
-      accepted_more at.yielded c.in-Some.item at.accepted at.refused _ _ _ outcome _ _ so_far judged
-          (is ∙ c.if-branch.true) written
+      accepted_more _ at.yielded c.in-Some.item at.accepted at.refused _ _ _ outcome text _ _ so_far judged
+          (is ∙ c.if-branch.true) lines written
           (λ xs. tells_one_more g.N.Write.contents c.args.notes.now at.notes c.write_item.new.notes outcome _ xs
           noted),
       c.in_ok-write_item.ensures.failed ∙ failed,
@@ -32,7 +32,7 @@ pub loop-item-preserved : goal.loop-item-preserved
 loop-item-preserved g c =
     let at = c.loop-item in
     let (split, size, so_far, failed) = at.invariant in
-    let (outcome, judged, is, written, noted) = c.in_ok-write_item.ensures.lines in
+    let (outcome, judged, is, text, lines, written, noted) = c.in_ok-write_item.ensures.lines in
     let steps : into_iter_items at.item-iterator ≡ c.in-Some.item ∷ into_iter_items c.next.new.self =
     c.in-Some.ensures.steps.0 in
     let gone = c.in-Some.ensures.steps.1 in
@@ -40,8 +40,8 @@ loop-item-preserved g c =
     let short = ap length steps in omega arith in (
       append_assoc at.yielded (c.in-Some.item ∷ []) _ ∙ rw (← steps) split,
       left,
-      refused_more at.yielded c.in-Some.item at.accepted at.refused _ _ _ outcome _ _ so_far judged
-          (is ∙ c.if-branch.false) written
+      refused_more _ at.yielded c.in-Some.item at.accepted at.refused _ _ _ outcome text _ _ so_far judged
+          (is ∙ c.if-branch.false) lines written
           (λ xs. tells_one_more g.N.Write.contents c.args.notes.now at.notes c.write_item.new.notes outcome _ xs
           noted),
       c.in_ok-write_item.ensures.failed ∙ failed,

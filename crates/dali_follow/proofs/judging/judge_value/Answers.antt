@@ -24,6 +24,6 @@ returns-in-Some-Ok c =
 
 pub returns-in-Some-Err : goal.returns-in-Some-Err
 returns-in-Some-Err c =
-    inl (no_submission (view c.args.json.now) c.in-Some-Err.fault c.in-Some-Err.ensures.some
+    inl (no_submission (view c.args.json.now) c.in-Some-Err.fault _ c.in-Some-Err.ensures.some
     (rw c.in-Some-Err.field-0-is at c.in-Some-Err.ensures.document)
-    (rw c.in-Some-Err.field-0-is at c.in-Some-Err.ensures.err))
+    (rw c.in-Some-Err.field-0-is at c.in-Some-Err.ensures.err) c.submitted_number.ensures)

@@ -4,23 +4,20 @@ use Rattle.dali_job.proofs.JobLemmas.{no_job, none_then, option_named}
 use Rattle.dali_job.proofs.job.other_job_in.Goals as goal
 
 pub returns-in-Some-clause-named : goal.returns-in-Some-clause-named
-returns-in-Some-clause-named c = c.in-Some.ensures.found
+returns-in-Some-clause-named c = (c.in-Some.ensures.found, c.has_flag-single_frames.ensures)
 
 pub returns-in-Some-value_of-clause-named : goal.returns-in-Some-value_of-clause-named
-returns-in-Some-value_of-clause-named c = (c.in-Some-value_of.ensures.found, c.has_flag-single_frames.ensures)
+returns-in-Some-value_of-clause-named c = c.in-Some-value_of.ensures.found
 
 pub returns-in-Some-value_of-2-clause-named : goal.returns-in-Some-value_of-2-clause-named
 returns-in-Some-value_of-2-clause-named c = c.in-Some-value_of-2.ensures.found
 
 pub returns-in-Some-value_of-3-clause-named : goal.returns-in-Some-value_of-3-clause-named
-returns-in-Some-value_of-3-clause-named c = c.in-Some-value_of-3.ensures.found
+returns-in-Some-value_of-3-clause-named c = (c.in-Some-value_of-3.ensures.found, c.has_flag-with_updates.ensures)
 
 pub returns-in-Some-value_of-4-clause-named : goal.returns-in-Some-value_of-4-clause-named
-returns-in-Some-value_of-4-clause-named c = (c.in-Some-value_of-4.ensures.found, c.has_flag-with_updates.ensures)
-
-pub returns-in-Some-value_of-5-clause-named : goal.returns-in-Some-value_of-5-clause-named
-returns-in-Some-value_of-5-clause-named c =
-    let orders = c.in-Some-value_of-5.ensures.found in
+returns-in-Some-value_of-4-clause-named c =
+    let orders = c.in-Some-value_of-4.ensures.found in
     (orders, option_named _ _ _ _ (orders.0, orders.1) c.value_of-report.ensures.found c.value_of-report.ensures.none)
 
 pub returns-clause-none : goal.returns-clause-none
@@ -29,6 +26,5 @@ returns-clause-none c =
     (no_job _ c.in_default.ensures.none c.in_default-value_of.ensures.none c.in_default-value_of-2.ensures.none
     c.in_default-value_of-3.ensures.none
     c.in_default-value_of-4.ensures.none
-    c.in_default-value_of-5.ensures.none
     (λ entered. absurd (true≢false (sym (c.is_entered.ensures.1 entered) ∙ c.if-is_entered.false))))
     c.read_in.ensures.none

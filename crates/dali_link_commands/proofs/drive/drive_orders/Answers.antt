@@ -1,11 +1,12 @@
-use Rattle.std.proofs.Common.{rules, ◌∙◌, ap, inl, inr}
+use Rattle.std.proofs.Common.{rules, ◌∙◌, subst, inl, inr}
 use Rattle.dali_faults.specs.JournalInput.{journal_limit, order_limit}
 use Rattle.dali_drive.specs.Listed.{GaveListed}
 use Rattle.dali_drive.proofs.ListedDriveLemmas.{behind_driven}
 use Rattle.dali_report.specs.Told.{IsTold, IsToldEnd}
 use Rattle.dali_text.specs.Output.{has_failed, held}
 use Rattle.dali_link_commands.specs.Benches.{bench}
-use Rattle.dali_link_commands.specs.DriveAnswers.{ended_status}
+use Rattle.dali_report.specs.declared.outcome.Outcome.{Outcome}
+use Rattle.dali_link_commands.specs.Bare.{TellsEnded}
 use Rattle.dali_link_commands.proofs.BehindLemmas.{break_told}
 use Rattle.dali_link_commands.proofs.drive.drive_orders.Goals as goal
 
@@ -16,12 +17,17 @@ returns-in-Ok-clause-answer g c =
     c.new-listed.ensures.few c.in-Ok._writer c.in-Ok.ensures.followed in (
       inl (record {
         writer = c.in-Ok._writer;
+        replies = held g.W.Write.contents c.follow_stored.new.desk.out.output;
+        lost = has_failed c.follow_stored.new.desk.out.output;
         driven = driven;
         unfailed = c.in-Ok.ensures.ready.1;
         settled = c.in-Ok.ensures.settled;
-        status_is =
-            c.ended_status.ensures
-            ∙ ap (ended_status c.args.task.require_done) (c.all_done.ensures ∙ driven.observed.told_all.done_is);
+        told =
+            subst (λ (o : Outcome). TellsEnded c.args.task.required o c.tell_ended.result
+            (held g.W.Write.contents c.follow_stored.new.desk.out.output)
+            (held g.W.Write.contents c.tell_ended.new.lines.output))
+            (c.outcome.ensures ∙ driven.observed.told_all.outcome_is)
+            c.tell_ended.ensures.told;
       }),
       search rules,
     )

@@ -1,9 +1,9 @@
-use Rattle.std.proofs.Common.{rules, ◌∙◌, ap₂, inl, inr, subst}
+use Rattle.std.proofs.Common.{rules, ◌∙◌, inl, inr, subst}
 use Rattle.dali_follow.specs.Gave.{Gave, state_of}
 use Rattle.dali_text.specs.Output.{has_failed, held}
-use Rattle.dali_faults.specs.declared.fault.Status.{Status}
+use Rattle.dali_report.specs.declared.outcome.Outcome.{Outcome}
 use Rattle.dali_link_commands.specs.Benches.{bench}
-use Rattle.dali_link_commands.specs.FollowAnswers.{TellsFollowed, followed_status}
+use Rattle.dali_link_commands.specs.FollowAnswers.{TellsFollowed}
 use Rattle.dali_link_commands.proofs.BehindLemmas.{break_told}
 use Rattle.dali_link_commands.proofs.follow.follow_lines.Goals as goal
 
@@ -19,12 +19,11 @@ returns-in-Ok-clause-answer g c = (
       settled = c.in-Ok.ensures.settled;
     };
     told =
-        subst (λ (status : Status). TellsFollowed (g.R.Source.failed (state_of c.follow_stored.new.orders).source)
-        status c.tell_followed.result (held g.W.Write.contents c.follow_stored.new.desk.out.output)
+        subst (λ (o : Outcome). TellsFollowed (g.R.Source.failed (state_of c.follow_stored.new.orders).source)
+        (state_of c.follow_stored.new.orders).has_refused c.args.task.required o c.tell_followed.result
+        (held g.W.Write.contents c.follow_stored.new.desk.out.output)
         (held g.W.Write.contents c.tell_followed.new.lines.output))
-        (c.followed_status-ended.ensures
-        ∙ ap₂ (λ refused done. followed_status refused c.args.task.require_done done) c.has_refused.ensures
-        (c.all_done-done.ensures ∙ c.in-Ok.ensures.followed.observed.told_all.done_is))
+        (c.outcome.ensures ∙ c.in-Ok.ensures.followed.observed.told_all.outcome_is)
         c.tell_followed.ensures.told;
   }),
   search rules,

@@ -1,4 +1,4 @@
-use Rattle.std.proofs.Common.{◌∙◌, refl}
+use Rattle.std.proofs.Common.{◌∙◌, refl, sym}
 use Rattle.dali_report.specs.Lines.{line_of, end_data}
 use Rattle.dali_report.specs.Reports.{report_text}
 use Rattle.dali_report.proofs.ReportLemmas.{unwanted, wanted, more_written, not_both}
@@ -6,24 +6,26 @@ use Rattle.dali_report.proofs.report.ReportObserver.see_end.Goals as goal
 
 pub returns-then-is_wanted : goal.returns-then-is_wanted
 returns-then-is_wanted g c = λ start first past told.
-    let line = line_of (end_data c.args.fault c.args.frame.now c.args.read.now) in
+    let line = line_of (end_data first.run c.args.fault c.args.frame.now c.args.read.now) in
     let kept = c.put.ensures.same in
     record {
-      done_is = (rw kept refl) ∙ told.done_is;
-      written = more_written g.W.Write.contents first c.args.self.now c.put.new.self (report_text start past) line
-          told.written
+      outcome_is = (rw kept refl) ∙ told.outcome_is;
+      run_is = (rw kept refl) ∙ told.run_is;
+      written = more_written g.W.Write.contents first c.args.self.now c.put.new.self
+          (report_text first.run start past) line told.written
           (λ failed. wanted g.W.Write.contents c.args.self.now c.put.new.self c.end_line.result line
-          (c.put.ensures.put failed) c.end_line.ensures)
+          (c.put.ensures.put failed) (rw (sym told.run_is) c.end_line.ensures))
           (not_both c.args.self.now (c.is_wanted.ensures.wanted c.if-is_wanted.true));
     }
 
 pub returns-else-is_wanted : goal.returns-else-is_wanted
 returns-else-is_wanted g c = λ start first past told.
-    let line = line_of (end_data c.args.fault c.args.frame.now c.args.read.now) in
+    let line = line_of (end_data first.run c.args.fault c.args.frame.now c.args.read.now) in
     record {
-      done_is = told.done_is;
-      written = more_written g.W.Write.contents first c.args.self.now c.args.self.now (report_text start past) line
-          told.written
+      outcome_is = told.outcome_is;
+      run_is = told.run_is;
+      written = more_written g.W.Write.contents first c.args.self.now c.args.self.now
+          (report_text first.run start past) line told.written
           (λ well. (
             well,
             unwanted g.W.Write.contents c.args.self.now line

@@ -1,0 +1,203 @@
+// The program's commands, as `clap` takes them.
+ghost use Rattle.std.specs.Prelude.{◌≡◌, IfOk, IsOkAnd, codes, false};
+ghost use Rattle.clap.specs.declared.builder.command.Command.TheViews.{out-Command as fields_of};
+ghost use Rattle.clap.specs.Words.{AddsSubcommand, app_of, new_app, rule_of};
+ghost use Rattle.dali_job.specs.Jobs.{bench_app, check_app, command_app, drive_app, flag_rule, journal_app, many_rule};
+ghost use Rattle.dali_job.specs.Jobs.{number_rule, option_rule, read_app, run_app, unit_rule, value_rule, verify_app};
+
+use crate::usages::{
+    ABOUT, Argument, CHECK, CHECK_JOURNAL_HELP, CHECK_OLDER_HELP, CHECK_ORDERS, DRIVE,
+    DRIVE_DONE_HELP, DRIVE_FOLLOW_HELP, DRIVE_JOURNAL_HELP, DRIVE_MOMENT_HELP, DRIVE_NOW_HELP,
+    DRIVE_OLDER_HELP, DRIVE_REPORT_HELP, FRAME, FRAME_HEX, JOURNAL, JOURNAL_FILE,
+    JOURNAL_UPDATES_HELP, LINK_ORDERS, READ, READ_BANK_HELP, READ_UNIT_HELP, RUN, RUN_FRAMES_HELP,
+    RUN_SCENARIO, SCAN, SHOW, SHOW_DUMP, TOP_HELP, Usage, VERIFY, VERIFY_REPORT_HELP,
+};
+use clap::{Arg, ArgAction, Command, value_parser};
+use std::alloc::{AllocError, Global};
+
+// The program's commands.
+pub(crate) fn bench_command<'a>(alloc: Global) -> Result<Command<'a>, AllocError>
+    ensures { IfOk result (λ command. app_of command ≡ bench_app) }
+{
+    let top = Command::new(alloc, "dali_bench")
+        .about(ABOUT)
+        .after_help(TOP_HELP)
+        .subcommand_required(true);
+    let checks = with_made(top, check_command(alloc))?;
+    let runs = with_made(checks, run_command(alloc))?;
+    let frames = with_made(runs, command_of(alloc, &FRAME, &FRAME_HEX))?;
+    let shows = with_made(frames, command_of(alloc, &SHOW, &SHOW_DUMP))?;
+    let journals = with_made(shows, journal_command(alloc))?;
+    let drives = with_made(journals, drive_command(alloc))?;
+    let reads = with_made(drives, read_command(alloc))?;
+    let verifies = with_made(reads, verify_command(alloc))?;
+    verifies.subcommand(plain_command(alloc, &SCAN))
+}
+
+// The program with one more command, where that one could be made.
+fn with_made<'a>(
+    program: Command<'a>,
+    made: Result<Command<'a>, AllocError>,
+) -> Result<Command<'a>, AllocError>
+    ensures { IfOk result (λ all. IsOkAnd made.entry (λ command. AddsSubcommand program.entry command all)) }
+{
+    match made {
+        Ok(command) => program.subcommand(command),
+        Err(error) => Err(error),
+    }
+}
+
+// The command that checks orders, with the journals that are asked.
+fn check_command<'a>(alloc: Global) -> Result<Command<'a>, AllocError>
+    ensures app { IfOk result (λ command. app_of command ≡ check_app) }
+    ensures local { IfOk result (λ command. (fields_of command).has_globals ≡ false) }
+{
+    let orders = command_of(alloc, &CHECK, &CHECK_ORDERS)?;
+    let asked = orders.arg(file_option(alloc, "journal", CHECK_JOURNAL_HELP))?;
+    asked.arg(older_option(alloc, CHECK_OLDER_HELP))
+}
+
+// The command that runs a scenario, with its flag.
+fn run_command<'a>(alloc: Global) -> Result<Command<'a>, AllocError>
+    ensures app { IfOk result (λ command. app_of command ≡ run_app) }
+    ensures local { IfOk result (λ command. (fields_of command).has_globals ≡ false) }
+{
+    command_of(alloc, &RUN, &RUN_SCENARIO)?.arg(flag_of(alloc, "frames", RUN_FRAMES_HELP))
+}
+
+// The command that prints a journal, with its flag.
+fn journal_command<'a>(alloc: Global) -> Result<Command<'a>, AllocError>
+    ensures app { IfOk result (λ command. app_of command ≡ journal_app) }
+    ensures local { IfOk result (λ command. (fields_of command).has_globals ≡ false) }
+{
+    command_of(alloc, &JOURNAL, &JOURNAL_FILE)?.arg(flag_of(alloc, "updates", JOURNAL_UPDATES_HELP))
+}
+
+// The command that carries out orders over a link.
+fn drive_command<'a>(alloc: Global) -> Result<Command<'a>, AllocError>
+    ensures app { IfOk result (λ command. app_of command ≡ drive_app) }
+    ensures local { IfOk result (λ command. (fields_of command).has_globals ≡ false) }
+{
+    let files = command_of(alloc, &DRIVE, &LINK_ORDERS)?.arg(value_argument(
+        alloc,
+        "JOURNAL",
+        DRIVE_JOURNAL_HELP,
+    ))?;
+    let timed = files.arg(moment_option(alloc))?;
+    let followed = timed.arg(flag_of(alloc, "follow", DRIVE_FOLLOW_HELP))?;
+    let flagged = followed.arg(flag_of(alloc, "require-done", DRIVE_DONE_HELP))?;
+    let strict = flagged.arg(flag_of(alloc, "require-now", DRIVE_NOW_HELP))?;
+    let reported = strict.arg(file_option(alloc, "report", DRIVE_REPORT_HELP))?;
+    reported.arg(older_option(alloc, DRIVE_OLDER_HELP))
+}
+
+// The command that compares units with orders, with its report.
+fn verify_command<'a>(alloc: Global) -> Result<Command<'a>, AllocError>
+    ensures app { IfOk result (λ command. app_of command ≡ verify_app) }
+    ensures local { IfOk result (λ command. (fields_of command).has_globals ≡ false) }
+{
+    command_of(alloc, &VERIFY, &LINK_ORDERS)?.arg(file_option(alloc, "report", VERIFY_REPORT_HELP))
+}
+
+// The command that reads a bank over a link.
+fn read_command<'a>(alloc: Global) -> Result<Command<'a>, AllocError>
+    ensures app { IfOk result (λ command. app_of command ≡ read_app) }
+    ensures local { IfOk result (λ command. (fields_of command).has_globals ≡ false) }
+{
+    let unit = plain_command(alloc, &READ).arg(unit_argument(alloc))?;
+    unit.arg(value_argument(alloc, "HEXFILE", READ_BANK_HELP))
+}
+
+// A command with one argument, which has to be there.
+fn command_of<'a>(
+    alloc: Global,
+    usage: &Usage<'a>,
+    argument: &Argument<'a>,
+) -> Result<Command<'a>, AllocError>
+    ensures app { IfOk result (λ command. app_of command ≡ command_app usage.now.name.now argument.now.id.now) }
+    ensures local { IfOk result (λ command. (fields_of command).has_globals ≡ false) }
+{
+    plain_command(alloc, usage).arg(value_argument(alloc, argument.id, argument.help))
+}
+
+// A command with no argument.
+fn plain_command<'a>(alloc: Global, usage: &Usage<'a>) -> Command<'a>
+    ensures app { app_of result ≡ new_app usage.now.name.now }
+    ensures local { (fields_of result).has_globals ≡ false }
+{
+    Command::new(alloc, usage.name)
+        .about(usage.about)
+        .after_help(usage.faults)
+}
+
+// An argument that has to be there, and takes one value.
+fn value_argument<'a>(alloc: Global, id: &'a str, help: &'a str) -> Arg<'a>
+    ensures rule { rule_of result ≡ value_rule id.entry.now }
+    ensures local { result.global ≡ false }
+{
+    Arg::new(alloc, id)
+        .help(help)
+        .required(true)
+        .action(ArgAction::Set)
+}
+
+// The unit of `read`, which has to be there.
+fn unit_argument<'a>(alloc: Global) -> Arg<'a>
+    ensures rule { rule_of result ≡ unit_rule (codes "UNIT") }
+    ensures local { result.global ≡ false }
+{
+    Arg::new(alloc, "UNIT")
+        .help(READ_UNIT_HELP)
+        .required(true)
+        .value_parser(value_parser!(u64).range(..=63))
+        .action(ArgAction::Set)
+}
+
+// A flag under its own name.
+fn flag_of<'a>(alloc: Global, id: &'a str, help: &'a str) -> Arg<'a>
+    ensures rule { rule_of result ≡ flag_rule id.entry.now }
+    ensures local { result.global ≡ false }
+{
+    Arg::new(alloc, id)
+        .long(id)
+        .help(help)
+        .action(ArgAction::SetTrue)
+}
+
+// An option under its own name that names a file, and may be left out.
+fn file_option<'a>(alloc: Global, id: &'a str, help: &'a str) -> Arg<'a>
+    ensures rule { rule_of result ≡ option_rule id.entry.now }
+    ensures local { result.global ≡ false }
+{
+    Arg::new(alloc, id)
+        .long(id)
+        .value_name("FILE")
+        .help(help)
+        .action(ArgAction::Set)
+}
+
+// The option that names older journals, one each time that it is given.
+fn older_option<'a>(alloc: Global, help: &'a str) -> Arg<'a>
+    ensures rule { rule_of result ≡ many_rule (codes "older") }
+    ensures local { result.global ≡ false }
+{
+    Arg::new(alloc, "older")
+        .long("older")
+        .value_name("FILE")
+        .help(help)
+        .action(ArgAction::Append)
+}
+
+// The option of `drive`, with the number that stands where it isn't given.
+fn moment_option<'a>(alloc: Global) -> Arg<'a>
+    ensures rule { rule_of result ≡ number_rule (codes "moment") (codes "0") }
+    ensures local { result.global ≡ false }
+{
+    Arg::new(alloc, "moment")
+        .long("moment")
+        .value_name("M")
+        .help(DRIVE_MOMENT_HELP)
+        .value_parser(value_parser!(u64))
+        .default_value("0")
+        .action(ArgAction::Set)
+}

@@ -1,0 +1,167 @@
+// The journal that is asked what it says of orders: nothing of it is changed, and no lock is waited for.
+ghost use Rattle.std.specs.Prelude.{◌≡◌, IfErr, IfOk, IfSome, length};
+ghost use Rattle.dali_journal.specs.declared.standing.Standing.TheVariants.{Idle};
+ghost use Rattle.dali_journal.specs.Sentence.{standing_of};
+ghost use Rattle.dali_input.specs.Input.{ReadsAtMost, state_of};
+ghost use Rattle.dali_faults.specs.JournalInput.{journal_limit};
+ghost use Rattle.dali_link_commands.specs.Asked.{IsAskedBehind, IsReadAsked, IsSomeAsked, IsUnasked};
+ghost use Rattle.dali_link_commands.specs.Asked.{fault_asked};
+
+use crate::older::{OlderFault, Unopened, failure_words, opened_regular, read_older};
+use crate::older_lines::older_words;
+use crate::words::plain_words;
+use dali_faults::{Fault, JOURNAL_LIMIT, journal_in};
+use dali_input::{Input, InputFault, read_input};
+use dali_journal::{JoinFault, Journal};
+use std::alloc::Global;
+use std::fs::{File, Files};
+use std::io::Read;
+
+/// Why the journal of an input can't be asked.
+#[derive(Clone, Copy, Debug, PartialEq, Eq)]
+pub enum AskedFault {
+    /// Its bytes can't be read, or are no journal's.
+    Unloaded(Fault),
+    /// It has an order number that an older one has, or there was no memory.
+    Unjoined(JoinFault),
+}
+
+impl AskedFault {
+    /// The fault that is told.
+    pub fn fault(&self) -> Fault
+        ensures { result ≡ fault_asked self.now }
+    {
+        match *self {
+            AskedFault::Unloaded(fault) => fault,
+            AskedFault::Unjoined(fault) => OlderFault::Join(fault).fault(),
+        }
+    }
+}
+
+/// The journal that an input has, of either version, behind the older one where there is one, as a drive has it: all
+/// their orders. A record that is cut at its end doesn't count.
+///
+/// The older one has to be at rest.
+pub fn asked_in<R: Read>(
+    alloc: Global,
+    older: Option<Journal>,
+    input: &mut Input<R>,
+) -> Result<Journal, AskedFault>
+    requires rests { IfSome older (λ journal. standing_of journal.records ≡ Idle) }
+    ensures ok { IfOk result
+        (IsReadAsked older (state_of R.remaining input.old) (state_of R.remaining input.new)) }
+    ensures err { IfErr result
+        (IsUnasked older (state_of R.remaining input.old) (state_of R.remaining input.new)) }
+    ensures read { ReadsAtMost journal_limit (state_of R.remaining input.old) (state_of R.remaining input.new) }
+{
+    let bytes = match read_input(alloc, input, JOURNAL_LIMIT) {
+        Ok(bytes) => bytes,
+        Err(fault) => return Err(AskedFault::Unloaded(Fault::Input(fault))),
+    };
+    let own = match journal_in(alloc, bytes) {
+        Ok((own, _, _)) => own,
+        Err(fault) => return Err(AskedFault::Unloaded(fault)),
+    };
+    match older {
+        None => Ok(own),
+        Some(older) => match own.behind(alloc, older) {
+            Ok(journal) => {
+                // it tells what is so of every journal
+                let _most = journal.limit();
+                Ok(journal)
+            }
+            Err(fault) => Err(AskedFault::Unjoined(fault)),
+        },
+    }
+}
+
+/// Why no journal is asked: the fault, and words for a person that tell which file and why, where there is memory for
+/// them.
+#[derive(Drop)]
+pub struct Unasked {
+    pub fault: Fault,
+    pub words: Option<String>,
+}
+
+/// The journal of a file behind those of older files, which are read as a drive reads them: each has to be at rest, and
+/// none may be in use. Its own file may be in use.
+///
+/// No contract tells what a file holds.
+pub fn read_asked<'a, R: Files<File = File> + AllocGlobal>(
+    rt: &R,
+    name: &str,
+    older: &'a [&'a str],
+) -> Result<Journal, Unasked>
+    ensures { IfOk result (IsSomeAsked (length older.entry.now)) }
+{
+    let whole = match read_older(rt, older) {
+        Ok(whole) => whole,
+        Err(unjoined) => {
+            let words = unjoined.words.as_deref();
+            return Err(Unasked {
+                fault: unjoined.fault.fault(),
+                words: older_words(rt.alloc(), unjoined.name, unjoined.fault, words),
+            });
+        }
+    };
+    match opened_regular(rt, name) {
+        Ok(file) => read_behind(rt.alloc(), name, whole, &mut Input::new(file)),
+        Err(unopened) => Err(unopened_journal(rt.alloc(), name, &unopened)),
+    }
+}
+
+// The journal of this file behind the older one.
+fn read_behind(
+    alloc: Global,
+    name: &str,
+    older: Option<Journal>,
+    input: &mut Input<File>,
+) -> Result<Journal, Unasked>
+    requires rests { IfSome older (λ journal. standing_of journal.records ≡ Idle) }
+    ensures { IfOk result (λ journal. IsAskedBehind older journal) }
+{
+    match asked_in(alloc, older, input) {
+        Ok(journal) => Ok(journal),
+        Err(fault) => Err(Unasked {
+            fault: fault.fault(),
+            words: unasked_words(alloc, name, fault, input),
+        }),
+    }
+}
+
+// Words for a journal that can't be asked.
+fn unasked_words(
+    alloc: Global,
+    name: &str,
+    fault: AskedFault,
+    input: &Input<File>,
+) -> Option<String> {
+    match fault {
+        AskedFault::Unjoined(fault) => older_words(alloc, name, OlderFault::Join(fault), None),
+        AskedFault::Unloaded(Fault::Input(InputFault::Memory)) => {
+            let made = format!(in alloc; "memory ran out: {name}").ok();
+            plain_words(alloc, made)
+        }
+        AskedFault::Unloaded(_) => unusable_words(alloc, name, failure_words(alloc, input)),
+    }
+}
+
+// The same of one whose file isn't opened.
+fn unopened_journal(alloc: Global, name: &str, unopened: &Unopened) -> Unasked {
+    Unasked {
+        fault: Fault::Input(unopened.fault()),
+        words: unusable_words(alloc, name, unopened.words(alloc)),
+    }
+}
+
+// Words for a journal of this name that can't be used, with the cause where one is known.
+fn unusable_words(alloc: Global, name: &str, cause: Option<String>) -> Option<String> {
+    let made = match cause {
+        Some(cause) => {
+            let cause = cause.as_str();
+            format!(in alloc; "the journal can't be used: {name}: {cause}").ok()
+        }
+        None => format!(in alloc; "the journal can't be used: {name}").ok(),
+    };
+    plain_words(alloc, made)
+}

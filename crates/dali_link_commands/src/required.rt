@@ -1,0 +1,115 @@
+// What has to be so at the end of a drive, and how it is told that nothing was done.
+ghost use Rattle.std.specs.Prelude.{◌≡◌, ◌≢◌, ◌↔◌, false, true};
+ghost use Rattle.dali_text.specs.Output.{has_failed, held};
+ghost use Rattle.dali_link_commands.specs.Bare.{TellsBare, TellsEnded, is_bare as nothing_done, is_met as met};
+ghost use Rattle.dali_link_commands.specs.Bare.{nothing_line, required_by};
+ghost use Rattle.dali_link_commands.specs.Told.{TellsLine};
+ghost use Rattle.dali_link_commands.specs.Bare.{ended_status as status_at_end};
+
+use crate::lines::Lines;
+use dali_drive::{Sink, put_all};
+use dali_faults::Status;
+use dali_report::Outcome;
+use std::io::Write;
+
+// The line that tells it.
+const NOTHING: &str = "error: nothing was done: ORDERS has no orders\n";
+
+/// What the last replies of a drive have to be, for it to end well.
+#[derive(Clone, Copy)]
+pub enum Required {
+    /// Anything.
+    Nothing,
+    /// Each is `kept 0 Done`, and there is one.
+    Done,
+    /// And this drive ended each order.
+    DoneNow,
+}
+
+impl Required {
+    /// By the two options, of which the second is the stricter one.
+    pub fn of(done: bool, now: bool) -> Required
+        ensures { result ≡ required_by done now }
+    {
+        if now {
+            Required::DoneNow
+        } else if done {
+            Required::Done
+        } else {
+            Required::Nothing
+        }
+    }
+
+    fn is_met(self, outcome: Outcome) -> bool
+        ensures { result ≡ met self outcome }
+    {
+        match (self, outcome) {
+            (Required::Nothing, _) | (_, Outcome::DoneNow) | (Required::Done, Outcome::Done) =>
+                true,
+            (_, Outcome::Nothing | Outcome::NotDone) | (Required::DoneNow, Outcome::Done) => false,
+        }
+    }
+
+    fn is_bare(self, outcome: Outcome) -> bool
+        ensures { result ≡ nothing_done self outcome }
+    {
+        !matches!(self, Required::Nothing) && matches!(outcome, Outcome::Nothing)
+    }
+}
+
+/// How a drive ends that came to its end with this outcome; where something is required and nothing was done, that is
+/// told.
+pub(crate) fn tell_ended<W: Write>(
+    lines: &mut Lines<W>,
+    required: Required,
+    outcome: Outcome,
+) -> Status
+    requires { has_failed lines.old.output ≡ false }
+    ensures told { TellsEnded required outcome result
+        (held W.contents lines.old.output) (held W.contents lines.new.output) }
+    ensures unwritten { result ≡ Status.Unwritten ↔ has_failed lines.new.output ≡ true }
+{
+    let ended = ended_status(required, outcome);
+    tell_bare(lines, required.is_bare(outcome), ended)
+}
+
+fn ended_status(required: Required, outcome: Outcome) -> Status
+    ensures status { result ≡ status_at_end required outcome }
+    ensures written { result ≢ Status.Unwritten }
+{
+    if required.is_met(outcome) {
+        Status::Good
+    } else {
+        Status::Refused
+    }
+}
+
+/// Tells that nothing was done, where that is so; else it ends so.
+pub(crate) fn tell_bare<W: Write>(lines: &mut Lines<W>, is_bare: bool, ended: Status) -> Status
+    requires unfailed { has_failed lines.old.output ≡ false }
+    requires written { ended ≢ Status.Unwritten }
+    ensures told { TellsBare is_bare ended result
+        (held W.contents lines.old.output) (held W.contents lines.new.output) }
+    ensures unwritten { result ≡ Status.Unwritten ↔ has_failed lines.new.output ≡ true }
+{
+    if !is_bare {
+        return ended;
+    }
+    tell_nothing(lines)
+}
+
+// Tells that nothing was done.
+fn tell_nothing<W: Write>(lines: &mut Lines<W>) -> Status
+    requires { has_failed lines.old.output ≡ false }
+    ensures told { TellsLine nothing_line Status.Refused result
+        (held W.contents lines.old.output) (held W.contents lines.new.output) }
+    ensures unwritten { result ≡ Status.Unwritten ↔ has_failed lines.new.output ≡ true }
+{
+    if !put_all(lines, NOTHING.as_bytes()) {
+        return Status::Unwritten;
+    }
+    if !lines.flush() {
+        return Status::Unwritten;
+    }
+    Status::Refused
+}

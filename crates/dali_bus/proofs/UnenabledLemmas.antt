@@ -50,7 +50,9 @@ kept_obeying at old (Dtr1 byte) answer new shut quiet (same, none) = rw same rec
 kept_obeying at old (Dtr2 byte) answer new shut quiet (same, none) = rw same record { shut = shut; memory = refl }
 kept_obeying at old (Write byte) answer new shut quiet (inl (stores, told)) =
     absurd (never_stored byte old new shut stores)
-kept_obeying at old (Write byte) answer new shut quiet (inr passes) = kept_passed old answer new shut passes
+kept_obeying at old (Write byte) answer new shut quiet (inr (inl passes)) = kept_passed old answer new shut passes
+kept_obeying at old (Write byte) answer new shut quiet (inr (inr (on, aside))) =
+    kept_passed old None new shut aside.2
 kept_obeying at old (WriteSilent byte) answer new shut quiet (inl stores, none) =
     absurd (never_stored byte old new shut stores)
 kept_obeying at old (WriteSilent byte) answer new shut quiet (inr passes, none) = kept_passed old None new shut passes
@@ -61,8 +63,10 @@ kept_obeying at old (AskDtr1 to) answer new shut quiet asked = kept_asked to at 
 kept_obeying at old (AskDtr2 to) answer new shut quiet asked = kept_asked to at old.dtr2 old answer new shut asked
 kept_obeying at old (Read to) answer new shut quiet (inl (mine, inl (exists, told, same))) =
     rw same record { shut = refl; memory = refl }
-kept_obeying at old (Read to) answer new shut quiet (inl (mine, inr (absent, passes))) =
+kept_obeying at old (Read to) answer new shut quiet (inl (mine, inr (inl (absent, passes)))) =
     kept_passed old answer new shut passes
+kept_obeying at old (Read to) answer new shut quiet (inl (mine, inr (inr aside))) =
+    kept_passed old None new shut aside.2
 kept_obeying at old (Read to) answer new shut quiet (inr (other, ignores)) = kept_same old new shut ignores.0
 kept_obeying at old (Other word) answer new shut quiet anything = absurd (quiet tt)
 

@@ -1,26 +1,30 @@
 -- What a small unit may do with a frame and what it may not, and the same of a bus with two.
 use Rattle.std.proofs.lemmas.Bool.{eqb-true}
 use Rattle.std.proofs.Common.{◌≡◌, ℕ, Bool, true, false, inl, inr, Option, Some, None, refl, sym, subst, arith, ap, ◌∙◌}
-use Rattle.std.proofs.Common.{◌==◌, ◌&&◌, ◌⊎◌, if◌then◌else◌}
+use Rattle.std.proofs.Common.{◌==◌, ◌&&◌, ◌⊎◌, ◌<◌, IsSome, if◌then◌else◌}
 use Rattle.dali_frame.specs.declared.forward.Frame.TheVariants.{Dtr0, Dtr1, Write, WriteSilent, Enable, AskDtr0}
 use Rattle.dali_frame.specs.declared.forward.Frame.TheVariants.{AskDtr1, Read, Other}
 use Rattle.dali_bus.specs.World.{Gear, Memory, World, stored}
-use Rattle.dali_bus.specs.Hears.{Hears, Obeys, Stores, PassesBy, MayEnd}
+use Rattle.dali_bus.specs.Hears.{Hears, Obeys, Stores, PassesBy, PassesLeftOut, MayEnd, selected}
 use Rattle.dali_bus.specs.Carry.{Carry, MayHear}
 use Rattle.dali_bus.specs.Power.{PowersUp, LosesPower}
 use Rattle.dali_bus.specs.WorkedFrames.{at_the_end, small, moved, written, pair, started, with_locks, two_places}
+use Rattle.dali_bus.specs.WorkedFrames.{by_a_counter}
 use Rattle.dali_bus.proofs.ByteLemmas.{same_byte}
 
 -- what may be
+
+counter_passes : {enabled : Bool} → PassesLeftOut (by_a_counter enabled) (by_a_counter enabled)
+counter_passes = (omega arith, refl, (4, inr refl, refl, refl))
 
 pub stores : Hears 5 (small true) (Write 9) (Some 9) (written true 3)
 stores = record { obeyed = written true 3; obeys = inl ((refl, refl, refl), refl); ends = inl refl }
 
 pub refuses : Hears 5 (small true) (Write 9) None (moved true)
-refuses = record { obeyed = moved true; obeys = inr (4, inl refl, refl, refl); ends = inl refl }
+refuses = record { obeyed = moved true; obeys = inr (inl (4, inl refl, refl, refl)); ends = inl refl }
 
 pub refuses_and_stays : Hears 5 (small true) (Write 9) None (small true)
-refuses_and_stays = record { obeyed = small true; obeys = inr (3, inr refl, refl, refl); ends = inl refl }
+refuses_and_stays = record { obeyed = small true; obeys = inr (inl (3, inr refl, refl, refl)); ends = inl refl }
 
 pub is_enabled_by_one : Hears 5 (small false) (Enable 5) None (small true)
 is_enabled_by_one = record { obeyed = small true; obeys = inl (refl, refl, refl); ends = inl refl }
@@ -33,10 +37,10 @@ reads = record { obeyed = moved false; obeys = inl (refl, inl (refl, refl, refl)
 
 pub reads_nothing : Hears 5 (moved true) (Read 5) None (moved true)
 reads_nothing =
-    record { obeyed = moved true; obeys = inl (refl, inr (refl, (4, inr refl, refl, refl))); ends = inl refl }
+    record { obeyed = moved true; obeys = inl (refl, inr (inl (refl, (4, inr refl, refl, refl)))); ends = inl refl }
 
 pub stays_at_ffh : Hears 5 at_the_end (Write 9) None at_the_end
-stays_at_ffh = record { obeyed = at_the_end; obeys = inr (0xFF, inl refl, refl, refl); ends = inl refl }
+stays_at_ffh = record { obeyed = at_the_end; obeys = inr (inl (0xFF, inl refl, refl, refl)); ends = inl refl }
 
 pub tells_and_ends : Hears 5 (small true) (AskDtr0 5) (Some 3) (small false)
 tells_and_ends = record { obeyed = small true; obeys = inl (refl, (refl, refl)); ends = inr refl }
@@ -46,6 +50,19 @@ stores_silently = record { obeyed = written true 3; obeys = (inl (refl, refl, re
 
 pub refuses_silently : Hears 5 (small true) (WriteSilent 9) None (moved true)
 refuses_silently = record { obeyed = moved true; obeys = (inr (4, inl refl, refl, refl), refl); ends = inl refl }
+
+-- A counter in bank 205 counts on by itself: what the memory tells of is as it was, whatever is read and written there.
+pub counter_is_seven : Hears 5 (by_a_counter true) (Read 5) (Some 7) (by_a_counter false)
+counter_is_seven =
+    record { obeyed = by_a_counter true; obeys = inl (refl, inr (inr counter_passes)); ends = inr refl }
+
+pub counter_is_eight : Hears 5 (by_a_counter false) (Read 5) (Some 8) (by_a_counter false)
+counter_is_eight =
+    record { obeyed = by_a_counter false; obeys = inl (refl, inr (inr counter_passes)); ends = inl refl }
+
+pub counter_is_written : Hears 5 (by_a_counter true) (Write 0) (Some 1) (by_a_counter true)
+counter_is_written =
+    record { obeyed = by_a_counter true; obeys = inr (inr (refl, counter_passes)); ends = inl refl }
 
 -- nothing is known of what a frame that isn't named does
 pub does_anything_with_others : (word : ℕ) (answer : Option ℕ) (old new : Gear) → Hears 5 old (Other word) answer new
@@ -68,20 +85,23 @@ not_elsewhere h = by h.obeyed h.obeys h.ends where
   by : (obeyed : Gear) → (Obeys 5 (small true) (Write 9) (Some 9) obeyed) → MayEnd obeyed (written true 2) → ⊥
   by obeyed (inl did) ends =
       omega (arith, same_byte 7 9 (byte_kept obeyed (written true 2) ends ∙ ap (λ (g : Gear). g.memory 1 3) did.0.2))
-  by obeyed (inr passed) ends = let none : Some 9 ≡ None = passed.3 in cc
+  by obeyed (inr (inl passed)) ends = let none : Some 9 ≡ None = passed.3 in cc
+  by obeyed (inr (inr (on, aside))) ends = absurd (omega (arith, aside.0))
 
 pub not_another_answer : Hears 5 (small true) (Write 9) (Some 8) (written true 3) → ⊥
 not_another_answer h = by h.obeys where
   by : Obeys 5 (small true) (Write 9) (Some 8) h.obeyed → ⊥
   by (inl did) = omega (arith, same_byte 8 9 did.1)
-  by (inr passed) = let none : Some 8 ≡ None = passed.3 in cc
+  by (inr (inl passed)) = let none : Some 8 ≡ None = passed.3 in cc
+  by (inr (inr (on, aside))) = absurd (omega (arith, aside.0))
 
 pub not_unenabled : (answer : Option ℕ) → Hears 5 (small false) (Write 9) answer (written false 3) → ⊥
 not_unenabled answer h = by h.obeyed h.obeys h.ends where
   by : (obeyed : Gear) → Obeys 5 (small false) (Write 9) answer obeyed → MayEnd obeyed (written false 3) → ⊥
   by obeyed (inl did) ends = let on : false ≡ true = did.0.0 in cc
-  by obeyed (inr passed) ends =
+  by obeyed (inr (inl passed)) ends =
       omega (arith, same_byte 9 7 (byte_kept obeyed (written false 3) ends ∙ ap (λ (g : Gear). g.memory 1 3) passed.2))
+  by obeyed (inr (inr (on, aside))) ends = let never : false ≡ true = on in cc
 
 pub silent_not_answered : (byte : ℕ) (new : Gear) → Hears 5 (small true) (WriteSilent 9) (Some byte) new → ⊥
 silent_not_answered byte new h = let none : Some byte ≡ None = h.obeys.1 in cc
@@ -125,15 +145,60 @@ not_still_enabled h = by h.obeyed h.obeys h.ends where
   by : (obeyed : Gear) → Obeys 5 (small true) (Read 5) (Some 7) obeyed → MayEnd obeyed (moved true) → ⊥
   by obeyed (inl (mine, inl did)) ends =
       let on : true ≡ false = off obeyed (moved true) (ap (λ (g : Gear). g.enabled) did.2) ends in cc
-  by obeyed (inl (mine, inr nothing)) ends = let none : Some 7 ≡ None = nothing.1.3 in cc
+  by obeyed (inl (mine, inr (inl nothing))) ends = let none : Some 7 ≡ None = nothing.1.3 in cc
+  by obeyed (inl (mine, inr (inr aside))) ends = absurd (omega (arith, aside.0))
   by obeyed (inr (others, ignored)) ends = others refl
 
 pub not_from_nowhere : (new : Gear) → Hears 5 (moved true) (Read 5) (Some 7) new → ⊥
 not_from_nowhere new h = by h.obeys where
   by : Obeys 5 (moved true) (Read 5) (Some 7) h.obeyed → ⊥
   by (inl (mine, inl did)) = let there : false ≡ true = did.0 in cc
-  by (inl (mine, inr nothing)) = let none : Some 7 ≡ None = nothing.1.3 in cc
+  by (inl (mine, inr (inl nothing))) = let none : Some 7 ≡ None = nothing.1.3 in cc
+  by (inl (mine, inr (inr aside))) = absurd (omega (arith, aside.0))
   by (inr (others, ignored)) = let none : Some 7 ≡ None = ignored.1 in cc
+
+-- Nothing else counts on by itself: not a place of bank 0 or 1, nor one that the memory tells of. A unit that isn't
+-- write-enabled answers no write, and what is done at a counter is done at no other place.
+no_read_aside : (old new obeyed : Gear) (told : ℕ) → IsSome (selected old) ⊎ (old.dtr1 < 2)
+    → (selected old ≡ Some told → ⊥) → Obeys 5 old (Read 5) (Some told) obeyed → ⊥
+no_read_aside old new obeyed told known other (inl (mine, inl did)) = other (sym did.1)
+no_read_aside old new obeyed told known other (inl (mine, inr (inl nothing))) =
+    let none : Some told ≡ None = nothing.1.3 in cc
+no_read_aside old new obeyed told (inl some) other (inl (mine, inr (inr aside))) =
+    let both : true ≡ false = sym some ∙ aside.1 in cc
+no_read_aside old new obeyed told (inr below) other (inl (mine, inr (inr aside))) =
+    absurd (omega (arith, below, aside.0))
+no_read_aside old new obeyed told known other (inr (others, ignored)) = others refl
+
+pub no_counter_in_bank_0 : (new : Gear) → Hears 5 (record (by_a_counter true) { dtr1 = 0 }) (Read 5) (Some 7) new → ⊥
+no_counter_in_bank_0 new h =
+    no_read_aside (record (by_a_counter true) { dtr1 = 0 }) new h.obeyed 7 (inr (omega arith)) (λ e. cc) h.obeys
+
+pub no_other_byte_than_told : (new : Gear)
+    → Hears 5 (record (with_locks 0x55 0xFF) { dtr1 = 2; dtr0 = 2 }) (Read 5) (Some 0x55) new → ⊥
+no_other_byte_than_told new h =
+    no_read_aside (record (with_locks 0x55 0xFF) { dtr1 = 2; dtr0 = 2 }) new h.obeyed 0x55 (inl refl)
+    (λ e. omega (arith, same_byte 0xFF 0x55 e)) h.obeys
+
+pub no_counter_written_unenabled : (new : Gear) → Hears 5 (by_a_counter false) (Write 0) (Some 1) new → ⊥
+no_counter_written_unenabled new h = by h.obeys where
+  by : Obeys 5 (by_a_counter false) (Write 0) (Some 1) h.obeyed → ⊥
+  by (inl did) = let on : false ≡ true = did.0.0 in cc
+  by (inr (inl passed)) = let none : Some 1 ≡ None = passed.3 in cc
+  by (inr (inr (on, aside))) = let never : false ≡ true = on in cc
+
+pub nothing_written_beside_a_counter : (answer : Option ℕ)
+    → Hears 5 (by_a_counter true) (Write 9) answer (record (by_a_counter true) { memory = stored two_places 1 3 9 }) → ⊥
+nothing_written_beside_a_counter answer h = by h.obeyed h.obeys h.ends where
+  beside : Gear
+  beside = record (by_a_counter true) { memory = stored two_places 1 3 9 }
+
+  by : (obeyed : Gear) → Obeys 5 (by_a_counter true) (Write 9) answer obeyed → MayEnd obeyed beside → ⊥
+  by obeyed (inl did) ends = let none : false ≡ true = did.0.1 in cc
+  by obeyed (inr (inl passed)) ends =
+      omega (arith, same_byte 9 7 (byte_kept obeyed beside ends ∙ ap (λ (g : Gear). g.memory 1 3) passed.2))
+  by obeyed (inr (inr (on, aside))) ends =
+      omega (arith, same_byte 9 7 (byte_kept obeyed beside ends ∙ ap (λ (g : Gear). g.memory 1 3) aside.2.2))
 
 pub not_for_another : (new : Gear) → Hears 6 (small true) (AskDtr0 5) (Some 3) new → ⊥
 not_for_another new h = by h.obeys where
@@ -155,9 +220,10 @@ pub not_from_the_start_again : Hears 5 at_the_end (Write 9) None (record at_the_
 not_from_the_start_again h = by h.obeyed h.obeys h.ends where
   by : (obeyed : Gear) → Obeys 5 at_the_end (Write 9) None obeyed → MayEnd obeyed (record at_the_end { dtr0 = 0 }) → ⊥
   by obeyed (inl did) ends = let none : None ≡ Some 9 = did.1 in cc
-  by obeyed (inr (dtr0, inl goes, is, none)) ends =
+  by obeyed (inr (inr (on, aside))) ends = absurd (omega (arith, aside.0))
+  by obeyed (inr (inl (dtr0, inl goes, is, none))) ends =
       omega (arith, goes, dtr0_kept obeyed (record at_the_end { dtr0 = 0 }) ends ∙ ap (λ (g : Gear). g.dtr0) is)
-  by obeyed (inr (dtr0, inr stays, is, none)) ends =
+  by obeyed (inr (inl (dtr0, inr stays, is, none))) ends =
       omega (arith, stays, dtr0_kept obeyed (record at_the_end { dtr0 = 0 }) ends ∙ ap (λ (g : Gear). g.dtr0) is)
 
 pub not_dtr0_by_dtr1 : Hears 5 (small true) (Dtr1 4) None (moved true) → ⊥
@@ -201,10 +267,23 @@ one_of_two = record {
 
 -- no answer comes that no unit gave
 pub not_by_none : (new : World) → Carry (pair (small true) (small true)) (Write 9) (Some 8) new → ⊥
-not_by_none new carried = by carried.answers.before carried.answers.hears.obeyed carried.answers.hears.obeys where
-  by : (before obeyed : Gear) → Obeys carried.answers.address before (Write 9) (Some 8) obeyed → ⊥
-  by before obeyed (inl did) = omega (arith, same_byte 8 9 did.1)
-  by before obeyed (inr passed) = let none : Some 8 ≡ None = passed.3 in cc
+not_by_none new carried = by carried.answers.hears.obeyed carried.answers.hears.obeys where
+  before : Gear
+  before = carried.answers.before
+
+  is_small : (here there : Bool) → (if here then Some (small true) else (if there then Some (small true) else None))
+      ≡ Some before → before ≡ small true
+  is_small true there is = cc
+  is_small false true is = cc
+  is_small false false is = cc
+
+  by : (obeyed : Gear) → Obeys carried.answers.address before (Write 9) (Some 8) obeyed → ⊥
+  by obeyed (inl did) = omega (arith, same_byte 8 9 did.1)
+  by obeyed (inr (inl passed)) = let none : Some 8 ≡ None = passed.3 in cc
+  by obeyed (inr (inr (on, aside))) =
+      let at = carried.answers.address in
+      let one = ap (λ (g : Gear). g.dtr1) (is_small (at == 5) (at == 6) carried.answers.was) in
+      omega (arith, aside.0, one)
 
 -- no unit comes
 pub not_a_third : (gear : Gear) (new : World) → new 7 ≡ Some gear

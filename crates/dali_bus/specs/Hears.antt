@@ -1,8 +1,9 @@
 -- What a unit may do with a frame that it hears, and what it may answer.
 --
 -- What isn't named stays as it is. A unit may refuse a write, for its lock byte or for any other reason. What it
--- doesn't carry out may move DTR0 on all the same. And its write enable may end at any frame.
-use Rattle.std.specs.Prelude.{◌≡◌, ◌≢◌, ℕ, ◌+◌, true, false, ◌⊎◌, Option, Some, None, IsSome, IsNone, ◌==◌, ⊤}
+-- doesn't carry out may move DTR0 on all the same. And its write enable may end at any frame. At a place that its memory
+-- leaves out, since it changes by itself, a read or a write may get any answer.
+use Rattle.std.specs.Prelude.{◌≡◌, ◌≢◌, ◌≤◌, ℕ, ◌+◌, true, false, ◌⊎◌, Option, Some, None, IsSome, IsNone, ◌==◌, ⊤}
 use Rattle.std.specs.Prelude.{if◌then◌else◌}
 use Rattle.dali_frame.specs.declared.forward.Frame.{Frame}
 use Rattle.dali_frame.specs.declared.forward.Frame.TheVariants.{Dtr0, Dtr1, Dtr2, Write, WriteSilent, Enable, AskDtr0}
@@ -33,6 +34,10 @@ AnswersRegister register old answer new = (new ≡ old) × (answer ≡ Some regi
 abbrev pub PassesBy : Gear → Option ℕ → Gear → Type 0
 PassesBy old answer new = (dtr0 : ℕ) × MayGoUp old.dtr0 dtr0 × (new ≡ record old { dtr0 = dtr0 }) × (answer ≡ None)
 
+-- the place that DTR1 and DTR0 name may be left out: what is done there changes nothing that the memory tells of
+abbrev pub PassesLeftOut : Gear → Gear → Type 0
+PassesLeftOut old new = (2 ≤ old.dtr1) × IsNone (selected old) × PassesBy old None new
+
 -- it was write-enabled, and has stored the byte at the place that DTR1 and DTR0 named and nowhere else
 abbrev pub Stores : ℕ → Gear → Gear → Type 0
 Stores byte old new =
@@ -53,7 +58,9 @@ abbrev pub Obeys : ℕ → Gear → Frame → Option ℕ → Gear → Type 0
 Obeys at old (Dtr0 byte) answer new = (new ≡ record old { dtr0 = byte }) × (answer ≡ None)
 Obeys at old (Dtr1 byte) answer new = (new ≡ record old { dtr1 = byte }) × (answer ≡ None)
 Obeys at old (Dtr2 byte) answer new = (new ≡ record old { dtr2 = byte }) × (answer ≡ None)
-Obeys at old (Write byte) answer new = (Stores byte old new × (answer ≡ Some byte)) ⊎ PassesBy old answer new
+Obeys at old (Write byte) answer new =
+    (Stores byte old new × (answer ≡ Some byte)) ⊎ PassesBy old answer new
+    ⊎ ((old.enabled ≡ true) × PassesLeftOut old new)
 Obeys at old (WriteSilent byte) answer new = (Stores byte old new ⊎ PassesBy old None new) × (answer ≡ None)
 Obeys at old (Enable to) answer new =
     ((to ≡ at) × (new ≡ record old { enabled = true }) × (answer ≡ None)) ⊎ Ignores old answer new
@@ -64,7 +71,8 @@ Obeys at old (AskDtr1 to) answer new =
 Obeys at old (AskDtr2 to) answer new =
     ((to ≡ at) × AnswersRegister old.dtr2 old answer new) ⊎ ((to ≢ at) × Ignores old answer new)
 Obeys at old (Read to) answer new =
-    ((to ≡ at) × (ReadsByte old answer new ⊎ ReadsNothing old answer new)) ⊎ ((to ≢ at) × Ignores old answer new)
+    ((to ≡ at) × (ReadsByte old answer new ⊎ ReadsNothing old answer new ⊎ PassesLeftOut old new))
+    ⊎ ((to ≢ at) × Ignores old answer new)
 Obeys at old (Other word) answer new = ⊤
 
 -- the unit is as it was, or its write enable has ended

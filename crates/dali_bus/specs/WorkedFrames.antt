@@ -19,6 +19,10 @@ moved enabled = record (small enabled) { dtr0 = 4 }
 abbrev pub written : Bool → ℕ → Gear
 written enabled location = record (small enabled) { dtr0 = 4; memory = stored two_places 1 location 9 }
 
+-- the same, whose registers name a counter in bank 205, which its memory leaves out
+abbrev pub by_a_counter : Bool → Gear
+by_a_counter enabled = record (small enabled) { dtr0 = 4; dtr1 = 205 }
+
 -- the same at the last location that there may be
 abbrev pub at_the_end : Gear
 at_the_end = record (small true) { dtr0 = 0xFF }

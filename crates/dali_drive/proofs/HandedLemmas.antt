@@ -30,7 +30,7 @@ use Rattle.dali_trace.specs.Legal.{Serves, MaySend, IsDue, HasNumber, MayHappen,
 use Rattle.dali_trace.specs.ByPlan.{told_in, Asks, IsPlanned, ByPlan}
 use Rattle.dali_laws.proofs.AgreeLemmas.{planned_too, may_follow, said_quiet}
 use Rattle.dali_laws.proofs.CourseLemmas.{waits_on, closed_verdict}
-use Rattle.dali_laws.proofs.MomentLemmas.{may_keep, may_send}
+use Rattle.dali_laws.proofs.SafeLemmas.{may_keep, may_send}
 use Rattle.dali_laws.proofs.RecordLemmas.{grounds_too}
 use Rattle.std.proofs.KnownBytes.{Appends-trans, Consumes-trans}
 use Rattle.dali_journal.specs.declared.standing.Standing.TheVariants as standings

@@ -1,13 +1,11 @@
 -- Drives over a store, one after another, are one trace.
 use Rattle.std.proofs.Common.{◌≡◌, subst, inl, inr, refl, ℕ, List, [], ◌∷◌, Some}
-use Rattle.dali_bus.specs.World.{World}
 use Rattle.dali_journal.specs.declared.record.Record.{Record}
-use Rattle.dali_trace.specs.declared.happening.Happening.{Happening}
 use Rattle.dali_trace.specs.Trace.{Start, records_of}
-use Rattle.dali_trace.specs.Moments.{Along}
-use Rattle.dali_laws.specs.Powered.{unpowered, IsPowerApart}
 use Rattle.dali_laws.specs.Joined.{Sitting, joined, FollowOn}
-use Rattle.dali_laws.proofs.JoinLemmas.{joined_records, joined_sittings, sittings_right}
+use Rattle.dali_laws.specs.Stays.{Stay, IsStay}
+use Rattle.dali_laws.proofs.JoinLemmas.{joined_records, joined_sittings}
+use Rattle.dali_laws.proofs.StayLemmas.{stay_right, ready_at_rest}
 use Rattle.dali_laws.proofs.TakenLemmas.{kept_are_taken}
 use Rattle.dali_store.specs.Opened.{Loads, IsOpenFault}
 use Rattle.dali_store.specs.declared.opening.OpenFault.{OpenFault}
@@ -70,16 +68,16 @@ sittings_follow start most first last (newest ∷ older) loads (found, left, sat
           (rw (joined_after start newest older records) one.left_loads),
     )
 
-pub act_once : (zero : World) (lost : List ℕ) (start : Start) (most : ℕ) (first left : List ℕ)
-    (sittings : List Sitting) (past : List Happening) (now last : World) (states : List World)
+pub act_once : (start : Start) (most : ℕ) (first left : List ℕ) (sittings : List Sitting) (stay : Stay)
     → Loads start.limit start.records first → HaveSat start.limit most first sittings left
-    → unpowered past ≡ joined sittings → IsPowerApart past → Along zero lost start now past last states
-    → ActOnce zero lost start sittings left past last states
-act_once zero lost start most first left sittings past now last states loads sat same apart along =
+    → IsStay start (joined sittings) stay → ActOnce start sittings left stay
+act_once start most first left sittings stay loads sat is =
     let all = sittings_follow start most first left sittings loads sat in
-    let one = joined_sittings start sittings all.0 in record {
+    let one = joined_sittings start sittings all.0 in
+    let right = stay_right start (joined sittings) stay one.0 one.1 is in record {
       trace = one;
       file = all.1;
       once = kept_are_taken start (joined sittings) one.0;
-      right = sittings_right zero lost start sittings past now last states all.0 same apart along;
+      right = right;
+      ready = ready_at_rest stay is.along right;
     }

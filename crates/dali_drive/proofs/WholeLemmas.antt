@@ -1,6 +1,7 @@
 -- A drive behind older journals is a drive of the whole, whose bytes are those of the older records and the store's.
-use Rattle.std.proofs.Common.{◌≡◌, ◌∙◌, ◌≤◌, refl, sym, ap, inl, inr, ℕ, List, [], ◌∷◌, ◌++◌, ◌+◌, length, Option, Some}
-use Rattle.std.proofs.Common.{None, append_assoc, arith}
+use Rattle.std.proofs.Common.{◌≡◌, ◌∙◌, ◌≤◌, refl, sym, subst, ap, inl, inr, ℕ, List, [], ◌∷◌, ◌++◌, ◌+◌, length, Option, Some}
+use Rattle.std.proofs.Common.{None, append_assoc, reverse, arith}
+use Rattle.std.specs.Prelude.{⊤}
 use Rattle.std.proofs.lemmas.List.{append-nil}
 use Rattle.std.specs.Prelude.{option_map}
 use Rattle.std.specs.Io.KnownBytes.{Appends, Keeps}
@@ -22,13 +23,15 @@ use Rattle.dali_trace.specs.declared.fault.DriveFault.TheVariants.{Journal, Link
 use Rattle.dali_drive.specs.declared.following.Given.{Given}
 use Rattle.dali_drive.specs.Behind.{IsBegunBehind, bytes_behind, streams_behind}
 use Rattle.dali_drive.specs.Driven.{IsDriven, IsDrive, BrokenOff}
-use Rattle.dali_drive.specs.Followed.{happenings, muted, IsFollowed, IsBrokenFollow}
+use Rattle.dali_drive.specs.Followed.{happenings, submitted, muted, IsFollowed, IsBrokenFollow}
 use Rattle.dali_drive.specs.Repeats.{HasSat, IsSameFile}
 use Rattle.dali_drive.specs.Sittings.{CameToItsEnd}
-use Rattle.dali_drive.specs.Stored.{IsBegun}
+use Rattle.dali_drive.specs.Kills.{StoodOnce}
+use Rattle.dali_drive.specs.Stored.{IsBegun, IsPartBehind}
 use Rattle.dali_drive.specs.Transcript.{Streams, recorded}
 use Rattle.dali_drive.proofs.FollowLawLemmas.{as_drive, Fell, fell, fell_sat}
-use Rattle.dali_drive.proofs.SittingLemmas.{made, came_to_its_end, grown_known, from}
+use Rattle.dali_drive.proofs.SittingLemmas.{made, loads, came_to_its_end, grown_known, from}
+use Rattle.dali_drive.proofs.KillLemmas.{one_records, stood_in, stood_before}
 
 module _ (older : List Record) where
   abbrev whole : Option (List ℕ) → Option (List ℕ)
@@ -104,10 +107,12 @@ module _ (older : List Record) where
     off_whole past rest fault then last d off =
         (off.0, off.1, assumption (keeps_whole then.journal last.journal off.2.journal))
 
-    fell_whole : {orders : List (Contents × ℕ)} {fault : DriveFault} {last : Streams} (left : List ℕ)
-        → Fell start orders fault first last left
-        → Fell start orders fault (record first { journal = Some begun }) (all last) (bytes_behind older left)
-    fell_whole {orders} {fault} {last} left (inl (d, between)) = inl (
+    fell_whole : {orders : List (Contents × ℕ)} {fault : DriveFault} {last : Streams}
+        (so all_so : Option (List ℕ) → Type 0)
+        → ((then : Option (List ℕ)) (more : List ℕ) → then ≡ Some (header Two ++ more) → so then → all_so (whole then))
+        → Fell start orders fault first last so
+        → Fell start orders fault (record first { journal = Some begun }) (all last) all_so
+    fell_whole {orders} {fault} {last} so all_so f (inl (d, is_so)) = inl (
       record {
         past = d.past;
         rest = d.rest;
@@ -116,14 +121,15 @@ module _ (older : List Record) where
         asked = d.asked;
         broken = off_whole d.past d.rest fault d.middle last d.driven d.broken;
       },
-      between_whole d.middle.journal last.journal _ left (now_has d.past d.middle d.driven) between,
+      f d.middle.journal _ (now_has d.past d.middle d.driven) is_so,
     )
-    fell_whole {orders} {fault} {last} left (inr (writer, then, d, keeps, between)) = inr (
+    fell_whole {orders} {fault} {last} so all_so f (inr (writer, then, d, keeps, is_so, still)) = inr (
       writer,
       all then,
       drive_whole d,
       keeps_whole then.journal last.journal keeps,
-      between_whole then.journal last.journal _ left (now_has d.past then d.driven) between,
+      f then.journal _ (now_has d.past then d.driven) is_so,
+      drive_whole still,
     )
 
 -- ---- a sitting of the whole
@@ -180,7 +186,61 @@ module _ (older : JournalState) {limit most : ℕ} {first : Streams} (b : IsBegu
   broke_whole room within given fault last left follow between =
       fell_sat {first = muted (record first { journal = Some found })} refl (begun_whole room within)
       (bytes_behind older.records left)
-      (fell_whole older.records (made is b.begun) whole_found left (fell left follow between))
+      (fell_whole older.records (made is b.begun) whole_found (λ then. IsBetween then last.journal left)
+      (λ then. IsBetween then (whole older.records last.journal) (bytes_behind older.records left))
+      (λ then more has so. between_whole older.records then last.journal more left has so)
+      (fell (λ then. IsBetween then last.journal left) follow between))
+
+  -- ---- what a stop may leave
+
+  part_whole : (seen left : List ℕ) → IsPartBehind limit (Some shown) (Some seen) left
+      → IsPartBehind (order_count older + limit) (Some found) (Some (bytes_behind older.records seen))
+      (bytes_behind older.records left)
+  part_whole seen left (records, loads_it, between) =
+      let same = one_records limit shown b.begun.journal.records records (loads is b.begun) loads_it in
+      let own = records_spelling Two b.begun.journal.records in
+      let all_between = between_whole older.records (Some (header Two ++ own)) (Some seen) own left refl
+      (rw same at between) in (
+        b.journal.records,
+        whole_loads (order_count older + limit) b.journal.records kept_whole,
+        subst (λ (front : List ℕ).
+        IsBetween (Some front) (Some (bytes_behind older.records seen)) (bytes_behind older.records left)) whole_found
+            all_between,
+      )
+
+  abbrev StoodWhole : ℕ → List ℕ → Streams → Type 0
+  StoodWhole room left last =
+      StoodOnce (order_count older + limit) room found (bytes_behind older.records left)
+      (muted (record first { journal = Some found })) (all older.records last)
+
+  module _ (room : ℕ) (within : length found ≤ room) (given : List Given) (seen left : List ℕ) (last : Streams)
+      (held : last.journal ≡ Some seen) (part : IsPartBehind limit (Some shown) (Some seen) left) where
+    pub ended_stood : (writer : WriterState) → IsFollowed (start_of b.journal) given (from b.begun) writer last
+        → StoodWhole room left last
+    ended_stood writer follow =
+        stood_in {first = muted (record first { journal = Some found })} (all older.records last) refl
+        (ap (whole older.records) held) (begun_whole room within) (reverse (submitted given)) (part_whole seen left part)
+        writer
+        (drive_whole older.records (made is b.begun) whole_found
+        (as_drive (start_of b.journal) given (from b.begun) writer last follow))
+
+    pub broke_stood : (fault : DriveFault) → IsBrokenFollow (start_of b.journal) given fault (from b.begun) last
+        → StoodWhole room left last
+    broke_stood fault follow =
+        by (fell_whole older.records (made is b.begun) whole_found (λ then. ⊤) (λ then. ⊤) (λ then more has so. tt)
+        (fell (λ then. ⊤) follow tt))
+      where
+        by : Fell (start_of b.journal) (reverse (submitted given)) fault
+            (muted (record first { journal = Some found })) (all older.records last) (λ then. ⊤)
+            → StoodWhole room left last
+        by (inl (d, so)) =
+            stood_before {first = muted (record first { journal = Some found })} (all older.records last) refl
+            (ap (whole older.records) held) (begun_whole room within) (reverse (submitted given))
+            (part_whole seen left part) fault d
+        by (inr (writer, then, d, keeps, so, still)) =
+            stood_in {first = muted (record first { journal = Some found })} (all older.records last) refl
+            (ap (whole older.records) held) (begun_whole room within) (reverse (submitted given))
+            (part_whole seen left part) writer still
 
   -- what a store shows that was opened before, behind the older records, is the same file
   abbrev Again : List ℕ → Type 0

@@ -162,12 +162,19 @@ unheard = record { units = λ address. same address (alone blank_unit address); 
 pub both_along : Along (alone blank_unit) [] empty (alone blank_unit) both_sittings (alone blank_unit) worlds
 both_along = search (goes_along.3, unheard) depth 12
 
-pub both_act_once : ActOnce (alone blank_unit) [] empty (second_sitting ∷ first_sitting ∷ []) begun_file both_sittings
-    (alone blank_unit) worlds
+pub both_act_once : ActOnce empty (second_sitting ∷ first_sitting ∷ []) begun_file (record {
+      zero = alone blank_unit;
+      lost = [];
+      start = empty;
+      first = alone blank_unit;
+      past = both_sittings;
+      last = alone blank_unit;
+      states = worlds;
+    })
 both_act_once =
-    act_once (alone blank_unit) [] empty 100 [] begun_file (second_sitting ∷ first_sitting ∷ []) both_sittings
-    (alone blank_unit) (alone blank_unit) worlds
-    (record { version = Two; len = 0; kept = none_kept; loadable = (refl, refl, refl) }) both_sat refl tt both_along
+    act_once empty 100 [] begun_file (second_sitting ∷ first_sitting ∷ []) _
+    (record { version = Two; len = 0; kept = none_kept; loadable = (refl, refl, refl) }) both_sat
+    (record { before = []; later = []; is_part = refl; told = inl (refl, refl); along = both_along })
 
 -- What is near them and isn't so
 

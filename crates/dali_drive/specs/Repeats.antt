@@ -1,12 +1,9 @@
 -- Drives over a store one after another, each from what the one before it left there.
 use Rattle.std.specs.Prelude.{◌≡◌, ◌⊎◌, ◌++◌, ℕ, List, [], ◌∷◌, Some}
-use Rattle.dali_bus.specs.World.{World}
-use Rattle.dali_bus.specs.Chain.{AtEachMoment}
-use Rattle.dali_trace.specs.declared.happening.Happening.{Happening}
 use Rattle.dali_trace.specs.Trace.{Start, records_of}
 use Rattle.dali_trace.specs.Taken.{taken_orders, begun_orders}
-use Rattle.dali_trace.specs.Moments.{IsRight}
 use Rattle.dali_laws.specs.Joined.{Sitting, joined, IsOneTrace}
+use Rattle.dali_laws.specs.Stays.{Stay, IsRightThrough, IsReadyAtRest}
 use Rattle.dali_store.specs.Opened.{Loads, LoadsAlike}
 use Rattle.dali_drive.specs.Sittings.{CameToItsEnd, BrokeOff}
 use Rattle.dali_drive.specs.Kills.{WasKilled}
@@ -29,13 +26,14 @@ HaveSat limit most first (newest ∷ older) last =
     (found : List ℕ) × (left : List ℕ) × HaveSat limit most first older found × HasSat limit most found newest left
     × IsSameFile limit left last
 
--- What a bench may rely on that is switched off and on again any number of times, while units lose their power: all
--- that the program knows of is one legal trace that keeps to the plans, what is left loads to its records, the orders
--- that were begun are the taken ones, each once, and every moment is right of all that happened.
-pub record ActOnce (zero : World) (lost : List ℕ) (start : Start) (sittings : List Sitting) (left : List ℕ)
-    (past : List Happening) (last : World) (states : List World) : Type 0 where
+-- What a bench may rely on that is switched off and on again any number of times, while units lose their power, and
+-- come and go between the stays: all that the program knows of is one legal trace that keeps to the plans, what is left
+-- loads to its records, the orders that were begun are the taken ones, each once, every moment of the stay is right, and
+-- wherever the journal stands idle in it the units are ready for the next.
+pub record ActOnce (start : Start) (sittings : List Sitting) (left : List ℕ) (stay : Stay) : Type 0 where
   pub trace : IsOneTrace start sittings
   pub file : Loads start.limit (records_of start (joined sittings)) left
   pub once : begun_orders (records_of start (joined sittings))
       ≡ taken_orders (joined sittings) ++ begun_orders start.records
-  pub right : AtEachMoment (IsRight zero lost start) past last states
+  pub right : IsRightThrough stay
+  pub ready : IsReadyAtRest stay

@@ -12,10 +12,9 @@ ghost use Rattle.dali_read.specs.Readings.{Course};
 ghost use Rattle.dali_read.specs.Shown.{Finds, ShowsBank, WhenTold};
 ghost use Rattle.dali_trace.specs.declared.happening.Happening.{Happening};
 ghost use Rattle.dali_trace.specs.Trace.{Start};
-ghost use Rattle.dali_trace.specs.Moments.{Along};
 ghost use Rattle.dali_engine.specs.WriterState.{WriterState, start_of, IsAtRest};
-ghost use Rattle.dali_laws.specs.Powered.{unpowered, IsPowerApart};
 ghost use Rattle.dali_laws.specs.Joined.{Sitting, joined, FollowOn};
+ghost use Rattle.dali_laws.specs.Stays.{Stay, IsStay};
 ghost use Rattle.dali_store.specs.declared.opening.OpenFault.{OpenFault};
 ghost use Rattle.dali_store.specs.Stores.{IsBetween};
 ghost use Rattle.dali_store.specs.Opened.{Loads, IsOpenFault};
@@ -25,7 +24,7 @@ ghost use Rattle.dali_journal.specs.Spelling.{journal_spelling};
 ghost use Rattle.dali_journal.specs.declared.version.Version.TheVariants.{Two};
 ghost use Rattle.dali_journal.specs.Sentence.{standing_of};
 ghost use Rattle.dali_trace.specs.Legal.{Legal};
-ghost use Rattle.dali_drive.specs.Behind.{IsBegunBehind, ActsOnceBehind, bytes_behind};
+ghost use Rattle.dali_drive.specs.Behind.{IsBegunBehind, ActsOnceBehind, bytes_behind, streams_behind};
 ghost use Rattle.dali_trace.specs.declared.fault.DriveFault.{DriveFault};
 ghost use Rattle.dali_drive.specs.Transcript.{Streams};
 ghost use Rattle.dali_drive.specs.Driven.{IsDrive, IsBrokenDrive, KeepsRecords};
@@ -82,20 +81,19 @@ pub fn stops_leave_a_part()
 {}
 
 /// Drives over a store one after another, however many and however each ended (it returned, it broke off, it was
-/// killed), each from what the one before it left there, the first from a journal of either version, over one chain of
-/// worlds from a world that fits the start world and the start records and in which no unit is write-enabled but the
-/// one that they name: together they act as one, and each order once. Units may lose their power anywhere but between
-/// an order and its reply; in the start world the lock bytes of the banks from 2 up are FFh.
+/// killed), each from what the one before it left there, the first from a journal of either version: together they act
+/// as one, and each order once. While the journal stands idle, between drives or in one, units may be exchanged, read,
+/// verified and used by other masters. Each stay between is right by itself: from a world that fits the start world and
+/// the start records, where it is the first; else from any world in which no unit is write-enabled and the lock bytes of
+/// the banks from 2 up are FFh, as each stay leaves its units where it comes to rest, and as after power-up. Units may
+/// lose their power at any moment.
 pub fn drives_act_once()
     ensures follow { (start : Start) (most : ℕ) (first left : List ℕ) (sittings : List Sitting)
         → Loads start.limit start.records first → HaveSat start.limit most first sittings left
         → FollowOn start sittings }
-    ensures once { (zero : World) (lost : List ℕ) (start : Start) (most : ℕ) (first left : List ℕ)
-        (sittings : List Sitting) (past : List Happening) (now last : World) (states : List World)
+    ensures once { (start : Start) (most : ℕ) (first left : List ℕ) (sittings : List Sitting) (stay : Stay)
         → Loads start.limit start.records first → HaveSat start.limit most first sittings left
-        → unpowered past ≡ joined sittings → IsPowerApart past
-        → Along zero lost start now past last states
-        → ActOnce zero lost start sittings left past last states }
+        → IsStay start (joined sittings) stay → ActOnce start sittings left stay }
 {}
 
 /// Orders that are followed are one drive of those that were given, each at its moment; and over a store they leave
@@ -183,4 +181,30 @@ pub fn what_is_followed_behind_is_of_the_whole()
         → first.journal ≡ Some found → b.begun.opened.version ≡ Two
         → IsSameFile (order_count older + limit) (bytes_behind older.records found)
         (journal_spelling Two b.journal.records) }
+{}
+
+/// Whatever a stop may leave at some moment of what is followed behind an older journal, behind the journal that was
+/// opened there, is with the older records what it would have left if a drive of the whole had been killed at some
+/// moment of what may have happened, as `stops_leave_a_part` says of a drive without older ones.
+pub fn stops_behind_leave_a_part_of_the_whole()
+    ensures ended { (older : JournalState) (limit most room : ℕ) (given : List Given) (found seen left : List ℕ)
+        (first : Streams) (writer : WriterState) (last : Streams) (b : IsBegunBehind (Some older) limit most first)
+        → IsFollowed (start_of b.journal) given (record first { journal = b.begun.middle }) writer last
+        → first.journal ≡ Some found → last.journal ≡ Some seen
+        → length (journal_spelling Two b.journal.records) ≤ room
+        → IsPartBehind limit (Some found) (Some seen) left
+        → StoodOnce (order_count older + limit) room (journal_spelling Two b.journal.records)
+        (bytes_behind older.records left)
+        (muted (record first { journal = Some (journal_spelling Two b.journal.records) }))
+        (streams_behind older.records last) }
+    ensures broken { (older : JournalState) (limit most room : ℕ) (given : List Given) (fault : DriveFault)
+        (found seen left : List ℕ) (first last : Streams) (b : IsBegunBehind (Some older) limit most first)
+        → IsBrokenFollow (start_of b.journal) given fault (record first { journal = b.begun.middle }) last
+        → first.journal ≡ Some found → last.journal ≡ Some seen
+        → length (journal_spelling Two b.journal.records) ≤ room
+        → IsPartBehind limit (Some found) (Some seen) left
+        → StoodOnce (order_count older + limit) room (journal_spelling Two b.journal.records)
+        (bytes_behind older.records left)
+        (muted (record first { journal = Some (journal_spelling Two b.journal.records) }))
+        (streams_behind older.records last) }
 {}

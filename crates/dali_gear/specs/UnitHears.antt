@@ -16,8 +16,8 @@ use Rattle.dali_gear.specs.UnitState.{carries_out, stores, selected_byte, after_
 use Rattle.dali_gear.specs.UnitState.{powered_up, locked_bank}
 use Rattle.dali_bus.specs.Power.{relocked, PowersUp}
 use Rattle.dali_bus.specs.World.{Gear, stored}
-use Rattle.dali_bus.specs.Hears.{Hears, MayEnd, Obeys, Ignores, AnswersRegister, PassesBy, Stores, ReadsByte}
-use Rattle.dali_bus.specs.Hears.{ReadsNothing}
+use Rattle.dali_bus.specs.Hears.{Hears, MayEnd, Obeys, Ignores, AnswersRegister, PassesBy, PassesLeftOut, Stores}
+use Rattle.dali_bus.specs.Hears.{ReadsByte, ReadsNothing}
 use Rattle.dali_bus.specs.Hears.{selected, up}
 
 -- a byte after a write
@@ -130,14 +130,15 @@ writing : (refuses : Bool) (unit : UnitState) (byte : ℕ) (carried done : Bool)
     if carried then record (if done then with_stored unit byte else unit) { dtr0 = up unit.dtr0 } else unit in
     (Stores byte (gear_of unit) (gear_of new) × ((if done then Some byte else None) ≡ Some byte))
     ⊎ PassesBy (gear_of unit) (if done then Some byte else None) (gear_of new)
+    ⊎ ((unit.enabled ≡ true) × PassesLeftOut (gear_of unit) (gear_of new))
 writing refuses unit byte true true c s =
     let is = stored_parts refuses unit s in
     inl ((is.enabled, selected_is unit is, stored_shows unit byte (unit.dtr1 == 1) refl is.has is.within), refl)
-writing refuses unit byte true false c s = inr (up unit.dtr0, inl refl, refl, refl)
+writing refuses unit byte true false c s = inr (inl (up unit.dtr0, inl refl, refl, refl))
 writing refuses unit byte false true c s =
     let is = stored_parts refuses unit s in
     absurd (both_ways (carries_out unit) c (and_from _ _ is.enabled is.has))
-writing refuses unit byte false false c s = inr (unit.dtr0, inr refl, refl, refl)
+writing refuses unit byte false false c s = inr (inl (unit.dtr0, inr refl, refl, refl))
 
 -- a silent write: the same with no answer
 silently : (refuses : Bool) (unit : UnitState) (byte : ℕ) (carried done : Bool) → carries_out unit ≡ carried
@@ -157,7 +158,8 @@ silently refuses unit byte false false c s = inr (unit.dtr0, inr refl, refl, ref
 -- a read, in the forms that it may take
 reading : (unit : UnitState) (has : Bool) → has_bank unit.dtr1 ≡ has → (byte : Option ℕ) → selected_byte unit ≡ byte
     → (obeyed : Gear)
-    × (ReadsByte (gear_of unit) (selected_byte unit) obeyed ⊎ ReadsNothing (gear_of unit) (selected_byte unit) obeyed)
+    × (ReadsByte (gear_of unit) (selected_byte unit) obeyed ⊎ ReadsNothing (gear_of unit) (selected_byte unit) obeyed
+    ⊎ PassesLeftOut (gear_of unit) obeyed)
     × MayEnd obeyed
     (gear_of (if has then record unit { enabled = false; dtr0 = up unit.dtr0 } else record unit { enabled = false }))
 reading unit true e (Some byte) f =
@@ -165,12 +167,12 @@ reading unit true e (Some byte) f =
     (record (gear_of unit) { dtr0 = up unit.dtr0; enabled = false }, inl (some, refl, refl), inl refl)
 reading unit true e None f =
     let none : IsNone (selected_byte unit) = rw f refl in
-    (record (gear_of unit) { dtr0 = up unit.dtr0 }, inr (none, (up unit.dtr0, inl refl, refl, f)), inr refl)
+    (record (gear_of unit) { dtr0 = up unit.dtr0 }, inr (inl (none, (up unit.dtr0, inl refl, refl, f))), inr refl)
 reading unit false e byte f =
     let P : Bool → Type 0 = λ b. (if b then slice_get (bank_of unit unit.dtr1).bytes unit.dtr0 else None) ≡ None in
     let is : selected_byte unit ≡ None = subst P (sym e) refl in
     let none : IsNone (selected_byte unit) = rw is refl in
-    (gear_of unit, inr (none, (unit.dtr0, inr refl, refl, is)), inr refl)
+    (gear_of unit, inr (inl (none, (unit.dtr0, inr refl, refl, is))), inr refl)
 
 -- a read that is put to a unit
 read_by : (to : ℕ) (unit : UnitState) (mine : Bool) → (to == unit.address) ≡ mine

@@ -32,7 +32,7 @@ use Rattle.dali_trace.specs.ByPlan.{told_in, Asks, IsPlanned, ByPlan}
 use Rattle.dali_trace.specs.Work.{stood_at, kept_since}
 use Rattle.dali_laws.proofs.Courses.{ClosedBy, CheckedBy, OpenedBy, EndedBy, NewestEndedBy, HasCome, IsOnCourse}
 use Rattle.dali_laws.proofs.TakenLemmas.{neither, waits}
-use Rattle.dali_laws.proofs.MomentLemmas.{may_keep, may_send}
+use Rattle.dali_laws.proofs.SafeLemmas.{may_keep, may_send}
 use Rattle.dali_laws.proofs.StandingLemmas.{begun_order, open_order}
 
 -- a start: an order is taken where none is at work, a trace begins or was stopped

@@ -4,8 +4,7 @@ use Rattle.std.proofs.Common.{Option, Some, None, IsSome, is_some, ◌≤◌, �
 use Rattle.std.proofs.lemmas.Bool.{eqb-true, eqb-false}
 use Rattle.std.proofs.Math.Nat.{eq-or-lt_of_le}
 use Rattle.dali_frame.specs.declared.forward.Frame.{Frame}
-use Rattle.dali_frame.specs.declared.forward.Frame.TheVariants.{Dtr0, Dtr1, Dtr2, Write, WriteSilent, Enable, AskDtr0}
-use Rattle.dali_frame.specs.declared.forward.Frame.TheVariants.{AskDtr1, AskDtr2, Read, Other}
+use Rattle.dali_frame.specs.declared.forward.Frame.TheVariants.{Write, Enable}
 use Rattle.dali_bus.specs.World.{World, Gear, byte_at, is_enabled}
 use Rattle.dali_bus.proofs.OpenLemmas.{is_open}
 use Rattle.dali_bank.specs.Order.{Contents, update_at}
@@ -25,12 +24,12 @@ use Rattle.dali_write.proofs.GearLemmas.{StaysAt, carry_stays, same_byte, dtr1_i
 use Rattle.dali_write.proofs.PowerLemmas.{relock_then, after_power}
 use Rattle.dali_write.proofs.StillReadLemmas.{passive_quiet}
 use Rattle.dali_write.proofs.PutLemmas.{NowOldOrNew, Puts, enable_safe, guarded_safe}
-use Rattle.dali_trace.specs.declared.happening.Happening.{Happening}
-use Rattle.dali_trace.specs.Trace.{sent_of}
-use Rattle.dali_trace.specs.Legal.{MayPut, MaySend, IsGuardedWrite}
+use Rattle.dali_write.specs.Exchanges.{Exchange}
+use Rattle.dali_trace.specs.Legal.{MayPut}
 use Rattle.dali_trace.specs.Possible.{Mark, Applied, Untouched, InDoubt, mark_of, byte_for, MayHold, IsPossible}
 use Rattle.dali_trace.specs.Fits.{Fits, IsLockedAbove, OnlyNamed, HasBeenOpened, IsLockByte}
 use Rattle.dali_laws.proofs.StandingLemmas.{open_order, named_opened, byte_for_here}
+use Rattle.dali_laws.proofs.SafeLemmas.{IsSafeWrite, IsSafeFrame}
 use Rattle.dali_write.proofs.RunLemmas.{Leads, Stays}
 use Rattle.dali_bus.specs.Carry.{WorldStep}
 
@@ -209,51 +208,36 @@ after_enable zero old new records lost unit answer sentence is_named carry fine 
     carry in
     after_touch zero old new records lost [] unit sentence is_named (λ location byte has. absurd has) touches fine
 
-after_write : (zero old new since : World) (records : List Record) (lost : List ℕ) (past : List Happening) (byte : ℕ)
+after_write : (zero old new since : World) (records : List Record) (lost : List ℕ) (sent : List Exchange) (byte : ℕ)
     (answer : Option ℕ)
     → IsSentence records
-    → Leads WorldStep (IsAmong lost) (sent_of past) since old → IsGuardedWrite past (standing_of records) byte
+    → Leads WorldStep (IsAmong lost) sent since old → IsSafeWrite sent (standing_of records) byte
     → Carry old (Write byte) answer new
     → IsFine zero records lost old → IsFine zero records lost new
-after_write zero old new since records lost past byte answer sentence run guarded carry fine =
-    let writes : List (ℕ × ℕ) = (guarded.location, byte) ∷ [] in
+after_write zero old new since records lost sent byte answer sentence run safe carry fine =
+    let writes : List (ℕ × ℕ) = (safe.location, byte) ∷ [] in
     let touches =
-    guarded_safe (IsAmong lost) writes guarded.unit guarded.location byte (sent_of past) (inl (refl, refl))
-    guarded.selected since old
-    new answer
-    (others_off records guarded.unit old guarded.is_named fine.only) run carry in
-    after_touch zero old new records lost writes guarded.unit sentence guarded.is_named may touches fine where
-      may : (location value : ℕ) → Has ((guarded.location, byte) ∷ []) location value
+    guarded_safe (IsAmong lost) writes safe.unit safe.location byte sent (inl (refl, refl)) safe.selected since old new
+    answer (others_off records safe.unit old safe.is_named fine.only) run carry in
+    after_touch zero old new records lost writes safe.unit sentence safe.is_named may touches fine where
+      may : (location value : ℕ) → Has ((safe.location, byte) ∷ []) location value
           → MayPut (standing_of records) location value
-      may location value (inl is) = rw (← is.0, ← is.1) guarded.may
+      may location value (inl is) = rw (← is.0, ← is.1) safe.may
       may location value (inr never) = absurd never
 
--- a frame that may be sent
-pub after_sent : (zero old new since : World) (records : List Record) (lost : List ℕ) (past : List Happening)
-    (frame : Frame)
-    (answer : Option ℕ)
+-- a safe frame
+pub after_sent : (zero old new since : World) (records : List Record) (lost : List ℕ) (sent : List Exchange)
+    (frame : Frame) (answer : Option ℕ)
     → IsSentence records
-    → Leads WorldStep (IsAmong lost) (sent_of past) since old → MaySend past (standing_of records) frame
+    → Leads WorldStep (IsAmong lost) sent since old → IsSafeFrame sent (standing_of records) frame
     → Carry old frame answer new
     → IsFine zero records lost old → IsFine zero records lost new
-after_sent zero old new since records lost past (Dtr0 byte) answer sentence run may carry fine =
-    after_passive zero old new records lost (Dtr0 byte) answer tt carry fine
-after_sent zero old new since records lost past (Dtr1 byte) answer sentence run may carry fine =
-    after_passive zero old new records lost (Dtr1 byte) answer tt carry fine
-after_sent zero old new since records lost past (AskDtr0 unit) answer sentence run may carry fine =
-    after_passive zero old new records lost (AskDtr0 unit) answer tt carry fine
-after_sent zero old new since records lost past (AskDtr1 unit) answer sentence run may carry fine =
-    after_passive zero old new records lost (AskDtr1 unit) answer tt carry fine
-after_sent zero old new since records lost past (Read unit) answer sentence run may carry fine =
-    after_passive zero old new records lost (Read unit) answer tt carry fine
-after_sent zero old new since records lost past (Enable unit) answer sentence run may carry fine =
-    after_enable zero old new records lost unit answer sentence may.1 carry fine
-after_sent zero old new since records lost past (Write byte) answer sentence run may carry fine =
-    after_write zero old new since records lost past byte answer sentence run may carry fine
-after_sent zero old new since records lost past (Dtr2 byte) answer sentence run may carry fine = absurd may
-after_sent zero old new since records lost past (WriteSilent byte) answer sentence run may carry fine = absurd may
-after_sent zero old new since records lost past (AskDtr2 unit) answer sentence run may carry fine = absurd may
-after_sent zero old new since records lost past (Other word) answer sentence run may carry fine = absurd may
+after_sent zero old new since records lost sent (Enable unit) answer sentence run safe carry fine =
+    after_enable zero old new records lost unit answer sentence safe carry fine
+after_sent zero old new since records lost sent (Write byte) answer sentence run safe carry fine =
+    after_write zero old new since records lost sent byte answer sentence run safe carry fine
+after_sent zero old new since records lost sent other answer sentence run safe carry fine =
+    after_passive zero old new records lost other answer safe carry fine
 
 -- A loss of power
 
@@ -280,6 +264,22 @@ first_possible (newest ∷ older) first address bank location above =
     untouched (mark_of newest.1) (byte_for newest.0 address bank location)
     (IsPossible first address bank location older) first (no_byte newest.0 address bank location above)
     (first_possible older first address bank location above)
+
+-- and no other is possible there
+same_only : (mark : Mark) (found : Option ℕ) (before : ℕ → Type 0) (byte : ℕ) → found ≡ None
+    → MayHold mark found before byte → before byte
+same_only Applied None before byte none may = may
+same_only Untouched None before byte none may = may
+same_only InDoubt None before byte none may = may
+same_only mark (Some update) before byte none may = cc
+
+pub only_first : (orders : List (Contents × Progress)) (first address bank location byte : ℕ) → 2 ≤ bank
+    → IsPossible first address bank location orders byte → byte ≡ first
+only_first [] first address bank location byte above is = is
+only_first (newest ∷ older) first address bank location byte above is =
+    only_first older first address bank location byte above
+    (same_only (mark_of newest.1) (byte_for newest.0 address bank location)
+    (IsPossible first address bank location older) byte (no_byte newest.0 address bank location above) is)
 
 -- past bank 1
 further : (bank : ℕ) → 1 ≤ bank → (bank ≡ 1 → ⊥) → 2 ≤ bank

@@ -9,10 +9,8 @@ use Rattle.dali_trace.specs.Trace.{course_of}
 use Rattle.dali_trace.specs.Legal.{MayFollow, Legal, IsFinished}
 use Rattle.dali_trace.specs.ByPlan.{ByPlan}
 use Rattle.dali_trace.proofs.CutLemmas.{since_joined}
-use Rattle.dali_laws.specs.Joined.{Sitting, joined, FollowOn, IsOneTrace, SittingsAreRight}
+use Rattle.dali_laws.specs.Joined.{Sitting, joined, FollowOn, IsOneTrace}
 use Rattle.dali_laws.proofs.AgreeLemmas.{Agree, happens_too, replies_too, planned_too, may_follow}
-use Rattle.dali_laws.proofs.PoweredLemmas.{powered_legal}
-use Rattle.dali_laws.proofs.MomentLemmas.{every_moment}
 
 -- Each function of a trace begins anew at a stop
 
@@ -96,9 +94,3 @@ joined_sittings start (newest ∷ last ∷ older) follow =
       joined_planned start newest.start past newest.past before.1 follow.3 follow.1,
       joined_finished past newest.past follow.2,
     )
-
-pub sittings_right : SittingsAreRight
-sittings_right zero lost start sittings past first last states follow same apart along =
-    let one = joined_sittings start sittings follow in
-    let legal = powered_legal start past apart (subst (λ (p : List Happening). Legal start p) (sym same) one.0) in
-    every_moment zero lost start first past last states legal along

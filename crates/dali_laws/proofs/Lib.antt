@@ -1,4 +1,6 @@
 pub mod StandingLemmas
+pub mod SafeLemmas
+pub mod PartLemmas
 pub mod FrameLemmas
 pub mod RecordLemmas
 pub mod PromiseLemmas
@@ -20,5 +22,6 @@ pub mod SaidAsDueLemmas
 pub mod StepsLemmas
 pub mod AgreeLemmas
 pub mod PoweredLemmas
+pub mod StayLemmas
 pub mod JoinLemmas
 pub mod WorkedLawLemmas

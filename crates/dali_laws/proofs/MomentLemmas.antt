@@ -1,6 +1,5 @@
 -- Along every chain of worlds of a legal trace each moment fits, and each record that is kept tells the truth.
-use Rattle.std.proofs.Common.{◌≡◌, inl, inr, refl, sym, subst, ℕ, List, [], ◌∷◌, Option}
-use Rattle.dali_frame.specs.declared.forward.Frame.{Frame}
+use Rattle.std.proofs.Common.{◌≡◌, inl, inr, refl, sym, subst, ℕ, List, [], ◌∷◌}
 use Rattle.dali_bus.specs.World.{World}
 use Rattle.dali_bus.specs.Chain.{IsChain, AtEachMoment}
 use Rattle.dali_journal.specs.declared.record.Record.{Record}
@@ -10,9 +9,9 @@ use Rattle.dali_write.specs.Worlds.{IsAmong, Shows}
 use Rattle.dali_write.proofs.RunLemmas.{run_on, run_among}
 use Rattle.dali_write.proofs.StillReadLemmas.{stands_true}
 use Rattle.dali_trace.specs.declared.happening.Happening.{Happening}
-use Rattle.dali_trace.specs.declared.happening.Happening.TheVariants.{Asked, Sent, Kept, Stopped, Powered}
+use Rattle.dali_trace.specs.declared.happening.Happening.TheVariants.{Sent, Kept, Stopped, Powered}
 use Rattle.dali_trace.specs.Trace.{Start, records_of, standing_at, sent_of, powered_of}
-use Rattle.dali_trace.specs.Legal.{MayFollow, MayKeep, MaySend, Legal}
+use Rattle.dali_trace.specs.Legal.{Legal}
 use Rattle.dali_trace.specs.Grounds.{Grounds}
 use Rattle.dali_trace.specs.Moves.{Moves}
 use Rattle.dali_trace.specs.Fits.{Fits, IsLockedAbove, OnlyNamed}
@@ -20,6 +19,7 @@ use Rattle.dali_trace.specs.WhenKept.{WhenKept}
 use Rattle.dali_trace.specs.Moments.{Along, IsRight}
 use Rattle.dali_laws.proofs.FrameLemmas.{IsFine, after_sent, after_loss}
 use Rattle.dali_laws.proofs.RecordLemmas.{keeps_fitting, keeps_only, grounds_too}
+use Rattle.dali_laws.proofs.SafeLemmas.{IsSafe, AllSafe, legal_safe}
 use Rattle.dali_laws.proofs.AppliedLemmas.{fits_applied}
 use Rattle.dali_laws.proofs.PromiseLemmas.{tells_truth}
 use Rattle.dali_write.proofs.RunLemmas.{Leads, Stays}
@@ -49,40 +49,27 @@ told_quiet old new start past next records sent lost same told = record {
 
 -- what a record rests on is so
 rests_so : (now : World) (start : Start) (past : List Happening) (entry : Record) → IsTold start past now
-    → MayKeep start past entry
+    → IsSafe start past (Kept entry)
     → Grounds (Shows (IsAmong (powered_of [] past)) now) (standing_at start past) entry
-rests_so now start past entry told may =
+rests_so now start past entry told safe =
     grounds_too (StillRead (sent_of past)) (Shows (IsAmong (powered_of [] past)) now)
     (λ unit location byte stands. stands_true (sent_of past) told.since now unit location byte told.run stands)
-    (standing_at start past) entry may.grounds
+    (standing_at start past) entry safe.1
 
--- a record is kept, and a frame sent, only where one may be
-pub may_keep : (start : Start) (past : List Happening) (entry : Record) → MayFollow start past (Kept entry)
-    → MayKeep start past entry
-may_keep start (Asked order moment ∷ past) entry may = absurd may
-may_keep start _ entry may = may
-
-pub may_send : (start : Start) (past : List Happening) (frame : Frame) (answer : Option ℕ)
-    → MayFollow start past (Sent frame answer)
-    → MaySend past (standing_at start past) frame
-may_send start (Asked order moment ∷ past) frame answer may = absurd may
-may_send start _ frame answer may = may
-
-told_step : (old new : World) (start : Start) (past : List Happening) (next : Happening) → MayFollow start past next
+told_step : (old new : World) (start : Start) (past : List Happening) (next : Happening) → IsSafe start past next
     → Moves old next new
     → IsTold start past old → IsTold start (next ∷ past) new × WhenKept start (next ∷ past) new
-told_step old new start past (Sent frame answer) may carry told =
+told_step old new start past (Sent frame answer) safe carry told =
     (record { sentence = told.sentence; since = told.since; run = (old, new, told.run, carry, Stays) }, tt)
-told_step old new start past (Kept entry) may same told =
-    let kept : MayKeep start past entry = may_keep start past entry may in
+told_step old new start past (Kept entry) safe same told =
     let now : IsTold start past new = subst (IsTold start past) (sym same) told in (
-      record { sentence = kept.whole.0; since = now.since; run = now.run },
-      tells_truth (powered_of [] past) new (standing_at start past) entry kept.whole.0.1
-          (rests_so new start past entry now kept),
+      record { sentence = safe.0; since = now.since; run = now.run },
+      tells_truth (powered_of [] past) new (standing_at start past) entry safe.0.1
+          (rests_so new start past entry now safe),
     )
-told_step old new start past Stopped may same told =
+told_step old new start past Stopped safe same told =
     (record { sentence = told.sentence; since = new; run = Stays }, tt)
-told_step old new start past (Powered address) may lost told = (
+told_step old new start past (Powered address) safe lost told = (
   record {
     sentence = told.sentence;
     since = told.since;
@@ -91,18 +78,24 @@ told_step old new start past (Powered address) may lost told = (
   },
   tt,
 )
-told_step old new start past next may same told = (told_quiet old new start past next refl refl refl same told, tt)
+told_step old new start past next safe same told = (told_quiet old new start past next refl refl refl same told, tt)
 
 -- each record is true when it is kept, whichever units were enabled at first
+each_told : (start : Start) (first : World) (past : List Happening) (last : World) (states : List World)
+    → AllSafe start past
+    → IsChain Moves first past last states → IsTold start past last × AtEachMoment (WhenKept start) past last states
+each_told start first [] last [] safe chain = (record { sentence = safe; since = last; run = Stays }, tt)
+each_told start first [] last (state ∷ states) safe chain = absurd chain
+each_told start first (next ∷ past) last [] safe chain = absurd chain
+each_told start first (next ∷ past) last (state ∷ states) safe chain =
+    let before = each_told start first past state states safe.0 chain.1 in
+    let now = told_step state last start past next safe.1 chain.0 before.0 in (now.0, (now.1, before.1))
+
 pub each_kept : (start : Start) (first : World) (past : List Happening) (last : World) (states : List World)
     → Legal start past
     → IsChain Moves first past last states → IsTold start past last × AtEachMoment (WhenKept start) past last states
-each_kept start first [] last [] legal chain = (record { sentence = legal.0; since = last; run = Stays }, tt)
-each_kept start first [] last (state ∷ states) legal chain = absurd chain
-each_kept start first (next ∷ past) last [] legal chain = absurd chain
-each_kept start first (next ∷ past) last (state ∷ states) legal chain =
-    let before = each_kept start first past state states legal.0 chain.1 in
-    let now = told_step state last start past next legal.1 chain.0 before.0 in (now.0, (now.1, before.1))
+each_kept start first past last states legal chain =
+    each_told start first past last states (legal_safe start past legal) chain
 
 -- those who lost their power in the trace are among all who did by now
 among_all : (lost : List ℕ) (past : List Happening) (address : ℕ) → IsAmong (powered_of [] past) address
@@ -117,50 +110,49 @@ abbrev FineAt : World → List ℕ → Start → List Happening → World → Ty
 FineAt zero lost start past now = IsFine zero (records_of start past) (powered_of lost past) now
 
 fine_step : (zero old new : World) (lost : List ℕ) (start : Start) (past : List Happening) (next : Happening)
-    → IsLockedAbove zero → MayFollow start past next → Moves old next new
+    → IsLockedAbove zero → IsSafe start past next → Moves old next new
     → IsTold start past old → FineAt zero lost start past old → FineAt zero lost start (next ∷ past) new
-fine_step zero old new lost start past (Sent frame answer) locked may carry told fine =
-    after_sent zero old new told.since (records_of start past) (powered_of lost past) past frame answer told.sentence
-    (run_among WorldStep (sent_of past) told.since old (among_all lost past) told.run)
-    (may_send start past frame answer may) carry fine
-fine_step zero old new lost start past (Kept entry) locked may same told fine =
-    let kept : MayKeep start past entry = may_keep start past entry may in
+fine_step zero old new lost start past (Sent frame answer) locked safe carry told fine =
+    after_sent zero old new told.since (records_of start past) (powered_of lost past) (sent_of past) frame answer
+    told.sentence (run_among WorldStep (sent_of past) told.since old (among_all lost past) told.run) safe carry fine
+fine_step zero old new lost start past (Kept entry) locked safe same told fine =
     let now : IsTold start past new = subst (IsTold start past) (sym same) told in
     let still : FineAt zero lost start past new = subst (FineAt zero lost start past) (sym same) fine in
-    let so = rests_so new start past entry now kept in
+    let so = rests_so new start past entry now safe in
     record {
       fits =
           keeps_fitting zero new (powered_of [] past) (powered_of lost past) (records_of start past) entry
-          (standing_at start past) refl kept.whole.0.1
+          (standing_at start past) refl safe.0.1
           so still.fits;
-      only = keeps_only (powered_of [] past) new (standing_at start past) entry kept.whole.0.1 so still.only;
+      only = keeps_only (powered_of [] past) new (standing_at start past) entry safe.0.1 so still.only;
     }
-fine_step zero old new lost start past (Powered address) locked may loses told fine =
+fine_step zero old new lost start past (Powered address) locked safe loses told fine =
     after_loss zero old new (records_of start past) (powered_of lost past) address locked loses fine
-fine_step zero old new lost start past _ locked may same told fine = subst (FineAt zero lost start past) (sym same) fine
+fine_step zero old new lost start past _ locked safe same told fine =
+    subst (FineAt zero lost start past) (sym same) fine
 
 every_fine : (zero : World) (lost : List ℕ) (start : Start) (first : World) (past : List Happening) (last : World)
     (states : List World)
-    → Legal start past → Along zero lost start first past last states
+    → AllSafe start past → Along zero lost start first past last states
     → FineAt zero lost start past last × AtEachMoment (IsRight zero lost start) past last states
-every_fine zero lost start first [] last [] legal along =
+every_fine zero lost start first [] last [] safe along =
     let fine : IsFine zero start.records lost last = record {
       fits = subst (Fits zero start.records lost) (sym along.chain) along.fits;
       only = subst (OnlyNamed start.records) (sym along.chain) along.only;
     } in
     (fine, (fine.fits, fine.only, fits_applied zero start.records lost last fine.fits, tt))
-every_fine zero lost start first [] last (state ∷ states) legal along = absurd along.chain
-every_fine zero lost start first (next ∷ past) last [] legal along = absurd along.chain
-every_fine zero lost start first (next ∷ past) last (state ∷ states) legal along =
-    let before = every_fine zero lost start first past state states legal.0 (record {
+every_fine zero lost start first [] last (state ∷ states) safe along = absurd along.chain
+every_fine zero lost start first (next ∷ past) last [] safe along = absurd along.chain
+every_fine zero lost start first (next ∷ past) last (state ∷ states) safe along =
+    let before = every_fine zero lost start first past state states safe.0 (record {
       locked = along.locked;
       fits = along.fits;
       only = along.only;
       chain = along.chain.1;
     }) in
-    let told = (each_kept start first past state states legal.0 along.chain.1).0 in
-    let now = fine_step zero state last lost start past next along.locked legal.1 along.chain.0 told before.0 in
-    let true_now = (told_step state last start past next legal.1 along.chain.0 told).1 in (
+    let told = (each_told start first past state states safe.0 along.chain.1).0 in
+    let now = fine_step zero state last lost start past next along.locked safe.1 along.chain.0 told before.0 in
+    let true_now = (told_step state last start past next safe.1 along.chain.0 told).1 in (
       now,
       (
         (
@@ -173,12 +165,19 @@ every_fine zero lost start first (next ∷ past) last (state ∷ states) legal a
       ),
     )
 
+pub safe_right : (zero : World) (lost : List ℕ) (start : Start) (first : World) (past : List Happening) (last : World)
+    (states : List World)
+    → AllSafe start past → Along zero lost start first past last states
+    → AtEachMoment (IsRight zero lost start) past last states
+safe_right zero lost start first past last states safe along =
+    (every_fine zero lost start first past last states safe along).1
+
 pub every_moment : (zero : World) (lost : List ℕ) (start : Start) (first : World) (past : List Happening) (last : World)
     (states : List World)
     → Legal start past → Along zero lost start first past last states
     → AtEachMoment (IsRight zero lost start) past last states
 every_moment zero lost start first past last states legal along =
-    (every_fine zero lost start first past last states legal along).1
+    safe_right zero lost start first past last states (legal_safe start past legal) along
 
 -- a part of what is so at each moment
 pub part_of : (P Q : List Happening → World → Type 0)

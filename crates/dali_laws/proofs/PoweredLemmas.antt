@@ -12,13 +12,13 @@ use Rattle.dali_laws.proofs.AgreeLemmas.{Agree, happens_too, replies_too, planne
 
 -- Each function of a trace passes over them
 
-same_records : (start : Start) (past : List Happening) → records_of start past ≡ records_of start (unpowered past)
+pub same_records : (start : Start) (past : List Happening) → records_of start past ≡ records_of start (unpowered past)
 same_records start [] = refl
 same_records start (Powered address ∷ past) = same_records start past
 same_records start (Kept entry ∷ past) = ap (◌∷◌ entry) (same_records start past)
 same_records start (_ ∷ past) = same_records start past
 
-same_frames : (ends : Happening → Bool) → ((address : ℕ) → ends (Powered address) ≡ false) → (past : List Happening)
+pub same_frames : (ends : Happening → Bool) → ((address : ℕ) → ends (Powered address) ≡ false) → (past : List Happening)
     → frames_in (since ends past) ≡ frames_in (since ends (unpowered past))
 same_frames ends goes [] = refl
 same_frames ends goes (Powered address ∷ past) =

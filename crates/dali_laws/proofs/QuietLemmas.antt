@@ -13,7 +13,7 @@ use Rattle.dali_trace.specs.declared.happening.Happening.TheVariants.{Asked, Ans
 use Rattle.dali_trace.specs.Trace.{Start, records_of, standing_at, waiting, is_unsaid, is_at_work, is_busy, course_of}
 use Rattle.dali_trace.specs.Legal.{Serves, MaySay, MaySend, MayKeep, Legal}
 use Rattle.dali_trace.specs.Quiet.{NoneTaken, NoneSent}
-use Rattle.dali_laws.proofs.MomentLemmas.{may_keep, may_send}
+use Rattle.dali_laws.proofs.SafeLemmas.{may_keep, may_send}
 use Rattle.dali_laws.proofs.TakenLemmas.{neither, ended_unsaid, none_waits, no_opened, no_ended}
 
 -- where no order is at work and none waits

@@ -20,7 +20,7 @@ use Rattle.dali_trace.specs.Trace.{Start, records_of, is_busy, is_full}
 use Rattle.dali_trace.specs.Legal.{Replies, Legal}
 use Rattle.dali_trace.specs.Quiet.{NoneTaken}
 use Rattle.dali_laws.specs.Law.{NothingIsDone}
-use Rattle.dali_laws.proofs.MomentLemmas.{may_keep}
+use Rattle.dali_laws.proofs.SafeLemmas.{may_keep}
 use Rattle.dali_laws.proofs.ReplyLemmas.{only_due}
 use Rattle.dali_laws.proofs.QuietLemmas.{stays_still}
 use Rattle.dali_journal.proofs.BehindLemmas.{absent}

@@ -28,7 +28,7 @@ use Rattle.dali_trace.specs.Steps.{steps_in, NoneStops, IsSaid, PartsSince, IsSa
 use Rattle.dali_trace.specs.Steps.{HasStepsEnough}
 use Rattle.dali_laws.proofs.AgreeLemmas.{may_happen}
 use Rattle.dali_laws.proofs.TakenLemmas.{ended_unsaid, waits_unsaid}
-use Rattle.dali_laws.proofs.MomentLemmas.{may_keep}
+use Rattle.dali_laws.proofs.SafeLemmas.{may_keep}
 use Rattle.dali_laws.proofs.StandingLemmas.{begun_order, open_order}
 use Rattle.dali_laws.proofs.CourseLemmas.{idle_next}
 use Rattle.dali_laws.proofs.WorkLemmas.{within_limit, said_end}

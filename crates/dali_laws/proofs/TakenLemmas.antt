@@ -18,7 +18,7 @@ use Rattle.dali_trace.specs.Trace.{Start, records_of, standing_at, waiting, is_u
 use Rattle.dali_trace.specs.Trace.{Course, Quiet, Waiting, Working, JustEnded, course_of, waits_in, unsaid_in, ended_in}
 use Rattle.dali_trace.specs.Taken.{without, taken_or_waiting, taken_orders, begun_orders}
 use Rattle.dali_trace.specs.Legal.{Legal}
-use Rattle.dali_laws.proofs.MomentLemmas.{may_keep}
+use Rattle.dali_laws.proofs.SafeLemmas.{may_keep}
 
 pub neither : (a b : Bool) → (a || b) ≡ false → (a ≡ false) × (b ≡ false)
 neither true b e = cc

@@ -26,7 +26,7 @@ use Rattle.dali_trace.specs.Trace.{Start, records_of, standing_at, waiting, has_
 use Rattle.dali_trace.specs.Legal.{Legal}
 use Rattle.dali_trace.specs.Runs.{AsksAllProper}
 use Rattle.dali_trace.specs.Work.{order_at, order_at_hand}
-use Rattle.dali_laws.proofs.MomentLemmas.{may_keep}
+use Rattle.dali_laws.proofs.SafeLemmas.{may_keep}
 use Rattle.dali_laws.proofs.StandingLemmas.{begun_order, open_order}
 
 abbrev AllValid : List (Contents × Progress) → Type 0

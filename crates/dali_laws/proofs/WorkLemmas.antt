@@ -47,7 +47,7 @@ use Rattle.dali_trace.specs.Work.{stood_at, kept_since, work_limit, look_frames,
 use Rattle.dali_trace.specs.Work.{order_at, IsWithinLimit, IsSaidSo, IsWorked}
 use Rattle.dali_laws.proofs.CourseLemmas.{on_course, idle_next}
 use Rattle.dali_laws.proofs.TakenLemmas.{none_waits_ended, no_opened}
-use Rattle.dali_laws.proofs.MomentLemmas.{may_keep}
+use Rattle.dali_laws.proofs.SafeLemmas.{may_keep}
 
 -- the session at hand wants something
 abbrev InSession : Standing → List Exchange → Type 0

@@ -1,14 +1,10 @@
 -- The sittings of a program that is switched off and begins anew from its journal, and all that happened in them.
-use Rattle.std.specs.Prelude.{◌≡◌, ℕ, List, [], ◌∷◌, ◌++◌}
-use Rattle.dali_bus.specs.World.{World}
-use Rattle.dali_bus.specs.Chain.{AtEachMoment}
+use Rattle.std.specs.Prelude.{◌≡◌, List, [], ◌∷◌, ◌++◌}
 use Rattle.dali_trace.specs.declared.happening.Happening.{Happening}
 use Rattle.dali_trace.specs.declared.happening.Happening.TheVariants.{Stopped}
 use Rattle.dali_trace.specs.Trace.{Start, records_of}
 use Rattle.dali_trace.specs.Legal.{Legal, IsFinished}
 use Rattle.dali_trace.specs.ByPlan.{ByPlan}
-use Rattle.dali_trace.specs.Moments.{Along, IsRight}
-use Rattle.dali_laws.specs.Powered.{unpowered, IsPowerApart}
 
 -- one sitting: what the program started from, and what happened until it was switched off, the newest first
 pub record Sitting : Type 0 where
@@ -34,13 +30,3 @@ FollowOn start (newest ∷ older) =
 abbrev pub IsOneTrace : Start → List Sitting → Type 0
 IsOneTrace start sittings =
     Legal start (joined sittings) × ByPlan start (joined sittings) × IsFinished (joined sittings)
-
--- So along every chain of worlds of them, in which units may lose their power anywhere but between an order and its
--- reply, all is right at each moment.
-abbrev pub SittingsAreRight : Type 0
-SittingsAreRight =
-    (zero : World) (lost : List ℕ) (start : Start) (sittings : List Sitting) (past : List Happening)
-    (first last : World) (states : List World)
-    → FollowOn start sittings → unpowered past ≡ joined sittings → IsPowerApart past
-    → Along zero lost start first past last states
-    → AtEachMoment (IsRight zero lost start) past last states

@@ -1,3 +1,4 @@
 pub mod Law
 pub mod Powered
 pub mod Joined
+pub mod Stays

@@ -1,6 +1,8 @@
 //! Laws of a writer, over its definitions alone. Each is the contract of a function that does nothing.
 
-ghost use Rattle.std.specs.Prelude.{◌≡◌, ◌+◌, ◌*◌, ◌<◌, ◌≤◌, ℕ, List, length};
+ghost use Rattle.std.specs.Prelude.{◌≡◌, ◌+◌, ◌*◌, ◌<◌, ◌≤◌, ℕ, List, [], length};
+ghost use Rattle.dali_bus.specs.World.{World};
+ghost use Rattle.dali_bus.specs.Chain.{IsChain};
 ghost use Rattle.dali_journal.specs.declared.standing.Standing.TheVariants as standings;
 ghost use Rattle.dali_write.specs.Plans.{greatest};
 ghost use Rattle.dali_trace.specs.Work.{work_limit, frames_from};
@@ -10,10 +12,12 @@ ghost use Rattle.dali_trace.specs.Legal.{Legal, IsFinished};
 ghost use Rattle.dali_trace.specs.Steps.{IsSaidInTime};
 ghost use Rattle.dali_trace.specs.ByPlan.{ByPlan};
 ghost use Rattle.dali_laws.specs.Powered.{unpowered, IsPowerApart};
-ghost use Rattle.dali_laws.specs.Joined.{Sitting, FollowOn, IsOneTrace, SittingsAreRight};
+ghost use Rattle.dali_laws.specs.Joined.{Sitting, joined, FollowOn, IsOneTrace};
+ghost use Rattle.dali_laws.specs.Stays.{Stay, IsAlong, IsRightThrough, IsToldFrom, IsStay, IsReady, IsReadyAtRest};
 ghost use Rattle.dali_trace.specs.Next.{IsNext, IsSameBut};
 ghost use Rattle.dali_trace.specs.Work.{IsWorked};
-ghost use Rattle.dali_trace.specs.Moments.{Always, FitsAt, OnlyNamedAt, AppliedAt};
+ghost use Rattle.dali_trace.specs.Moves.{Moves};
+ghost use Rattle.dali_trace.specs.Moments.{Along, Always, FitsAt, OnlyNamedAt, AppliedAt};
 ghost use Rattle.dali_laws.specs.Law.{RecordsAreTrue, RecordsAreASentence, TakenOrdersAreKept, OneReplyIsDue};
 ghost use Rattle.dali_laws.specs.Law.{RepeatsAreAnswered, RepeatsAreQuiet, RefusedOrdersChangeNothing, QuietUntilTaken};
 
@@ -113,13 +117,31 @@ pub fn sittings_are_one_trace()
     ensures { (start : Start) (sittings : List Sitting) → FollowOn start sittings → IsOneTrace start sittings }
 {}
 
-/// Along every chain of worlds of such sittings, whichever units lose their power anywhere but between an order and its
-/// reply, from a world that fits the start world and the start records and in which no unit is write-enabled but the
-/// one that they name: each moment fits, no unit but the named one is enabled, every place that is in no doubt is as
-/// the journal says, and when a record is kept, what it says is so. In the start world the lock bytes of the banks from
-/// 2 up are FFh.
-pub fn every_moment_of_sittings_is_right()
-    ensures { SittingsAreRight }
+/// A stay is a part of what happened, over one set of units; before it and behind it the units may be any others, or
+/// used by anyone. Units may lose their power in it at any moment. From the start on it is told against the start world
+/// and the start's records, as the laws above; from any moment on at which the journal stands idle, against the world
+/// of that moment, as if the journal had been empty. Either way each moment fits, no unit but the named one is enabled,
+/// every place that is in no doubt is as the journal says, and when a record is kept, what it says is so.
+pub fn every_moment_of_a_stay_is_right()
+    // a legal trace from its start on, whether it keeps to the plans or not;
+    ensures trace { (start : Start) (stay : Stay) → Legal start stay.past → IsToldFrom start [] stay → IsAlong stay
+        → IsRightThrough stay }
+    // any part of a legal trace that keeps to the plans;
+    ensures part { (start : Start) (happened : List Happening) (stay : Stay) → Legal start happened
+        → ByPlan start happened → IsStay start happened stay → IsRightThrough stay }
+    // any part of such sittings.
+    ensures sittings { (start : Start) (sittings : List Sitting) (stay : Stay) → FollowOn start sittings
+        → IsStay start (joined sittings) stay → IsRightThrough stay }
+{}
+
+/// Where the journal stands idle in a stay, that is behind each end but one that leaves its unit open, no unit is
+/// write-enabled and the lock bytes of the banks from 2 up are FFh: the units are as the next stay wants them, and it
+/// wants no more of them.
+pub fn each_rest_suits_the_next_stay()
+    ensures ready { (stay : Stay) → IsAlong stay → IsRightThrough stay → IsReadyAtRest stay }
+    ensures begins { (start : Start) (first last : World) (past : List Happening) (states : List World)
+        → IsReady first → IsChain Moves first past last states
+        → Along first [] (record start { records = [] }) first past last states }
 {}
 
 /// After a legal trace one thing is next at most: one record, one frame, one saying, or the reply that is due.

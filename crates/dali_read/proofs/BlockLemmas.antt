@@ -1,12 +1,12 @@
 -- A block read tells each byte at its place, and its unit kept its power from the second frame to the last.
 use Rattle.std.proofs.Common.{◌≡◌, ◌⊎◌, inl, inr, refl, sym, ap, subst, ◌∙◌, ℕ, suc, ◌+◌, ◌<◌, ◌≤◌, List, []}
-use Rattle.std.proofs.Common.{◌∷◌, ◌++◌, length, append_assoc, Option, Some, arith}
+use Rattle.std.proofs.Common.{◌∷◌, ◌++◌, length, append_assoc, Option, Some, None, arith}
 use Rattle.std.specs.Prelude.{◌≢◌, slice_get}
 use Rattle.std.proofs.lemmas.Option.{slice_get_within}
 use Rattle.std.proofs.lemmas.Bool.{ne_eqb}
 use Rattle.dali_frame.specs.declared.forward.Frame.TheVariants.{Dtr0, AskDtr0, AskDtr1, Read}
 use Rattle.dali_bus.specs.World.{World, Gear, byte_in, byte_at}
-use Rattle.dali_bus.specs.Hears.{Hears, up, Ignores, ReadsByte, ReadsNothing}
+use Rattle.dali_bus.specs.Hears.{Hears, Obeys, up}
 use Rattle.dali_bus.specs.Carry.{Carry, WorldStep}
 use Rattle.dali_write.specs.Exchanges.{Exchange}
 use Rattle.dali_write.specs.Requests.{select_requests}
@@ -31,29 +31,30 @@ drifts_same unit first last Stays = refl
 drifts_same unit first last (Loses {mid = mid} at of_these drifts lost) =
     lost.others unit (λ e. of_these.1 (sym e)) ∙ drifts_same unit first mid drifts
 
--- a unit that answers a read moves DTR0 on
+-- a unit that answers a read of bank 1 moves DTR0 on
 answers_moves : (at : ℕ) (old : Gear) (to v : ℕ) (new : Gear) → Hears at old (Read to) (Some v) new
-    → (to ≡ at) × (new.dtr0 ≡ up old.dtr0)
+    → (to ≡ at) × (old.dtr1 ≡ 1 → new.dtr0 ≡ up old.dtr0)
 answers_moves at old to v new h = told h.obeys where
-  told : ((to ≡ at) × (ReadsByte old (Some v) h.obeyed ⊎ ReadsNothing old (Some v) h.obeyed))
-      ⊎ ((to ≢ at) × Ignores old (Some v) h.obeyed)
-      → (to ≡ at) × (new.dtr0 ≡ up old.dtr0)
+  told : Obeys at old (Read to) (Some v) h.obeyed → (to ≡ at) × (old.dtr1 ≡ 1 → new.dtr0 ≡ up old.dtr0)
   told (inl (is, inl read)) =
-      let e = end_steady h.obeyed new h.ends in (is, e.dtr0 ∙ ap (λ (g : Gear). g.dtr0) read.2)
-  told (inl (is, inr nothing)) = let never = nothing.1.3 in cc
+      let e = end_steady h.obeyed new h.ends in (is, λ one. e.dtr0 ∙ ap (λ (g : Gear). g.dtr0) read.2)
+  told (inl (is, inr (inl nothing))) = let never : Some v ≡ None = nothing.1.3 in cc
+  told (inl (is, inr (inr aside))) = (is, λ one. absurd (omega (arith, aside.0, one)))
   told (inr (isnt, ignores)) = let never = ignores.1 in cc
 
 -- so the unit that answered has moved on
 moves_on : (old : World) (unit location byte : ℕ) (new : World) → Carry old (Read unit) (Some byte) new
-    → dtr0_in (old unit) ≡ Some location → dtr0_in (new unit) ≡ Some (up location)
-moves_on old unit location byte new carry place =
+    → dtr1_in (old unit) ≡ Some 1 → dtr0_in (old unit) ≡ Some location → dtr0_in (new unit) ≡ Some (up location)
+moves_on old unit location byte new carry bank place =
     let a = carry.answers in
     let told = answers_moves a.address a.before unit byte a.after a.hears in
     let was : old unit ≡ Some a.before = rw told.0 a.was in
     let is : new unit ≡ Some a.after = rw told.0 a.is in
     let at : Some a.before.dtr0 ≡ Some location = sym (ap dtr0_in was) ∙ place in
     let at_is : a.before.dtr0 ≡ location = cc in
-    ap dtr0_in is ∙ ap Some (told.1 ∙ ap up at_is)
+    let one : Some a.before.dtr1 ≡ Some 1 = sym (ap dtr1_in was) ∙ bank in
+    let one_is : a.before.dtr1 ≡ 1 = cc in
+    ap dtr0_in is ∙ ap Some (told.1 one_is ∙ ap up at_is)
 
 -- below the last location it moves on by one
 pub up_one : (dtr0 : ℕ) → dtr0 < 0xFF → up dtr0 ≡ dtr0 + 1
@@ -80,7 +81,7 @@ reads_stand loses unit location (x ∷ each) first last run all within at =
     let carry = carried run.0 run.1 x (Read unit) (Some byte.0) all.0 byte.1 run.3 in
     let bank = carry_dtr1 run.0 (Read unit) (Some byte.0) run.1 tt carry unit ∙ before.0 in
     let next : up place ≡ location + suc (length each) = up_one place below ∙ omega arith in
-    let moved = moves_on run.0 unit place byte.0 run.1 carry before.1 ∙ ap Some next in
+    let moved = moves_on run.0 unit place byte.0 run.1 carry before.0 before.1 ∙ ap Some next in
     subst (λ (g : Option Gear). StandsAt g (location + suc (length each)))
     (sym (drifts_same {loses = loses} unit run.1 last run.4)) (bank, moved)
 

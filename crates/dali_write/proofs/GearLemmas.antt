@@ -79,7 +79,8 @@ obeying_keeps at old (AskDtr2 to) answer new quiet (inl obeys) = same_keeps old 
 obeying_keeps at old (AskDtr2 to) answer new quiet (inr obeys) = same_keeps old new obeys.1.0
 obeying_keeps at old (Read to) answer new quiet (inl (is, inl read)) =
     rw read.2 (record { memory = refl; off = λ off. refl })
-obeying_keeps at old (Read to) answer new quiet (inl (is, inr nothing)) = passing_keeps old new answer nothing.1
+obeying_keeps at old (Read to) answer new quiet (inl (is, inr (inl nothing))) = passing_keeps old new answer nothing.1
+obeying_keeps at old (Read to) answer new quiet (inl (is, inr (inr aside))) = passing_keeps old new None aside.2
 obeying_keeps at old (Read to) answer new quiet (inr obeys) = same_keeps old new obeys.1.0
 obeying_keeps at old (Other w) answer new quiet obeys = absurd quiet
 
@@ -164,7 +165,8 @@ obeys_dtr1 at old (AskDtr0 to) answer new leaves (inr obeys) = ap (λ (g : Gear)
 obeys_dtr1 at old (AskDtr1 to) answer new leaves (inl obeys) = ap (λ (g : Gear). g.dtr1) obeys.1.0
 obeys_dtr1 at old (AskDtr1 to) answer new leaves (inr obeys) = ap (λ (g : Gear). g.dtr1) obeys.1.0
 obeys_dtr1 at old (Read to) answer new leaves (inl (is, inl read)) = ap (λ (g : Gear). g.dtr1) read.2
-obeys_dtr1 at old (Read to) answer new leaves (inl (is, inr nothing)) = ap (λ (g : Gear). g.dtr1) nothing.1.2
+obeys_dtr1 at old (Read to) answer new leaves (inl (is, inr (inl nothing))) = ap (λ (g : Gear). g.dtr1) nothing.1.2
+obeys_dtr1 at old (Read to) answer new leaves (inl (is, inr (inr aside))) = ap (λ (g : Gear). g.dtr1) aside.2.2
 obeys_dtr1 at old (Read to) answer new leaves (inr obeys) = ap (λ (g : Gear). g.dtr1) obeys.1.0
 obeys_dtr1 at old (Dtr1 byte) answer new leaves obeys = absurd leaves
 obeys_dtr1 at old (Dtr2 byte) answer new leaves obeys = absurd leaves

@@ -7,7 +7,7 @@ use Rattle.dali_frame.specs.declared.forward.Frame.{Frame}
 use Rattle.dali_frame.specs.declared.forward.Frame.TheVariants.{Dtr0, Dtr1, AskDtr0, AskDtr1, Enable, Write}
 use Rattle.dali_bus.specs.World.{World, Gear, Memory, stored, byte_in}
 use Rattle.dali_bus.specs.Power.{relocked, MayRelock}
-use Rattle.dali_bus.specs.Hears.{Hears, Ignores, PassesBy, Stores}
+use Rattle.dali_bus.specs.Hears.{Hears, Obeys, Ignores}
 use Rattle.dali_bus.specs.Carry.{Carry, MayHear, Heard}
 use Rattle.dali_write.specs.Exchanges.{Exchange}
 use Rattle.dali_write.specs.declared.request.Request.{Request}
@@ -177,9 +177,10 @@ write_off at old byte new off heard = (end_steady h.obeyed new h.ends).keeps.off
   h : Hears at old (Write byte) heard.0 new
   h = heard.1
 
-  told : (Stores byte old h.obeyed × (heard.0 ≡ Some byte)) ⊎ PassesBy old heard.0 h.obeyed → h.obeyed.enabled ≡ false
+  told : Obeys at old (Write byte) heard.0 h.obeyed → h.obeyed.enabled ≡ false
   told (inl stores) = let on = stores.0.0 in cc
-  told (inr passes) = ap (λ (g : Gear). g.enabled) passes.2 ∙ off
+  told (inr (inl passes)) = ap (λ (g : Gear). g.enabled) passes.2 ∙ off
+  told (inr (inr (on, aside))) = let never : false ≡ true = sym off ∙ on in cc
 
 -- the same of the unit at an address, if there is one
 write_off_here : (at : ℕ) (old : Option Gear) (byte : ℕ) (new : Option Gear) → MayHear at old (Write byte) new

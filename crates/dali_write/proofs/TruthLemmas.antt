@@ -1,6 +1,6 @@
 -- Checked reads tell the truth, and guarded writes are safe.
 use Rattle.std.proofs.Common.{◌≡◌, ◌⊎◌, refl, sym, ap, subst, ◌∙◌, inl, inr, ℕ, true, false, List, [], ◌∷◌, ◌++◌}
-use Rattle.std.proofs.Common.{Option, Some, None}
+use Rattle.std.proofs.Common.{Option, Some, None, arith}
 use Rattle.std.specs.Prelude.{◌≢◌, Bool, ⊤}
 use Rattle.std.proofs.Math.Dec.{eqb}
 use Rattle.std.proofs.lemmas.Bool.{eqb-true, eqb-false}
@@ -8,7 +8,7 @@ use Rattle.dali_frame.specs.declared.forward.Frame.{Frame}
 use Rattle.dali_frame.specs.declared.forward.Frame.TheVariants.{Dtr0, AskDtr0, AskDtr1, Read, Write}
 use Rattle.dali_bus.specs.World.{World, Gear, Memory, byte_in}
 use Rattle.dali_bus.proofs.OpenLemmas.{is_open}
-use Rattle.dali_bus.specs.Hears.{Hears, MayEnd, Ignores, PassesBy, Stores, ReadsByte, ReadsNothing}
+use Rattle.dali_bus.specs.Hears.{Hears, MayEnd, Obeys, Stores}
 use Rattle.dali_bus.specs.Hears.{selected as selected_byte}
 use Rattle.dali_bus.specs.Carry.{Carry, MayHear, Heard}
 use Rattle.dali_write.specs.Exchanges.{Exchange}
@@ -101,17 +101,21 @@ selects_run loses unit location tried first last run try =
       drifts_have (HasPlace location) (off_place location) unit r4.1 last r4.4 place4,
     )
 
+-- what an answered read tells of a unit that has bank 1 selected
+abbrev IsRead : Gear → ℕ → Gear → Type 0
+IsRead old v new =
+    old.dtr1 ≡ 1 → (selected_byte old ≡ Some v) × (new.enabled ≡ false) × (new.memory ≡ old.memory)
+
 answers_read : (at : ℕ) (old : Gear) (to v : ℕ) (new : Gear) → Hears at old (Read to) (Some v) new
-    → (to ≡ at) × (selected_byte old ≡ Some v) × (new.enabled ≡ false) × (new.memory ≡ old.memory)
+    → (to ≡ at) × IsRead old v new
 answers_read at old to v new h = told h.obeys where
-  told : ((to ≡ at) × (ReadsByte old (Some v) h.obeyed ⊎ ReadsNothing old (Some v) h.obeyed))
-      ⊎ ((to ≢ at) × Ignores old (Some v) h.obeyed)
-      → (to ≡ at) × (selected_byte old ≡ Some v) × (new.enabled ≡ false) × (new.memory ≡ old.memory)
+  told : Obeys at old (Read to) (Some v) h.obeyed → (to ≡ at) × IsRead old v new
   told (inl (is, inl read)) =
       let e = end_steady h.obeyed new h.ends in
       let off : h.obeyed.enabled ≡ false = ap (λ (g : Gear). g.enabled) read.2 in
-      (is, sym read.1, e.keeps.off off, e.keeps.memory ∙ ap (λ (g : Gear). g.memory) read.2)
-  told (inl (is, inr nothing)) = let never = nothing.1.3 in cc
+      (is, λ one. (sym read.1, e.keeps.off off, e.keeps.memory ∙ ap (λ (g : Gear). g.memory) read.2))
+  told (inl (is, inr (inl nothing))) = let never : Some v ≡ None = nothing.1.3 in cc
+  told (inl (is, inr (inr aside))) = (is, λ one. absurd (omega (arith, aside.0, one)))
   told (inr (isnt, ignores)) = let never = ignores.1 in cc
 
 -- what a read tells of a unit that has the bank and the location
@@ -127,8 +131,9 @@ shown old unit location byte new carry bank place =
     let at : Some a.before.dtr0 ≡ Some location = sym (ap dtr0_in was) ∙ place in
     let one_is : a.before.dtr1 ≡ 1 = cc in
     let at_is : a.before.dtr0 ≡ location = cc in
-    let here : a.before.memory 1 location ≡ Some byte = rw (one_is, at_is) at told.1 in
-    (rw is (ap (λ (m : Memory). m 1 location) told.3 ∙ here), rw is told.2)
+    let read = told.1 one_is in
+    let here : a.before.memory 1 location ≡ Some byte = rw (one_is, at_is) at read.0 in
+    (rw is (ap (λ (m : Memory). m 1 location) read.2 ∙ here), rw is read.1)
 
 -- and that it was there when the read reached the unit
 pub held_then : (old : World) (unit location byte : ℕ) (new : World) → Carry old (Read unit) (Some byte) new
@@ -141,7 +146,8 @@ held_then old unit location byte new carry bank place =
     let at : Some a.before.dtr0 ≡ Some location = sym (ap dtr0_in was) ∙ place in
     let one_is : a.before.dtr1 ≡ 1 = cc in
     let at_is : a.before.dtr0 ≡ location = cc in
-    rw was (rw (one_is, at_is) at told.1)
+    let read = told.1 one_is in
+    rw was (rw (one_is, at_is) at read.0)
 
 -- the byte of a whole try
 pub last_answer : (unit location byte : ℕ) (tried : List Exchange) (s : WasRead unit location tried)
@@ -218,10 +224,10 @@ off_write at old byte new off heard = (end_steady h.obeyed new h.ends).keeps.mem
   h : Hears at old (Write byte) heard.0 new
   h = heard.1
 
-  told : (Stores byte old h.obeyed × (heard.0 ≡ Some byte)) ⊎ PassesBy old heard.0 h.obeyed
-      → h.obeyed.memory ≡ old.memory
+  told : Obeys at old (Write byte) heard.0 h.obeyed → h.obeyed.memory ≡ old.memory
   told (inl stores) = let on = stores.0.0 in cc
-  told (inr passes) = (passing_keeps old h.obeyed heard.0 passes).memory
+  told (inr (inl passes)) = (passing_keeps old h.obeyed heard.0 passes).memory
+  told (inr (inr (on, aside))) = (passing_keeps old h.obeyed None aside.2).memory
 
 off_write_here : (at : ℕ) (old : Option Gear) (byte : ℕ) (new : Option Gear) → IsOff old
     → MayHear at old (Write byte) new → memory_of new ≡ memory_of old
@@ -254,24 +260,26 @@ write_here at old location byte new zero one (inr heard) = told h.obeys where
   h : Hears at old (Write byte) heard.0 new
   h = heard.1
 
-  told : (Stores byte old h.obeyed × (heard.0 ≡ Some byte)) ⊎ PassesBy old heard.0 h.obeyed
+  told : Obeys at old (Write byte) heard.0 h.obeyed
       → (new.memory ≡ old.memory) ⊎ Written location byte (Some old.memory) (Some new.memory)
   told (inl stores) = inr (stored_there old location byte h.obeyed new zero one stores.0 h.ends)
-  told (inr passes) =
+  told (inr (inl passes)) =
       inl ((end_steady h.obeyed new h.ends).keeps.memory ∙ (passing_keeps old h.obeyed heard.0 passes).memory)
+  told (inr (inr (on, aside))) = absurd (omega (arith, aside.0, one))
 
 -- a unit that answers a write was enabled, and has stored the byte
 write_answered : (at : ℕ) (old : Gear) (byte v : ℕ) (new : Gear) → Hears at old (Write byte) (Some v) new
     → (old.enabled ≡ true)
     × ((location : ℕ) → old.dtr0 ≡ location → old.dtr1 ≡ 1 → Written location byte (Some old.memory) (Some new.memory))
 write_answered at old byte v new h = told h.obeys where
-  told : (Stores byte old h.obeyed × (Some v ≡ Some byte)) ⊎ PassesBy old (Some v) h.obeyed
+  told : Obeys at old (Write byte) (Some v) h.obeyed
       → (old.enabled ≡ true)
       × ((location : ℕ) → old.dtr0 ≡ location → old.dtr1 ≡ 1
       → Written location byte (Some old.memory) (Some new.memory))
   told (inl stores) =
       (stores.0.0, λ location zero one. stored_there old location byte h.obeyed new zero one stores.0 h.ends)
-  told (inr passes) = let never = passes.3 in cc
+  told (inr (inl passes)) = let never : Some v ≡ None = passes.3 in cc
+  told (inr (inr (on, aside))) = (on, λ location zero one. absurd (omega (arith, aside.0, one)))
 
 off_not_on : (world : World) (address : ℕ) (gear : Gear) → world address ≡ Some gear → gear.enabled ≡ true
     → IsOff (world address) → ⊥

@@ -1,0 +1,156 @@
+-- What worlds hang on in a trace: its frames are safe, and each record is of a sentence and rests on reads. A legal
+-- trace is so; and one that starts where the records stand idle is so as if the journal had been empty.
+use Rattle.std.proofs.Common.{◌≡◌, refl, sym, ap, subst, ℕ, Bool, true, false, ◌||◌, List, [], ◌∷◌, ◌++◌}
+use Rattle.std.proofs.Common.{append-nil, Option, Some, ◌==◌, true≢false}
+use Rattle.std.specs.Prelude.{⊤}
+use Rattle.dali_frame.specs.declared.forward.Frame.{Frame}
+use Rattle.dali_frame.specs.declared.forward.Frame.TheVariants.{Dtr0, Dtr1, Dtr2, Write, WriteSilent, Enable, AskDtr0}
+use Rattle.dali_frame.specs.declared.forward.Frame.TheVariants.{AskDtr1, AskDtr2, Read, Other}
+use Rattle.dali_journal.specs.declared.record.Record.{Record}
+use Rattle.dali_journal.specs.declared.record.Record.TheVariants.{Began}
+use Rattle.dali_journal.specs.declared.standing.Standing.{Standing}
+use Rattle.dali_journal.specs.declared.standing.Standing.TheVariants as standings
+use Rattle.dali_journal.specs.Sentence.{Allows, next_standing, standing_of, named_unit, is_begun, IsNew, IsSentence}
+use Rattle.dali_write.specs.Exchanges.{Exchange}
+use Rattle.dali_write.specs.Reads.{IsPassive, StillRead}
+use Rattle.dali_write.specs.Worlds.{Selects}
+use Rattle.dali_trace.specs.declared.happening.Happening.{Happening}
+use Rattle.dali_trace.specs.declared.happening.Happening.TheVariants.{Asked, Sent, Kept}
+use Rattle.dali_trace.specs.Cut.{kept_in}
+use Rattle.dali_trace.specs.Trace.{Start, records_of, standing_at, sent_of}
+use Rattle.dali_trace.specs.Legal.{Legal, MayFollow, MayKeep, MaySend, MayPut}
+use Rattle.dali_trace.specs.Grounds.{Grounds}
+
+-- What a frame may do behind these exchanges, where the records stand so: enable the named unit; put a byte there that
+-- may be put, at a place that was made sure to be selected; or neither enable nor write.
+pub record IsSafeWrite (sent : List Exchange) (stands : Standing) (byte : ℕ) : Type 0 where
+  pub unit : ℕ
+  pub location : ℕ
+  pub is_named : named_unit stands ≡ Some unit
+  pub may : MayPut stands location byte
+  pub selected : Selects unit location sent
+
+abbrev pub IsSafeFrame : List Exchange → Standing → Frame → Type 0
+IsSafeFrame sent stands (Enable unit) = named_unit stands ≡ Some unit
+IsSafeFrame sent stands (Write byte) = IsSafeWrite sent stands byte
+IsSafeFrame sent stands frame = IsPassive frame
+
+abbrev pub IsSafe : Start → List Happening → Happening → Type 0
+IsSafe start past (Sent frame answer) = IsSafeFrame (sent_of past) (standing_at start past) frame
+IsSafe start past (Kept entry) =
+    IsSentence (entry ∷ records_of start past) × Grounds (StillRead (sent_of past)) (standing_at start past) entry
+IsSafe start past other = ⊤
+
+abbrev pub AllSafe : Start → List Happening → Type 0
+AllSafe start [] = IsSentence start.records
+AllSafe start (next ∷ past) = AllSafe start past × IsSafe start past next
+
+-- A legal trace
+
+-- a record is kept, and a frame sent, only where one may be
+pub may_keep : (start : Start) (past : List Happening) (entry : Record) → MayFollow start past (Kept entry)
+    → MayKeep start past entry
+may_keep start (Asked order moment ∷ past) entry may = absurd may
+may_keep start _ entry may = may
+
+pub may_send : (start : Start) (past : List Happening) (frame : Frame) (answer : Option ℕ)
+    → MayFollow start past (Sent frame answer)
+    → MaySend past (standing_at start past) frame
+may_send start (Asked order moment ∷ past) frame answer may = absurd may
+may_send start _ frame answer may = may
+
+safe_frame : (past : List Happening) (stands : Standing) (frame : Frame) → MaySend past stands frame
+    → IsSafeFrame (sent_of past) stands frame
+safe_frame past stands (Dtr0 byte) may = tt
+safe_frame past stands (Dtr1 byte) may = tt
+safe_frame past stands (AskDtr0 unit) may = tt
+safe_frame past stands (AskDtr1 unit) may = tt
+safe_frame past stands (Read unit) may = tt
+safe_frame past stands (Enable unit) may = may.1
+safe_frame past stands (Write byte) may = record {
+  unit = may.unit;
+  location = may.location;
+  is_named = may.is_named;
+  may = may.may;
+  selected = may.selected;
+}
+safe_frame past stands (Dtr2 byte) may = absurd may
+safe_frame past stands (WriteSilent byte) may = absurd may
+safe_frame past stands (AskDtr2 unit) may = absurd may
+safe_frame past stands (Other word) may = absurd may
+
+pub safe_next : (start : Start) (past : List Happening) (next : Happening) → MayFollow start past next
+    → IsSafe start past next
+safe_next start past (Sent frame answer) may =
+    safe_frame past (standing_at start past) frame (may_send start past frame answer may)
+safe_next start past (Kept entry) may =
+    let kept = may_keep start past entry may in (kept.whole.0, kept.grounds)
+safe_next start past other may = tt
+
+pub legal_safe : (start : Start) (past : List Happening) → Legal start past → AllSafe start past
+legal_safe start [] legal = legal.0
+legal_safe start (next ∷ past) legal = (legal_safe start past legal.0, safe_next start past next legal.1)
+
+-- Behind records at rest, the own ones stand by themselves
+
+pub standing_joined : (own older : List Record) → standing_of older ≡ standings.Idle
+    → standing_of (own ++ older) ≡ standing_of own
+standing_joined [] older rests = rests
+standing_joined (newest ∷ own) older rests =
+    ap (λ (stands : Standing). next_standing stands newest) (standing_joined own older rests)
+
+begun_own : (id : ℕ) (own older : List Record) → is_begun id (own ++ older) ≡ false → is_begun id own ≡ false
+begun_own id [] older e = refl
+begun_own id (Began order moment ∷ own) older e = by (order.id == id) e (begun_own id own older) where
+  by : (same : Bool) → (same || is_begun id (own ++ older)) ≡ false
+      → (is_begun id (own ++ older) ≡ false → is_begun id own ≡ false) → (same || is_begun id own) ≡ false
+  by true e f = absurd (true≢false e)
+  by false e f = f e
+begun_own id (other ∷ own) older e = begun_own id own older e
+
+new_own : (entry : Record) (own older : List Record) → IsNew entry (own ++ older) → IsNew entry own
+new_own (Began order moment) own older new = begun_own order.id own older new
+new_own other own older new = tt
+
+sentence_own : (own older : List Record) → standing_of older ≡ standings.Idle → IsSentence (own ++ older)
+    → IsSentence own
+sentence_own [] older rests sentence = tt
+sentence_own (newest ∷ own) older rests sentence = (
+  sentence_own own older rests sentence.0,
+  subst (λ (stands : Standing). Allows stands newest) (standing_joined own older rests) sentence.1,
+  new_own newest own older sentence.2,
+)
+
+-- what is safe behind all records is safe behind the own ones
+safe_own : (sent : List Exchange) (own older : List Record) (frame : Frame) → standing_of older ≡ standings.Idle
+    → IsSafeFrame sent (standing_of (own ++ older)) frame → IsSafeFrame sent (standing_of own) frame
+safe_own sent own older frame rests safe =
+    subst (λ (stands : Standing). IsSafeFrame sent stands frame) (standing_joined own older rests) safe
+
+pub kept_own : (sent : List Exchange) (own older : List Record) (entry : Record) → standing_of older ≡ standings.Idle
+    → IsSentence (entry ∷ own ++ older) → Grounds (StillRead sent) (standing_of (own ++ older)) entry
+    → IsSentence (entry ∷ own) × Grounds (StillRead sent) (standing_of own) entry
+kept_own sent own older entry rests sentence grounds = (
+  sentence_own (entry ∷ own) older rests sentence,
+  subst (λ (stands : Standing). Grounds (StillRead sent) stands entry) (standing_joined own older rests) grounds,
+)
+
+-- as if the journal had been empty
+abbrev pub afresh : Start → Start
+afresh start = record start { records = [] }
+
+next_afresh : (start : Start) (past : List Happening) (next : Happening) → standing_of start.records ≡ standings.Idle
+    → IsSafe start past next → IsSafe (afresh start) past next
+next_afresh start past (Sent frame answer) rests safe =
+    subst (λ (own : List Record). IsSafeFrame (sent_of past) (standing_of own) frame) (sym (append-nil (kept_in past)))
+    (safe_own (sent_of past) (kept_in past) start.records frame rests safe)
+next_afresh start past (Kept entry) rests safe =
+    subst (λ (own : List Record). IsSentence (entry ∷ own) × Grounds (StillRead (sent_of past)) (standing_of own) entry)
+    (sym (append-nil (kept_in past))) (kept_own (sent_of past) (kept_in past) start.records entry rests safe.0 safe.1)
+next_afresh start past other rests safe = tt
+
+pub safe_afresh : (start : Start) (past : List Happening) → standing_of start.records ≡ standings.Idle
+    → AllSafe start past → AllSafe (afresh start) past
+safe_afresh start [] rests safe = tt
+safe_afresh start (next ∷ past) rests safe =
+    (safe_afresh start past rests safe.0, next_afresh start past next rests safe.1)

@@ -1,0 +1,58 @@
+-- Stays: luminaires come and go, and units are read, verified and used by other masters, while the journal stands idle.
+-- A stay is a part of what happened, over the units that stand on the bus from its first moment to its last.
+use Rattle.std.specs.Prelude.{◌≡◌, ◌⊎◌, ◌++◌, ℕ, List, []}
+use Rattle.dali_bus.specs.World.{World}
+use Rattle.dali_bus.specs.Chain.{AtEachMoment}
+use Rattle.dali_bus.specs.Unenabled.{NoneEnabled}
+use Rattle.dali_journal.specs.declared.standing.Standing.TheVariants.{Idle}
+use Rattle.dali_trace.specs.declared.happening.Happening.{Happening}
+use Rattle.dali_trace.specs.Trace.{Start, standing_at}
+use Rattle.dali_trace.specs.Fits.{IsLockedAbove}
+use Rattle.dali_trace.specs.Moments.{Along, IsRight}
+use Rattle.dali_laws.specs.Powered.{unpowered}
+
+-- What happened in a stay, the newest first, and its worlds; and what these are told against: a start world, the units
+-- that had lost their power, and a start.
+pub record Stay : Type 0 where
+  pub zero : World
+  pub lost : List ℕ
+  pub start : Start
+  pub first : World
+  pub past : List Happening
+  pub last : World
+  pub states : List World
+
+-- it goes along a chain of worlds that suits what it is told against
+abbrev pub IsAlong : Stay → Type 0
+IsAlong stay = Along stay.zero stay.lost stay.start stay.first stay.past stay.last stay.states
+
+-- all is right at each of its moments
+abbrev pub IsRightThrough : Stay → Type 0
+IsRightThrough stay = AtEachMoment (IsRight stay.zero stay.lost stay.start) stay.past stay.last stay.states
+
+-- From the start on a stay is told against just that. From any moment on at which the journal stands idle, whatever
+-- happened before, it is told against the world of that moment, as if the journal had been empty.
+abbrev pub IsToldFrom : Start → List Happening → Stay → Type 0
+IsToldFrom start before stay =
+    ((before ≡ []) × (stay.start ≡ start))
+    ⊎ ((standing_at start before ≡ Idle) × (stay.start ≡ record start { records = [] }) × (stay.zero ≡ stay.first)
+    × (stay.lost ≡ []))
+
+-- A stay is a part of what happened, in which units may besides lose their power at any moment. Before it and behind it
+-- the units may be any.
+pub record IsStay (start : Start) (happened : List Happening) (stay : Stay) : Type 0 where
+  pub before : List Happening
+  pub later : List Happening
+  pub is_part : happened ≡ later ++ (unpowered stay.past ++ before)
+  pub told : IsToldFrom start before stay
+  pub along : IsAlong stay
+
+-- What the units have to be like where a stay begins at which the journal stands idle: none is write-enabled, and the
+-- lock bytes of the banks from 2 up are FFh, as after power-up.
+abbrev pub IsReady : World → Type 0
+IsReady world = NoneEnabled world × IsLockedAbove world
+
+-- they are so wherever the journal stands idle in the stay
+abbrev pub IsReadyAtRest : Stay → Type 0
+IsReadyAtRest stay =
+    AtEachMoment (λ moment now. standing_at stay.start moment ≡ Idle → IsReady now) stay.past stay.last stay.states

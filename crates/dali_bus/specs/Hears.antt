@@ -1,8 +1,8 @@
 -- What a unit may do with a frame that it hears, and what it may answer.
 --
 -- What isn't named stays as it is. A unit may refuse a write, for its lock byte or for any other reason. What it
--- doesn't carry out may move DTR0 on all the same. And its write enable may end at any frame. At a place that its memory
--- leaves out, since it changes by itself, a read or a write may get any answer.
+-- doesn't carry out may move DTR0 on all the same. And its write enable may end at any frame. At a place that its
+-- memory leaves out, since it changes by itself, a read or a write may get any answer.
 use Rattle.std.specs.Prelude.{◌≡◌, ◌≢◌, ◌≤◌, ℕ, ◌+◌, true, false, ◌⊎◌, Option, Some, None, IsSome, IsNone, ◌==◌, ⊤}
 use Rattle.std.specs.Prelude.{if◌then◌else◌}
 use Rattle.dali_frame.specs.declared.forward.Frame.{Frame}

@@ -61,8 +61,8 @@ as_drive start given first writer last f =
 
 -- so is one that came to its end where nothing is known of the replies, whatever is told there behind it
 drive_still : {start : Start} {orders : List (Contents × ℕ)} {then last : Streams} {writer : WriterState}
-    (first : Streams) → IsDrive start orders (muted first) writer then → Keeps then.journal last.journal → Keeps then.link last.link
-    → Keeps then.answers last.answers → IsDrive start orders (muted first) writer last
+    (first : Streams) → IsDrive start orders (muted first) writer then → Keeps then.journal last.journal
+    → Keeps then.link last.link → Keeps then.answers last.answers → IsDrive start orders (muted first) writer last
 drive_still {start} {orders} {then} {last} {writer} first d journal link answers = record {
   past = d.past;
   driven = record {

@@ -200,12 +200,12 @@ module _ (older : JournalState) {limit most : ℕ} {first : Streams} (b : IsBegu
       let same = one_records limit shown b.begun.journal.records records (loads is b.begun) loads_it in
       let own = records_spelling Two b.begun.journal.records in
       let all_between = between_whole older.records (Some (header Two ++ own)) (Some seen) own left refl
-      (rw same at between) in (
+      (rw same at between) in
+      let Behind : List ℕ → Type 0 =
+      λ front. IsBetween (Some front) (Some (bytes_behind older.records seen)) (bytes_behind older.records left) in (
         b.journal.records,
         whole_loads (order_count older + limit) b.journal.records kept_whole,
-        subst (λ (front : List ℕ).
-        IsBetween (Some front) (Some (bytes_behind older.records seen)) (bytes_behind older.records left)) whole_found
-            all_between,
+        subst Behind whole_found all_between,
       )
 
   abbrev StoodWhole : ℕ → List ℕ → Streams → Type 0
@@ -219,8 +219,8 @@ module _ (older : JournalState) {limit most : ℕ} {first : Streams} (b : IsBegu
         → StoodWhole room left last
     ended_stood writer follow =
         stood_in {first = muted (record first { journal = Some found })} (all older.records last) refl
-        (ap (whole older.records) held) (begun_whole room within) (reverse (submitted given)) (part_whole seen left part)
-        writer
+        (ap (whole older.records) held) (begun_whole room within) (reverse (submitted given))
+        (part_whole seen left part) writer
         (drive_whole older.records (made is b.begun) whole_found
         (as_drive (start_of b.journal) given (from b.begun) writer last follow))
 

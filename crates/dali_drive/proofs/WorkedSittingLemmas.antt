@@ -11,7 +11,7 @@ use Rattle.dali_journal.specs.JournalState.{AreKept}
 use Rattle.dali_journal.specs.Loading.{IsTorn, IsLoadable}
 use Rattle.dali_engine.proofs.StopLemmas.{cut_of_some}
 use Rattle.dali_trace.specs.declared.happening.Happening.{Happening}
-use Rattle.dali_trace.specs.declared.happening.Happening.TheVariants.{Sent, Kept}
+use Rattle.dali_trace.specs.declared.happening.Happening.TheVariants.{Sent, Kept, Stopped}
 use Rattle.dali_trace.specs.Legal.{IsFinished}
 use Rattle.dali_trace.specs.Next.{IsNext}
 use Rattle.dali_trace.specs.Moments.{Along}
@@ -20,6 +20,9 @@ use Rattle.dali_trace.specs.WorkedPlans.{first_frame}
 use Rattle.dali_trace.proofs.WorkedLemmas.{begun_legal}
 use Rattle.dali_trace.proofs.WorkedPlanLemmas.{first_planned}
 use Rattle.dali_trace.proofs.BlankLemmas.{goes_along}
+use Rattle.dali_laws.specs.Joined.{Sitting}
+use Rattle.dali_laws.specs.WorkedStays.{at_rest, opened_once}
+use Rattle.dali_laws.proofs.WorkedStayLemmas.{amid, not_right_amid_an_order}
 use Rattle.dali_store.specs.Opened.{Loads}
 use Rattle.dali_store.proofs.OpenLemmas.{whole_loads}
 use Rattle.dali_trace.specs.declared.fault.DriveFault.TheVariants.{Link, NoMemory}
@@ -163,18 +166,37 @@ pub both_along : Along (alone blank_unit) [] empty (alone blank_unit) both_sitti
 both_along = search (goes_along.3, unheard) depth 12
 
 pub both_act_once : ActOnce empty (second_sitting ∷ first_sitting ∷ []) begun_file (record {
-      zero = alone blank_unit;
-      lost = [];
-      start = empty;
-      first = alone blank_unit;
-      past = both_sittings;
-      last = alone blank_unit;
-      states = worlds;
-    })
+  zero = alone blank_unit;
+  lost = [];
+  start = empty;
+  first = alone blank_unit;
+  past = both_sittings;
+  last = alone blank_unit;
+  states = worlds;
+})
 both_act_once =
     act_once empty 100 [] begun_file (second_sitting ∷ first_sitting ∷ []) _
     (record { version = Two; len = 0; kept = none_kept; loadable = (refl, refl, refl) }) both_sat
     (record { before = []; later = []; is_part = refl; told = inl (refl, refl); along = both_along })
+
+-- A unit that came between the two: the second drive is told against what that held then, and acts once over it
+pub over_a_new_unit : ActOnce empty (second_sitting ∷ first_sitting ∷ []) begun_file
+    (at_rest (alone blank_unit) first_frame (alone blank_unit)
+    (alone blank_unit ∷ alone blank_unit ∷ alone blank_unit ∷ alone blank_unit ∷ []))
+over_a_new_unit =
+    act_once empty 100 [] begun_file (second_sitting ∷ first_sitting ∷ []) _
+    (record { version = Two; len = 0; kept = none_kept; loadable = (refl, refl, refl) }) both_sat (record {
+      before = Stopped ∷ taken;
+      later = [];
+      is_part = refl;
+      told = inr (refl, refl, refl, refl);
+      along = search (goes_along.3, unheard) depth 12;
+    })
+
+-- one that came while an order was opened: what is promised of other stays is not so of its
+pub not_once_over_a_unit_that_came_amid : (sittings : List Sitting) (left : List ℕ)
+    → ActOnce opened_once sittings left amid → ⊥
+not_once_over_a_unit_that_came_amid sittings left once = not_right_amid_an_order once.right
 
 -- What is near them and isn't so
 

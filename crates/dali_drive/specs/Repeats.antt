@@ -28,8 +28,8 @@ HaveSat limit most first (newest ∷ older) last =
 
 -- What a bench may rely on that is switched off and on again any number of times, while units lose their power, and
 -- come and go between the stays: all that the program knows of is one legal trace that keeps to the plans, what is left
--- loads to its records, the orders that were begun are the taken ones, each once, every moment of the stay is right, and
--- wherever the journal stands idle in it the units are ready for the next.
+-- loads to its records, the orders that were begun are the taken ones, each once, every moment of the stay is right,
+-- and wherever the journal stands idle in it the units are ready for the next.
 pub record ActOnce (start : Start) (sittings : List Sitting) (left : List ℕ) (stay : Stay) : Type 0 where
   pub trace : IsOneTrace start sittings
   pub file : Loads start.limit (records_of start (joined sittings)) left

@@ -84,9 +84,9 @@ pub fn stops_leave_a_part()
 /// killed), each from what the one before it left there, the first from a journal of either version: together they act
 /// as one, and each order once. While the journal stands idle, between drives or in one, units may be exchanged, read,
 /// verified and used by other masters. Each stay between is right by itself: from a world that fits the start world and
-/// the start records, where it is the first; else from any world in which no unit is write-enabled and the lock bytes of
-/// the banks from 2 up are FFh, as each stay leaves its units where it comes to rest, and as after power-up. Units may
-/// lose their power at any moment.
+/// the start records, where it is the first; else from any world in which no unit is write-enabled and the lock bytes
+/// of the banks from 2 up are FFh, as each stay leaves its units where it comes to rest, and as after power-up. Units
+/// may lose their power at any moment.
 pub fn drives_act_once()
     ensures follow { (start : Start) (most : ℕ) (first left : List ℕ) (sittings : List Sitting)
         → Loads start.limit start.records first → HaveSat start.limit most first sittings left

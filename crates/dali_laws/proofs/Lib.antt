@@ -23,5 +23,7 @@ pub mod StepsLemmas
 pub mod AgreeLemmas
 pub mod PoweredLemmas
 pub mod StayLemmas
+pub mod UnitLemmas
 pub mod JoinLemmas
 pub mod WorkedLawLemmas
+pub mod WorkedStayLemmas

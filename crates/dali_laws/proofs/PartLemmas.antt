@@ -197,7 +197,8 @@ next_part start before part (Sent frame answer) rests safe planned =
     let at : standing_at start (part ++ before) ≡ standing_of (kept_in part) =
     ap standing_of (kept_joined start before part) ∙ standing_joined (kept_in part) (records_of start before) rests in
     let own = part_frame before part (standing_at start (part ++ before)) frame at safe planned in
-    subst (λ (kept : List Record). IsSafeFrame (sent_of part) (standing_of kept) frame) (sym (append-nil (kept_in part)))
+    let SafeAt : List Record → Type 0 = λ kept. IsSafeFrame (sent_of part) (standing_of kept) frame in
+    subst SafeAt (sym (append-nil (kept_in part)))
     (subst (λ (stands : Standing). IsSafeFrame (sent_of part) stands frame) at own)
 next_part start before part (Kept entry) rests safe planned =
     let joined = kept_joined start before part in
@@ -207,8 +208,9 @@ next_part start before part (Kept entry) rests safe planned =
     let own = kept_own (sent_of part) (kept_in part) (records_of start before) entry rests
     (subst (λ (all : List Record). IsSentence (entry ∷ all)) joined safe.0)
     (subst (λ (all : List Record). Grounds (StillRead (sent_of part)) (standing_of all) entry) joined grounds) in
-    subst (λ (kept : List Record). IsSentence (entry ∷ kept) × Grounds (StillRead (sent_of part)) (standing_of kept) entry)
-    (sym (append-nil (kept_in part))) own
+    let SafeAt : List Record → Type 0 =
+    λ kept. IsSentence (entry ∷ kept) × Grounds (StillRead (sent_of part)) (standing_of kept) entry in
+    subst SafeAt (sym (append-nil (kept_in part))) own
 next_part start before part other rests safe planned = tt
 
 pub part_safe : (start : Start) (before part : List Happening) → standing_at start before ≡ standings.Idle

@@ -112,7 +112,7 @@ new_own : (entry : Record) (own older : List Record) → IsNew entry (own ++ old
 new_own (Began order moment) own older new = begun_own order.id own older new
 new_own other own older new = tt
 
-sentence_own : (own older : List Record) → standing_of older ≡ standings.Idle → IsSentence (own ++ older)
+pub sentence_own : (own older : List Record) → standing_of older ≡ standings.Idle → IsSentence (own ++ older)
     → IsSentence own
 sentence_own [] older rests sentence = tt
 sentence_own (newest ∷ own) older rests sentence = (

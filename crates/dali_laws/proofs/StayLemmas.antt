@@ -122,7 +122,8 @@ none_enabled records now rests only address = by (is_enabled now address) refl w
 
 pub ready_at_rest : (stay : Stay) → IsAlong stay → IsRightThrough stay → IsReadyAtRest stay
 ready_at_rest stay along right =
-    part_of (IsRight stay.zero stay.lost stay.start) (λ moment now. standing_at stay.start moment ≡ standings.Idle → IsReady now)
+    part_of (IsRight stay.zero stay.lost stay.start)
+    (λ moment now. standing_at stay.start moment ≡ standings.Idle → IsReady now)
     (λ moment now is rests. (
       none_enabled (records_of stay.start moment) now rests is.1,
       still_locked stay.zero now (records_of stay.start moment) _ along.locked is.0,

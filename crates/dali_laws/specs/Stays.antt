@@ -1,13 +1,14 @@
 -- Stays: luminaires come and go, and units are read, verified and used by other masters, while the journal stands idle.
 -- A stay is a part of what happened, over the units that stand on the bus from its first moment to its last.
-use Rattle.std.specs.Prelude.{◌≡◌, ◌⊎◌, ◌++◌, ℕ, List, []}
+use Rattle.std.specs.Prelude.{◌≡◌, ◌⊎◌, ◌++◌, ◌==◌, ℕ, List, [], None, if◌then◌else◌}
 use Rattle.dali_bus.specs.World.{World}
 use Rattle.dali_bus.specs.Chain.{AtEachMoment}
 use Rattle.dali_bus.specs.Unenabled.{NoneEnabled}
 use Rattle.dali_journal.specs.declared.standing.Standing.TheVariants.{Idle}
 use Rattle.dali_trace.specs.declared.happening.Happening.{Happening}
 use Rattle.dali_trace.specs.Trace.{Start, standing_at}
-use Rattle.dali_trace.specs.Fits.{IsLockedAbove}
+use Rattle.dali_journal.specs.declared.record.Record.{Record}
+use Rattle.dali_trace.specs.Fits.{Fits, IsLockedAbove, IsApplied}
 use Rattle.dali_trace.specs.Moments.{Along, IsRight}
 use Rattle.dali_laws.specs.Powered.{unpowered}
 
@@ -46,6 +47,16 @@ pub record IsStay (start : Start) (happened : List Happening) (stay : Stay) : Ty
   pub is_part : happened ≡ later ++ (unpowered stay.past ++ before)
   pub told : IsToldFrom start before stay
   pub along : IsAlong stay
+
+-- the world with the unit at this address alone
+abbrev pub only_at : ℕ → World → World
+only_at address world other = if other == address then world other else None
+
+-- what stands at an address fits what stood there in the start world, with these records, as a world does
+abbrev pub UnitFits : ℕ → World → List Record → List ℕ → World → Type 0
+UnitFits address zero records lost now =
+    Fits (only_at address zero) records lost (only_at address now)
+    × IsApplied (only_at address zero) records (only_at address now)
 
 -- What the units have to be like where a stay begins at which the journal stands idle: none is write-enabled, and the
 -- lock bytes of the banks from 2 up are FFh, as after power-up.

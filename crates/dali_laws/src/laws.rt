@@ -1,6 +1,6 @@
 //! Laws of a writer, over its definitions alone. Each is the contract of a function that does nothing.
 
-ghost use Rattle.std.specs.Prelude.{◌≡◌, ◌+◌, ◌*◌, ◌<◌, ◌≤◌, ℕ, List, [], length};
+ghost use Rattle.std.specs.Prelude.{◌≡◌, ◌+◌, ◌*◌, ◌<◌, ◌≤◌, ◌++◌, ℕ, List, [], length};
 ghost use Rattle.dali_bus.specs.World.{World};
 ghost use Rattle.dali_bus.specs.Chain.{IsChain};
 ghost use Rattle.dali_journal.specs.declared.standing.Standing.TheVariants as standings;
@@ -13,7 +13,10 @@ ghost use Rattle.dali_trace.specs.Steps.{IsSaidInTime};
 ghost use Rattle.dali_trace.specs.ByPlan.{ByPlan};
 ghost use Rattle.dali_laws.specs.Powered.{unpowered, IsPowerApart};
 ghost use Rattle.dali_laws.specs.Joined.{Sitting, joined, FollowOn, IsOneTrace};
-ghost use Rattle.dali_laws.specs.Stays.{Stay, IsAlong, IsRightThrough, IsToldFrom, IsStay, IsReady, IsReadyAtRest};
+ghost use Rattle.dali_laws.specs.Stays.{Stay, IsAlong, IsRightThrough, IsToldFrom, IsStay, IsReady, IsReadyAtRest, UnitFits};
+ghost use Rattle.dali_journal.specs.declared.record.Record.{Record};
+ghost use Rattle.dali_journal.specs.Sentence.{standing_of, IsSentence};
+ghost use Rattle.dali_trace.specs.Fits.{Fits};
 ghost use Rattle.dali_trace.specs.Next.{IsNext, IsSameBut};
 ghost use Rattle.dali_trace.specs.Work.{IsWorked};
 ghost use Rattle.dali_trace.specs.Moves.{Moves};
@@ -142,6 +145,20 @@ pub fn each_rest_suits_the_next_stay()
     ensures begins { (start : Start) (first last : World) (past : List Happening) (states : List World)
         → IsReady first → IsChain Moves first past last states
         → Along first [] (record start { records = [] }) first past last states }
+{}
+
+/// A luminaire that nobody touched between two stays fits over both: what its memory was when the first began, with the
+/// orders done in both applied once each in journal order. So it may be told of by one stay, whatever came and went at
+/// other short addresses.
+pub fn a_unit_left_standing_fits_over_both()
+    // a world that fits, fits at each address;
+    ensures each { (address : ℕ) (zero now : World) (records : List Record) (lost : List ℕ)
+        → Fits zero records lost now → UnitFits address zero records lost now }
+    // behind records that stand idle what fitted fits on.
+    ensures both { (address : ℕ) (zero middle first now : World) (older own : List Record) (before lost : List ℕ)
+        → standing_of older ≡ standings.Idle → IsSentence (own ++ older)
+        → UnitFits address zero older before middle → first address ≡ middle address
+        → UnitFits address first own lost now → UnitFits address zero (own ++ older) (lost ++ before) now }
 {}
 
 /// After a legal trace one thing is next at most: one record, one frame, one saying, or the reply that is due.

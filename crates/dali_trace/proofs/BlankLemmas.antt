@@ -23,7 +23,7 @@ use Rattle.dali_trace.specs.Worked.{blank, lock_read, all_read_back, ended, said
 use Rattle.dali_trace.proofs.WorkedLemmas.{whole_legal}
 
 -- the unit, alone, hears a frame
-heard : (old new : Gear) (frame : Frame) (answer : Option ℕ) → Hears 5 old frame answer new
+pub heard : (old new : Gear) (frame : Frame) (answer : Option ℕ) → Hears 5 old frame answer new
     → Carry (alone old) frame answer (alone new)
 heard old new frame answer hears =
     record { units = λ address. units address (address == 5) refl; answers = answers answer hears } where
@@ -39,7 +39,7 @@ heard old new frame answer hears =
           record { address = 5; before = old; after = new; was = refl; is = refl; hears = hears }
 
 -- what has come of a blank unit
-abbrev Comes : List Happening → Gear → Type 0
+abbrev pub Comes : List Happening → Gear → Type 0
 Comes past gear = Chain Moves (alone blank_unit) past (alone gear)
 
 -- one frame more
@@ -100,11 +100,11 @@ read_comes past gear location byte there chain =
     h7
 
 -- after a checked write
-abbrev after_write : Gear → ℕ → ℕ → Gear
+abbrev pub after_write : Gear → ℕ → ℕ → Gear
 after_write gear location byte =
     record gear { dtr0 = up location; dtr1 = 1; enabled = true; memory = stored gear.memory 1 location byte }
 
-write_comes : (past : List Happening) (gear : Gear) (location byte old : ℕ) → gear.memory 1 location ≡ Some old
+pub write_comes : (past : List Happening) (gear : Gear) (location byte old : ℕ) → gear.memory 1 location ≡ Some old
     → Comes past gear
     → Comes (write_at 5 location byte past) (after_write gear location byte)
 write_comes past gear location byte old there chain =
@@ -209,13 +209,13 @@ fits = record {
   same : {x : Option ℕ} (first byte : ℕ) → x ≡ Some first → x ≡ Some byte → byte ≡ first
   same first byte was is = cc
 
-only : OnlyNamed empty.records (alone blank_unit)
+pub only : OnlyNamed empty.records (alone blank_unit)
 only address on = off (address == 5) on where
   off : (here : Bool) → is_open (if here then Some blank_unit else None) ≡ true → None ≡ Some address
   off true e = cc
   off false e = cc
 
-locked_above : IsLockedAbove (alone blank_unit)
+pub locked_above : IsLockedAbove (alone blank_unit)
 locked_above address bank byte above is = by (address == 5) is where
   by : (here : Bool) → byte_in (if here then Some blank_unit else None) bank 2 ≡ Some byte → byte ≡ 0xFF
   by true at =

@@ -177,7 +177,13 @@ pub both_act_once : ActOnce empty (second_sitting ∷ first_sitting ∷ []) begu
 both_act_once =
     act_once empty 100 [] begun_file (second_sitting ∷ first_sitting ∷ []) _
     (record { version = Two; len = 0; kept = none_kept; loadable = (refl, refl, refl) }) both_sat
-    (record { before = []; later = []; is_part = refl; told = inl (refl, refl); along = both_along })
+    (record {
+      before = [];
+      later = [];
+      is_part = refl;
+      begins = record { older = []; newest = refl; idle = refl; rests = inl refl };
+      along = both_along;
+    })
 
 -- A unit that came between the two: the second drive is told against what that held then, and acts once over it
 pub over_a_new_unit : ActOnce empty (second_sitting ∷ first_sitting ∷ []) begun_file
@@ -189,7 +195,7 @@ over_a_new_unit =
       before = Stopped ∷ taken;
       later = [];
       is_part = refl;
-      told = inr (refl, refl, refl, refl);
+      begins = record { older = []; newest = refl; idle = refl; rests = inr (inl refl) };
       along = search (goes_along.3, unheard) depth 12;
     })
 

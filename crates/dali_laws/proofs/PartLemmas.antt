@@ -1,14 +1,13 @@
--- A part of a planned trace from a moment on at which the journal stands idle is safe by itself, as if the journal had
--- been empty: the plan reads and selects anew for each order.
-use Rattle.std.proofs.Common.{◌≡◌, refl, sym, ap, subst, ◌∙◌, ℕ, List, [], ◌∷◌, ◌++◌, append_assoc, Option, Some, None}
-use Rattle.std.proofs.Common.{append-nil, true, false}
+-- A part of a planned trace from a moment of rest on is safe by itself: the plan reads and selects anew for each order.
+use Rattle.std.proofs.Common.{◌≡◌, ◌⊎◌, inl, inr, refl, sym, ap, subst, ◌∙◌, ℕ, List, [], ◌∷◌, ◌++◌, append_assoc}
+use Rattle.std.proofs.Common.{Bool, true, false, true≢false, ◌||◌, Option, Some, None, is_some}
 use Rattle.dali_frame.specs.declared.forward.Frame.{Frame}
 use Rattle.dali_frame.specs.declared.forward.Frame.TheVariants.{Write}
 use Rattle.dali_journal.specs.declared.record.Record.{Record}
-use Rattle.dali_journal.specs.declared.record.Record.TheVariants.{Began}
+use Rattle.dali_journal.specs.declared.record.Record.TheVariants.{Began, Closed}
 use Rattle.dali_journal.specs.declared.standing.Standing.{Standing}
 use Rattle.dali_journal.specs.declared.standing.Standing.TheVariants as standings
-use Rattle.dali_journal.specs.Sentence.{standing_of, named_unit, IsSentence}
+use Rattle.dali_journal.specs.Sentence.{Allows, standing_of, named_unit, IsSentence}
 use Rattle.dali_write.specs.Exchanges.{Exchange}
 use Rattle.dali_write.specs.declared.ask.Ask.TheVariants as asks
 use Rattle.dali_write.specs.declared.ask.Verdict.{Verdict}
@@ -19,26 +18,63 @@ use Rattle.dali_write.proofs.GuardLemmas.{opened_guarded, closing_guarded}
 use Rattle.dali_write.proofs.RestLemmas.{older_reads, rests_on_too, opened_rests, closing_rests}
 use Rattle.dali_write.proofs.FreshRestLemmas.{fresh_rests}
 use Rattle.dali_write.proofs.ShapeLemmas.{selected}
+use Rattle.dali_trace.specs.declared.happening.Reply.{Reply}
+use Rattle.dali_trace.specs.declared.happening.Reply.TheVariants as replies
 use Rattle.dali_trace.specs.declared.happening.Happening.{Happening}
-use Rattle.dali_trace.specs.declared.happening.Happening.TheVariants.{Sent, Kept, Stopped}
+use Rattle.dali_trace.specs.declared.happening.Happening.TheVariants.{Asked, Answered, Sent, Kept, Stopped}
 use Rattle.dali_trace.specs.Cut.{since, is_stop, is_turn, frames_in, kept_in}
 use Rattle.dali_trace.proofs.CutLemmas.{since_sooner, frames_joined, frames_next}
-use Rattle.dali_trace.specs.Trace.{Start, records_of, standing_at, sent_of}
-use Rattle.dali_trace.specs.Legal.{Legal}
+use Rattle.dali_trace.specs.Trace.{Start, records_of, standing_at, sent_of, waiting, waits_in, is_at_work, is_busy}
+use Rattle.dali_trace.specs.Trace.{Course, Quiet, Waiting, Working, JustEnded, course_of, unsaid_in}
+use Rattle.dali_trace.specs.Legal.{Legal, MayFollow, MaySend, MayKeep, IsDue}
 use Rattle.dali_trace.specs.ByPlan.{ByPlan, IsPlanned, Asks, told_in}
 use Rattle.dali_trace.specs.Grounds.{Grounds, IsSeen, RestsIfAny, verdict_of, EndsIn}
+use Rattle.dali_laws.proofs.CourseLemmas.{waits_on}
 use Rattle.dali_laws.proofs.RecordLemmas.{grounds_too}
-use Rattle.dali_laws.proofs.SafeLemmas.{IsSafeFrame, IsSafe, AllSafe, safe_next, standing_joined, kept_own}
-use Rattle.dali_laws.proofs.SafeLemmas.{afresh}
+use Rattle.dali_laws.proofs.RepeatLemmas.{legal_sentence}
+use Rattle.dali_laws.proofs.SafeLemmas.{IsSafeFrame, IsSafe, AllSafe, safe_frame, safe_own, kept_own, sentence_own}
+use Rattle.dali_laws.proofs.SafeLemmas.{may_send, may_keep}
 
 -- The session at hand
 
--- behind a record it is that of the part
-told_part : (before part : List Happening) → (kept_in part ≡ [] → ⊥) → told_in (part ++ before) ≡ told_in part
-told_part before [] some = absurd (some refl)
-told_part before (Kept entry ∷ part) some = refl
-told_part before (next ∷ part) some =
-    frames_next (is_turn next) next (since is_turn (part ++ before)) (since is_turn part) (told_part before part some)
+-- nothing is asked for: nothing is at work and no unit left, or one is left and no order waits
+abbrev IsUnasked : Start → List Happening → Type 0
+IsUnasked start past =
+    (standing_at start past ≡ standings.Idle)
+    ⊎ ((left : ℕ) × (standing_at start past ≡ standings.Left left) × (waiting past ≡ None))
+
+-- what the part tells of it, where something is asked for
+abbrev IsOfPart : Start → List Happening → List Happening → Type 0
+IsOfPart start before part = (told_in (part ++ before) ≡ told_in part) ⊎ IsUnasked start (part ++ before)
+
+told_next : (before : List Happening) (next : Happening) (part : List Happening)
+    → told_in (part ++ before) ≡ told_in part → told_in (next ∷ part ++ before) ≡ told_in (next ∷ part)
+told_next before next part same =
+    frames_next (is_turn next) next (since is_turn (part ++ before)) (since is_turn part) same
+
+-- an answer that takes no order leaves nothing to be said where nothing was
+answered : (id : ℕ) (reply : Reply) (past : List Happening) → is_turn (Answered id reply) ≡ false
+    → course_of past ≡ Quiet → course_of (Answered id reply ∷ past) ≡ Quiet
+answered id replies.Taken past other quiet = let never : true ≡ false = other in cc
+answered id reply (Asked order moment ∷ past) other quiet = quiet
+answered id reply _ other quiet = refl
+
+-- behind a record, or from where nothing is said or waits and no order was taken since
+told_part : (before part : List Happening)
+    → (told_in (part ++ before) ≡ told_in part)
+    ⊎ ((kept_in part ≡ []) × (course_of before ≡ Quiet → course_of (part ++ before) ≡ Quiet))
+told_part before [] = inr (refl, λ quiet. quiet)
+told_part before (Kept entry ∷ part) = inl refl
+told_part before (Stopped ∷ part) = inl refl
+told_part before (Answered id replies.Taken ∷ part) = inl refl
+told_part before (Answered id reply ∷ part) = elim (told_part before part) [
+  | inl same ↦ inl (told_next before (Answered id reply) part same)
+  | inr none ↦ inr (none.0, λ quiet. answered id reply (part ++ before) refl (none.1 quiet))
+]
+told_part before (next ∷ part) = elim (told_part before part) [
+  | inl same ↦ inl (told_next before next part same)
+  | inr none ↦ inr none
+]
 
 -- its frames are the newest of those since the last stop
 stop_turns : (next : Happening) → is_stop next ≡ true → is_turn next ≡ true
@@ -99,26 +135,31 @@ planned_frame stands told back more (Write byte) safe asked =
     }
 planned_frame stands told back more other safe asked = safe
 
-part_frame : (before part : List Happening) (stands : Standing) (frame : Frame) → stands ≡ standing_of (kept_in part)
-    → IsSafeFrame (sent_of (part ++ before)) stands frame
-    → Asks stands (told_in (part ++ before)) (asks.Send frame) → IsSafeFrame (sent_of part) stands frame
-part_frame before part stands frame at safe asked = by (kept_in part) refl where
+part_frame : (start : Start) (before part : List Happening) (frame : Frame) → IsOfPart start before part
+    → MaySend (part ++ before) (standing_at start (part ++ before)) frame
+    → Asks (standing_at start (part ++ before)) (told_in (part ++ before)) (asks.Send frame)
+    → IsSafeFrame (sent_of part) (standing_at start (part ++ before)) frame
+part_frame start before part frame of_part may asked = by of_part where
   whole : List Happening
   whole = part ++ before
 
-  by : (kept : List Record) → kept_in part ≡ kept → IsSafeFrame (sent_of part) stands frame
-  by [] none =
-      let idle : stands ≡ standings.Idle = at ∙ ap standing_of none in
-      absurd (subst (λ (st : Standing). Asks st (told_in whole) (asks.Send frame)) idle asked)
-  by (entry ∷ kept) some =
-      let told : told_in whole ≡ told_in part = told_part before part (λ none. cc) in
+  stands : Standing
+  stands = standing_at start whole
+
+  by : IsOfPart start before part → IsSafeFrame (sent_of part) stands frame
+  by (inl told) =
       let all = told_newest whole in
       let own = told_newest part in
       let parts : sent_of whole ≡ told_in part ++ all.0 = all.1 ∙ ap (λ (t : List Exchange). t ++ all.0) told in
       subst (λ (t : List Exchange). IsSafeFrame t stands frame) (sym own.1)
       (planned_frame stands (told_in part) all.0 own.0 frame
-      (subst (λ (t : List Exchange). IsSafeFrame t stands frame) parts safe)
+      (subst (λ (t : List Exchange). IsSafeFrame t stands frame) parts (safe_frame whole stands frame may))
       (subst (λ (t : List Exchange). Asks stands t (asks.Send frame)) told asked))
+  by (inr (inl idle)) =
+      absurd (subst (λ (at : Standing). Asks at (told_in whole) (asks.Send frame)) idle asked)
+  by (inr (inr (left, at, none))) =
+      let waits = waits_on whole left frame (subst (λ (st : Standing). MaySend whole st frame) at may) in
+      let never : false ≡ true = sym (ap is_some none) ∙ waits in cc
 
 -- Records
 
@@ -142,27 +183,7 @@ planned_grounds (standings.Opened order) told verdict entry asked ends =
 planned_grounds (standings.Left unit) told verdict entry asked ends =
     verdict_grounds (StillRead told unit) [] verdict entry ends.1 (closing_rests told unit verdict asked)
 
--- a record of the part rests on reads of the part
-part_ended : (before part : List Happening) (stands : Standing) (verdict : Verdict) (entry : Record)
-    → stands ≡ standing_of (kept_in part) → Asks stands (told_in (part ++ before)) (asks.Ended verdict)
-    → EndsIn stands verdict entry → Grounds (StillRead (sent_of part)) stands entry
-part_ended before part stands verdict entry at asked ends = by (kept_in part) refl where
-  whole : List Happening
-  whole = part ++ before
-
-  by : (kept : List Record) → kept_in part ≡ kept → Grounds (StillRead (sent_of part)) stands entry
-  by [] none =
-      let idle : stands ≡ standings.Idle = at ∙ ap standing_of none in
-      absurd (subst (λ (st : Standing). Asks st (told_in whole) (asks.Ended verdict)) idle asked)
-  by (newest ∷ kept) some =
-      let told : told_in whole ≡ told_in part = told_part before part (λ none. cc) in
-      let own = told_newest part in
-      let grounds = planned_grounds stands (told_in part) verdict entry
-      (subst (λ (t : List Exchange). Asks stands t (asks.Ended verdict)) told asked) ends in
-      subst (λ (t : List Exchange). Grounds (StillRead t) stands entry) (sym own.1)
-      (grounds_too (StillRead (told_in part)) (StillRead (told_in part ++ own.0))
-      (λ unit location byte stood. older_reads (told_in part) own.0 unit location byte stood) stands entry grounds)
-
+-- one that tells of no verdict rests on nothing
 began_grounds : (shows : ℕ → ℕ → ℕ → Type 0) (stands : Standing) (entry : Record) → verdict_of entry ≡ None
     → Grounds shows stands entry
 began_grounds shows standings.Idle entry none = tt
@@ -173,14 +194,41 @@ began_grounds shows (standings.Opened order) entry none =
 began_grounds shows (standings.Left unit) entry none =
     subst (λ (told : Option Verdict). RestsIfAny (shows unit) [] told) (sym none) tt
 
-part_grounds : (start : Start) (before part : List Happening) (entry : Record)
-    → standing_at start (part ++ before) ≡ standing_of (kept_in part)
-    → IsPlanned start (part ++ before) (Kept entry)
+-- a record of the plan rests on what the session at hand read
+record_grounds : (start : Start) (past : List Happening) (entry : Record) → IsPlanned start past (Kept entry)
+    → Grounds (StillRead (told_in past)) (standing_at start past) entry
+record_grounds start past (Began order moment) planned =
+    began_grounds (StillRead (told_in past)) (standing_at start past) (Began order moment) refl
+record_grounds start past other planned =
+    planned_grounds (standing_at start past) (told_in past) planned.0 other planned.1 planned.2
+
+-- where nothing is asked for, only an order is begun
+unasked_grounds : (shows : ℕ → ℕ → ℕ → Type 0) (start : Start) (past : List Happening) (entry : Record)
+    → IsUnasked start past → Allows (standing_at start past) entry → IsDue past entry
+    → Grounds shows (standing_at start past) entry
+unasked_grounds shows start past entry (inl idle) allowed due =
+    subst (λ (stands : Standing). Grounds shows stands entry) (sym idle) tt
+unasked_grounds shows start past entry (inr (left, at, none)) allowed due =
+    by entry (subst (λ (stands : Standing). Allows stands entry) at allowed) due
+  where
+    by : (entry : Record) → Allows (standings.Left left) entry → IsDue past entry
+        → Grounds shows (standing_at start past) entry
+    by (Closed unit) allowed due = let never : false ≡ true = sym (ap is_some none) ∙ due.0 in cc
+    by _ allowed due = absurd allowed
+
+part_grounds : (start : Start) (before part : List Happening) (entry : Record) → IsOfPart start before part
+    → MayKeep start (part ++ before) entry → IsPlanned start (part ++ before) (Kept entry)
     → Grounds (StillRead (sent_of part)) (standing_at start (part ++ before)) entry
-part_grounds start before part (Began order moment) at planned =
-    began_grounds (StillRead (sent_of part)) (standing_at start (part ++ before)) (Began order moment) refl
-part_grounds start before part other at planned =
-    part_ended before part (standing_at start (part ++ before)) planned.0 other at planned.1 planned.2
+part_grounds start before part entry (inl told) may planned =
+    let own = told_newest part in
+    let stands = standing_at start (part ++ before) in
+    let grounds = record_grounds start (part ++ before) entry planned in
+    subst (λ (t : List Exchange). Grounds (StillRead t) stands entry) (sym own.1)
+    (grounds_too (StillRead (told_in part)) (StillRead (told_in part ++ own.0))
+    (λ unit location byte stood. older_reads (told_in part) own.0 unit location byte stood) stands entry
+    (subst (λ (t : List Exchange). Grounds (StillRead t) stands entry) told grounds))
+part_grounds start before part entry (inr unasked) may planned =
+    unasked_grounds (StillRead (sent_of part)) start (part ++ before) entry unasked may.whole.0.1 may.due
 
 -- The part
 
@@ -190,33 +238,73 @@ kept_joined start before [] = refl
 kept_joined start before (Kept entry ∷ part) = ap (◌∷◌ entry) (kept_joined start before part)
 kept_joined start before (other ∷ part) = kept_joined start before part
 
-next_part : (start : Start) (before part : List Happening) (next : Happening)
-    → standing_at start before ≡ standings.Idle → IsSafe start (part ++ before) next
-    → IsPlanned start (part ++ before) next → IsSafe (afresh start) part next
-next_part start before part (Sent frame answer) rests safe planned =
-    let at : standing_at start (part ++ before) ≡ standing_of (kept_in part) =
-    ap standing_of (kept_joined start before part) ∙ standing_joined (kept_in part) (records_of start before) rests in
-    let own = part_frame before part (standing_at start (part ++ before)) frame at safe planned in
-    let SafeAt : List Record → Type 0 = λ kept. IsSafeFrame (sent_of part) (standing_of kept) frame in
-    subst SafeAt (sym (append-nil (kept_in part)))
-    (subst (λ (stands : Standing). IsSafeFrame (sent_of part) stands frame) at own)
-next_part start before part (Kept entry) rests safe planned =
-    let joined = kept_joined start before part in
-    let at : standing_at start (part ++ before) ≡ standing_of (kept_in part) =
-    ap standing_of joined ∙ standing_joined (kept_in part) (records_of start before) rests in
-    let grounds = part_grounds start before part entry at planned in
-    let own = kept_own (sent_of part) (kept_in part) (records_of start before) entry rests
-    (subst (λ (all : List Record). IsSentence (entry ∷ all)) joined safe.0)
-    (subst (λ (all : List Record). Grounds (StillRead (sent_of part)) (standing_of all) entry) joined grounds) in
-    let SafeAt : List Record → Type 0 =
-    λ kept. IsSentence (entry ∷ kept) × Grounds (StillRead (sent_of part)) (standing_of kept) entry in
-    subst SafeAt (sym (append-nil (kept_in part))) own
-next_part start before part other rests safe planned = tt
+quiet_when_free : (start : Start) (past : List Happening) → is_busy start past ≡ false → course_of past ≡ Quiet
+quiet_when_free start past free = by (is_at_work (standing_at start past)) (course_of past) free where
+  by : (works : Bool) (course : Course) → (works || unsaid_in course) ≡ false → course ≡ Quiet
+  by false Quiet e = refl
+  by false (Waiting order moment) e = absurd (true≢false e)
+  by false Working e = absurd (true≢false e)
+  by false JustEnded e = absurd (true≢false e)
+  by true course e = absurd (true≢false e)
 
-pub part_safe : (start : Start) (before part : List Happening) → standing_at start before ≡ standings.Idle
-    → Legal start (part ++ before) → ByPlan start (part ++ before) → AllSafe (afresh start) part
-part_safe start before [] rests legal planned = tt
-part_safe start before (next ∷ part) rests legal planned = (
-  part_safe start before part rests legal.0 planned.0,
-  next_part start before part next rests (safe_next start (part ++ before) next legal.1) planned.1,
-)
+busy_at_work : (start : Start) (past : List Happening) → is_at_work (standing_at start past) ≡ true
+    → is_busy start past ≡ true
+busy_at_work start past works = rw works refl
+
+-- a part from a moment of rest on
+module _ (start own : Start) (before : List Happening) (older : List Record)
+    (newest : records_of start before ≡ own.records ++ older) (idle : standing_of older ≡ standings.Idle)
+    (rests : (standing_at start before ≡ standings.Idle) ⊎ (is_busy start before ≡ false)) where
+  records_part : (part : List Happening) → records_of start (part ++ before) ≡ records_of own part ++ older
+  records_part part =
+      kept_joined start before part ∙ ap (λ (records : List Record). kept_in part ++ records) newest
+      ∙ sym (append_assoc (kept_in part) own.records older)
+
+  none_kept : (part : List Happening) → kept_in part ≡ []
+      → standing_at start (part ++ before) ≡ standing_at start before
+  none_kept part none =
+      ap standing_of (kept_joined start before part ∙ ap (λ (kept : List Record). kept ++ records_of start before) none)
+
+  of_part : (part : List Happening) → IsOfPart start before part
+  of_part part = by (told_part before part) rests where
+    quiet : (stands : Standing) → standing_at start before ≡ stands → is_busy start before ≡ false
+        → (kept_in part ≡ []) × (course_of before ≡ Quiet → course_of (part ++ before) ≡ Quiet)
+        → IsUnasked start (part ++ before)
+    quiet standings.Idle at free none = inl (none_kept part none.0 ∙ at)
+    quiet (standings.Left left) at free none =
+        inr (left, none_kept part none.0 ∙ at, ap waits_in (none.1 (quiet_when_free start before free)))
+    quiet (standings.Began order) at free none =
+        let never : true ≡ false = sym (busy_at_work start before (ap is_at_work at)) ∙ free in cc
+    quiet (standings.Opened order) at free none =
+        let never : true ≡ false = sym (busy_at_work start before (ap is_at_work at)) ∙ free in cc
+
+    by : (told_in (part ++ before) ≡ told_in part)
+        ⊎ ((kept_in part ≡ []) × (course_of before ≡ Quiet → course_of (part ++ before) ≡ Quiet))
+        → (standing_at start before ≡ standings.Idle) ⊎ (is_busy start before ≡ false)
+        → IsOfPart start before part
+    by (inl told) rests = inl told
+    by (inr none) (inl at) = inr (inl (none_kept part none.0 ∙ at))
+    by (inr none) (inr free) = inr (quiet (standing_at start before) refl free none)
+
+  next_part : (part : List Happening) (next : Happening) → MayFollow start (part ++ before) next
+      → IsPlanned start (part ++ before) next → IsSafe own part next
+  next_part part (Sent frame answer) may planned =
+      let send = may_send start (part ++ before) frame answer may in
+      let safe = part_frame start before part frame (of_part part) send planned in
+      safe_own (sent_of part) (records_of own part) older frame idle
+      (subst (λ (all : List Record). IsSafeFrame (sent_of part) (standing_of all) frame) (records_part part) safe)
+  next_part part (Kept entry) may planned =
+      let keep = may_keep start (part ++ before) entry may in
+      let grounds = part_grounds start before part entry (of_part part) keep planned in
+      kept_own (sent_of part) (records_of own part) older entry idle
+      (subst (λ (all : List Record). IsSentence (entry ∷ all)) (records_part part) keep.whole.0)
+      (subst (λ (all : List Record). Grounds (StillRead (sent_of part)) (standing_of all) entry) (records_part part)
+      grounds)
+  next_part part other may planned = tt
+
+  pub part_safe : (part : List Happening) → Legal start (part ++ before) → ByPlan start (part ++ before)
+      → AllSafe own part
+  part_safe [] legal planned =
+      sentence_own own.records older idle (subst IsSentence newest (legal_sentence start before legal).0)
+  part_safe (next ∷ part) legal planned =
+      (part_safe part legal.0 planned.0, next_part part next legal.1 planned.1)

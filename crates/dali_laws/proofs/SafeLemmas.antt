@@ -1,7 +1,7 @@
 -- What worlds hang on in a trace: its frames are safe, and each record is of a sentence and rests on reads. A legal
--- trace is so; and one that starts where the records stand idle is so as if the journal had been empty.
+-- trace is so; and so it is of the newest records alone, back to where the journal stood idle.
 use Rattle.std.proofs.Common.{◌≡◌, refl, sym, ap, subst, ℕ, Bool, true, false, ◌||◌, List, [], ◌∷◌, ◌++◌}
-use Rattle.std.proofs.Common.{append-nil, Option, Some, ◌==◌, true≢false}
+use Rattle.std.proofs.Common.{append_assoc, ◌∙◌, Option, Some, ◌==◌, true≢false}
 use Rattle.std.specs.Prelude.{⊤}
 use Rattle.dali_frame.specs.declared.forward.Frame.{Frame}
 use Rattle.dali_frame.specs.declared.forward.Frame.TheVariants.{Dtr0, Dtr1, Dtr2, Write, WriteSilent, Enable, AskDtr0}
@@ -59,7 +59,7 @@ pub may_send : (start : Start) (past : List Happening) (frame : Frame) (answer :
 may_send start (Asked order moment ∷ past) frame answer may = absurd may
 may_send start _ frame answer may = may
 
-safe_frame : (past : List Happening) (stands : Standing) (frame : Frame) → MaySend past stands frame
+pub safe_frame : (past : List Happening) (stands : Standing) (frame : Frame) → MaySend past stands frame
     → IsSafeFrame (sent_of past) stands frame
 safe_frame past stands (Dtr0 byte) may = tt
 safe_frame past stands (Dtr1 byte) may = tt
@@ -79,7 +79,7 @@ safe_frame past stands (WriteSilent byte) may = absurd may
 safe_frame past stands (AskDtr2 unit) may = absurd may
 safe_frame past stands (Other word) may = absurd may
 
-pub safe_next : (start : Start) (past : List Happening) (next : Happening) → MayFollow start past next
+safe_next : (start : Start) (past : List Happening) (next : Happening) → MayFollow start past next
     → IsSafe start past next
 safe_next start past (Sent frame answer) may =
     safe_frame past (standing_at start past) frame (may_send start past frame answer may)
@@ -93,7 +93,7 @@ legal_safe start (next ∷ past) legal = (legal_safe start past legal.0, safe_ne
 
 -- Behind records at rest, the own ones stand by themselves
 
-pub standing_joined : (own older : List Record) → standing_of older ≡ standings.Idle
+standing_joined : (own older : List Record) → standing_of older ≡ standings.Idle
     → standing_of (own ++ older) ≡ standing_of own
 standing_joined [] older rests = rests
 standing_joined (newest ∷ own) older rests =
@@ -122,7 +122,7 @@ sentence_own (newest ∷ own) older rests sentence = (
 )
 
 -- what is safe behind all records is safe behind the own ones
-safe_own : (sent : List Exchange) (own older : List Record) (frame : Frame) → standing_of older ≡ standings.Idle
+pub safe_own : (sent : List Exchange) (own older : List Record) (frame : Frame) → standing_of older ≡ standings.Idle
     → IsSafeFrame sent (standing_of (own ++ older)) frame → IsSafeFrame sent (standing_of own) frame
 safe_own sent own older frame rests safe =
     subst (λ (stands : Standing). IsSafeFrame sent stands frame) (standing_joined own older rests) safe
@@ -135,22 +135,27 @@ kept_own sent own older entry rests sentence grounds = (
   subst (λ (stands : Standing). Grounds (StillRead sent) stands entry) (standing_joined own older rests) grounds,
 )
 
--- as if the journal had been empty
-abbrev pub afresh : Start → Start
-afresh start = record start { records = [] }
+-- the records so far are those behind the older ones, where they were at the start
+pub records_own : (start own : Start) (past : List Happening) (older : List Record)
+    → start.records ≡ own.records ++ older → records_of start past ≡ records_of own past ++ older
+records_own start own past older newest =
+    ap (λ (records : List Record). kept_in past ++ records) newest
+    ∙ sym (append_assoc (kept_in past) own.records older)
 
-next_afresh : (start : Start) (past : List Happening) (next : Happening) → standing_of start.records ≡ standings.Idle
-    → IsSafe start past next → IsSafe (afresh start) past next
-next_afresh start past (Sent frame answer) rests safe =
-    subst (λ (own : List Record). IsSafeFrame (sent_of past) (standing_of own) frame) (sym (append-nil (kept_in past)))
-    (safe_own (sent_of past) (kept_in past) start.records frame rests safe)
-next_afresh start past (Kept entry) rests safe =
-    subst (λ (own : List Record). IsSentence (entry ∷ own) × Grounds (StillRead (sent_of past)) (standing_of own) entry)
-    (sym (append-nil (kept_in past))) (kept_own (sent_of past) (kept_in past) start.records entry rests safe.0 safe.1)
-next_afresh start past other rests safe = tt
+next_own : (start own : Start) (past : List Happening) (older : List Record) (next : Happening)
+    → start.records ≡ own.records ++ older → standing_of older ≡ standings.Idle
+    → IsSafe start past next → IsSafe own past next
+next_own start own past older (Sent frame answer) newest rests safe =
+    safe_own (sent_of past) (records_of own past) older frame rests
+    (rw (records_own start own past older newest) at safe)
+next_own start own past older (Kept entry) newest rests safe =
+    let both = rw (records_own start own past older newest) at safe in
+    kept_own (sent_of past) (records_of own past) older entry rests both.0 both.1
+next_own start own past older other newest rests safe = tt
 
-pub safe_afresh : (start : Start) (past : List Happening) → standing_of start.records ≡ standings.Idle
-    → AllSafe start past → AllSafe (afresh start) past
-safe_afresh start [] rests safe = tt
-safe_afresh start (next ∷ past) rests safe =
-    (safe_afresh start past rests safe.0, next_afresh start past next rests safe.1)
+pub all_own : (start own : Start) (past : List Happening) (older : List Record)
+    → start.records ≡ own.records ++ older → standing_of older ≡ standings.Idle
+    → AllSafe start past → AllSafe own past
+all_own start own [] older newest rests safe = sentence_own own.records older rests (rw newest at safe)
+all_own start own (next ∷ past) older newest rests safe =
+    (all_own start own past older newest rests safe.0, next_own start own past older next newest rests safe.1)

@@ -1,6 +1,6 @@
 -- Each stay is right by itself, and where it comes to rest the units are ready for the next one.
 use Rattle.std.proofs.Common.{◌≡◌, inl, inr, refl, sym, ap, subst, ◌∙◌, ℕ, true, false, true≢false, List, [], ◌∷◌, ◌++◌}
-use Rattle.std.proofs.Common.{append-nil, Bool, Option, Some, None, is_some, arith}
+use Rattle.std.proofs.Common.{◌⊎◌, append-nil, Bool, Option, Some, None, is_some, arith}
 use Rattle.dali_bus.specs.World.{World, byte_at, is_enabled}
 use Rattle.dali_bus.specs.Chain.{IsChain}
 use Rattle.dali_journal.specs.declared.standing.Standing.TheVariants as standings
@@ -10,15 +10,17 @@ use Rattle.dali_journal.specs.Orders.{orders_of}
 use Rattle.dali_trace.specs.declared.happening.Happening.{Happening}
 use Rattle.dali_trace.specs.declared.happening.Happening.TheVariants.{Sent, Kept, Powered}
 use Rattle.dali_trace.specs.Cut.{is_stop}
-use Rattle.dali_trace.specs.Trace.{Start, records_of, standing_at, sent_of}
+use Rattle.dali_trace.specs.Trace.{Start, records_of, standing_at, sent_of, is_busy}
 use Rattle.dali_trace.specs.Legal.{Legal}
 use Rattle.dali_trace.specs.ByPlan.{ByPlan}
 use Rattle.dali_trace.specs.Moves.{Moves}
 use Rattle.dali_trace.specs.Fits.{Fits, IsLockedAbove, OnlyNamed}
 use Rattle.dali_trace.specs.Moments.{Along, IsRight}
 use Rattle.dali_laws.specs.Powered.{unpowered}
-use Rattle.dali_laws.specs.Stays.{Stay, IsAlong, IsRightThrough, IsToldFrom, IsStay, IsReady, IsReadyAtRest}
-use Rattle.dali_laws.proofs.SafeLemmas.{IsSafe, AllSafe, legal_safe, safe_afresh, afresh}
+use Rattle.dali_laws.specs.Stays.{Stay, IsAlong, IsRightThrough, Begins, IsStay, IsReady, IsReadyAtRest, left_by}
+use Rattle.dali_laws.proofs.SafeLemmas.{IsSafe, AllSafe, legal_safe, all_own}
+use Rattle.dali_bank.specs.Order.{Contents}
+use Rattle.dali_trace.specs.Possible.{InDoubt, MayHold, byte_for}
 use Rattle.dali_laws.proofs.PartLemmas.{part_safe}
 use Rattle.dali_laws.proofs.PoweredLemmas.{same_records, same_frames}
 use Rattle.dali_laws.proofs.FrameLemmas.{only_first}
@@ -57,25 +59,32 @@ older_planned start (next ∷ later) past planned = older_planned start later pa
 
 stay_safe : (start : Start) (happened : List Happening) (stay : Stay) → Legal start happened → ByPlan start happened
     → IsStay start happened stay → AllSafe stay.start stay.past
-stay_safe start happened stay legal planned is = by is.told where
-  part : List Happening
-  part = unpowered stay.past
+stay_safe start happened stay legal planned is =
+    powered_safe stay.start stay.past (by is.begins.rests)
+  where
+    part : List Happening
+    part = unpowered stay.past
 
-  all_legal : Legal start (part ++ is.before)
-  all_legal = older_legal start is.later (part ++ is.before) (subst (Legal start) is.is_part legal)
+    all_legal : Legal start (part ++ is.before)
+    all_legal = older_legal start is.later (part ++ is.before) (subst (Legal start) is.is_part legal)
 
-  all_planned : ByPlan start (part ++ is.before)
-  all_planned = older_planned start is.later (part ++ is.before) (subst (ByPlan start) is.is_part planned)
+    all_planned : ByPlan start (part ++ is.before)
+    all_planned = older_planned start is.later (part ++ is.before) (subst (ByPlan start) is.is_part planned)
 
-  by : IsToldFrom start is.before stay → AllSafe stay.start stay.past
-  by (inl (none, same)) =
-      let alone : Legal start part =
-      subst (Legal start) (ap (λ (t : List Happening). part ++ t) none ∙ append-nil part) all_legal in
-      subst (λ (from : Start). AllSafe from stay.past) (sym same)
-      (powered_safe start stay.past (legal_safe start part alone))
-  by (inr (rests, same, first, lost)) =
-      subst (λ (from : Start). AllSafe from stay.past) (sym same)
-      (powered_safe (afresh start) stay.past (part_safe start is.before part rests all_legal all_planned))
+    at_rest : (standing_at start is.before ≡ standings.Idle) ⊎ (is_busy start is.before ≡ false)
+        → AllSafe stay.start part
+    at_rest rests =
+        part_safe start stay.start is.before is.begins.older is.begins.newest is.begins.idle rests part all_legal
+        all_planned
+
+    by : (is.before ≡ []) ⊎ (standing_at start is.before ≡ standings.Idle) ⊎ (is_busy start is.before ≡ false)
+        → AllSafe stay.start part
+    by (inl none) =
+        let alone : Legal start part =
+        subst (Legal start) (ap (λ (t : List Happening). part ++ t) none ∙ append-nil part) all_legal in
+        let newest = ap (records_of start) (sym none) ∙ is.begins.newest in
+        all_own start stay.start part is.begins.older newest is.begins.idle (legal_safe start part alone)
+    by (inr rests) = at_rest rests
 
 along_right : (stay : Stay) → AllSafe stay.start stay.past → IsAlong stay → IsRightThrough stay
 along_right stay safe along =
@@ -87,15 +96,11 @@ stay_right start happened stay legal planned is =
     along_right stay (stay_safe start happened stay legal planned is) is.along
 
 -- a legal trace, whether planned or not, from its start on
-pub trace_right : (start : Start) (stay : Stay) → Legal start stay.past → IsToldFrom start [] stay → IsAlong stay
+pub trace_right : (start : Start) (stay : Stay) → Legal start stay.past → Begins start [] stay → IsAlong stay
     → IsRightThrough stay
-trace_right start stay legal told along = along_right stay (by told) along where
-  by : IsToldFrom start [] stay → AllSafe stay.start stay.past
-  by (inl (none, same)) =
-      subst (λ (from : Start). AllSafe from stay.past) (sym same) (legal_safe start stay.past legal)
-  by (inr (rests, same, first, lost)) =
-      subst (λ (from : Start). AllSafe from stay.past) (sym same)
-      (safe_afresh start stay.past rests (legal_safe start stay.past legal))
+trace_right start stay legal begins along =
+    along_right stay (all_own start stay.start stay.past begins.older begins.newest begins.idle
+    (legal_safe start stay.past legal)) along
 
 -- Rest
 
@@ -129,18 +134,45 @@ ready_at_rest stay along right =
       still_locked stay.zero now (records_of stay.start moment) _ along.locked is.0,
     )) stay.past stay.last stay.states right
 
--- so a stay may begin with such units
-pub ready_begins : (start : Start) (first last : World) (past : List Happening) (states : List World) → IsReady first
-    → IsChain Moves first past last states → Along first [] (afresh start) first past last states
-ready_begins start first last past states ready chain = record {
+-- So a stay may begin with such units: what they hold is what it is told against. And with those that stand there where
+-- a unit is left, whose order leaves its places as they are or not.
+
+same_byte : (held : Option ℕ) (first byte : ℕ) → held ≡ Some first → held ≡ Some byte → byte ≡ first
+same_byte held first byte was is = cc
+
+pub ready_begins : (first last : World) (past : List Happening) (states : List World) (limit : ℕ) → IsReady first
+    → IsChain Moves first past last states
+    → Along first [] (record { records = []; limit = limit }) first past last states
+ready_begins first last past states limit ready chain = record {
   locked = ready.1;
   fits = record {
     places = λ address bank location. refl;
-    bytes = λ address bank location held byte lock was is. by held byte (sym was ∙ is);
+    bytes = λ address bank location held byte lock was is.
+        same_byte (byte_at first address bank location) held byte was is;
     locks = λ address closed. inl refl;
   };
   only = λ address on. absurd (true≢false (sym on ∙ ready.0 address));
   chain = chain;
-} where
-  by : (held byte : ℕ) → Some held ≡ Some byte → byte ≡ held
-  by held byte same = cc
+}
+
+-- an order in doubt leaves a byte as it was
+old_holds : (found : Option ℕ) (first byte : ℕ) → byte ≡ first → MayHold InDoubt found (λ b. b ≡ first) byte
+old_holds None first byte same = same
+old_holds (Some update) first byte same = inl same
+
+pub left_begins : (first last : World) (past : List Happening) (states : List World) (order : Contents)
+    (moment unit limit : ℕ) → IsLockedAbove first
+    → OnlyNamed (left_by order moment unit) first → IsChain Moves first past last states
+    → Along first [] (record { records = left_by order moment unit; limit = limit }) first past last states
+left_begins first last past states order moment unit limit locked only chain = record {
+  locked = locked;
+  fits = record {
+    places = λ address bank location. refl;
+    bytes = λ address bank location held byte lock was is.
+        old_holds (byte_for order address bank location) held byte
+        (same_byte (byte_at first address bank location) held byte was is);
+    locks = λ address closed. inl refl;
+  };
+  only = only;
+  chain = chain;
+}

@@ -1,32 +1,35 @@
 -- What stays let through and what they don't, near the edges.
-use Rattle.std.proofs.Common.{◌≡◌, inl, inr, refl, sym, ap, true, false, ℕ, Bool, List, [], ◌∷◌, ◌++◌, Option, Some, None}
-use Rattle.std.proofs.Common.{arith, ◌==◌, ◌∙◌, if◌then◌else◌}
+use Rattle.std.proofs.Common.{◌≡◌, ◌⊎◌, inl, inr, refl, ap, true, false, ℕ, Bool, List, [], ◌∷◌, ◌++◌, Option, Some}
+use Rattle.std.proofs.Common.{None, arith, ◌==◌, ◌∙◌, if◌then◌else◌}
 use Rattle.std.specs.Prelude.{is_some}
 use Rattle.dali_bus.specs.World.{World, Gear, byte_at, stored}
 use Rattle.dali_bus.proofs.OpenLemmas.{is_open}
 use Rattle.dali_bus.specs.Power.{LosesPower, MayRelock}
 use Rattle.dali_bus.specs.Chain.{IsChain, AtEachMoment}
 use Rattle.dali_frame.specs.declared.forward.Frame.TheVariants.{Dtr1}
-use Rattle.dali_journal.specs.declared.standing.Standing.TheVariants.{Idle}
+use Rattle.dali_journal.specs.declared.record.Record.{Record}
+use Rattle.dali_journal.specs.declared.standing.Standing.TheVariants.{Idle, Opened}
+use Rattle.dali_journal.specs.Sentence.{standing_of}
+use Rattle.dali_trace.specs.declared.happening.Reply.TheVariants as replies
 use Rattle.dali_trace.specs.declared.happening.Happening.{Happening}
-use Rattle.dali_trace.specs.Trace.{Start, standing_at}
+use Rattle.dali_trace.specs.declared.happening.Happening.TheVariants.{Asked, Answered, Sent, Stopped}
+use Rattle.dali_trace.specs.Trace.{records_of, standing_at, is_busy}
 use Rattle.dali_trace.specs.Legal.{Legal}
 use Rattle.dali_trace.specs.Moves.{Moves}
 use Rattle.dali_trace.specs.Moments.{Along, IsRight}
 use Rattle.dali_write.specs.Worlds.{IsAmong}
-use Rattle.dali_trace.specs.Worked.{empty, begun, alone, blank, blank_unit}
-use Rattle.dali_trace.proofs.BlankLemmas.{heard, Comes, write_comes, after_write, locked_above}
-use Rattle.dali_trace.proofs.WorkedLemmas.{measured_legal, write_legal, read_stands}
-use Rattle.dali_laws.specs.Powered.{unpowered}
-use Rattle.dali_laws.specs.Stays.{Stay, IsAlong, IsRightThrough, IsToldFrom, IsStay, IsReady, IsReadyAtRest}
-use Rattle.dali_laws.specs.WorkedStays.{at_rest, done_once, exchanged, opened_once, unlocking, read_before, opened_unread}
-use Rattle.dali_laws.specs.WorkedStays.{unread}
-use Rattle.dali_laws.proofs.StayLemmas.{ready_begins, stay_right}
-use Rattle.dali_trace.proofs.WorkedPlanLemmas.{wants_so}
 use Rattle.dali_write.specs.Plans.{read_length}
 use Rattle.dali_write.specs.declared.ask.Ask.TheVariants as asks
 use Rattle.dali_trace.specs.ByPlan.{ByPlan}
-use Rattle.dali_trace.specs.Worked.{first_order}
+use Rattle.dali_trace.specs.Worked.{empty, first_order, begun, opened, alone, blank, blank_unit}
+use Rattle.dali_trace.proofs.BlankLemmas.{heard, Comes, write_comes, after_write, locked_above}
+use Rattle.dali_trace.proofs.WorkedLemmas.{measured_legal, write_legal, read_stands}
+use Rattle.dali_trace.proofs.WorkedPlanLemmas.{wants_so}
+use Rattle.dali_laws.specs.Powered.{unpowered}
+use Rattle.dali_laws.specs.Stays.{Stay, IsAlong, IsRightThrough, Begins, IsStay, IsReady, IsReadyAtRest}
+use Rattle.dali_laws.specs.WorkedStays.{at_rest, done_once, next_order, exchanged, opened_once, left_once, unlocking}
+use Rattle.dali_laws.specs.WorkedStays.{read_before, opened_unread, unread}
+use Rattle.dali_laws.proofs.StayLemmas.{ready_begins, stay_right}
 
 -- A blank unit is ready: none is write-enabled, and its lock bytes of the banks from 2 up are none
 
@@ -79,9 +82,9 @@ exchanged_is_a_stay = record {
   before = [];
   later = [];
   is_part = refl;
-  told = inr (refl, refl, refl, refl);
+  begins = record { older = done_once.records; newest = refl; idle = refl; rests = inr (inl refl) };
   along =
-      ready_begins done_once (alone blank_unit) exchanged.last exchanged.past exchanged.states ready_when_blank
+      ready_begins (alone blank_unit) exchanged.last exchanged.past exchanged.states 10 ready_when_blank
       exchanged_chain;
 }
 
@@ -126,14 +129,38 @@ abbrev or_none : Option ℕ → ℕ
 or_none None = 0x100
 or_none (Some number) = number
 
--- Exchanged in the middle of an order: no stay begins there, and if one did, it would not be right
+-- Exchanged in the middle of an order: no stay begins there, and told by no records it would not be right
 
-pub not_told_amid_an_order : (before : List Happening) (stay : Stay) → before ≡ []
-    → stay.start.records ≡ [] → IsToldFrom opened_once before stay → ⊥
-not_told_amid_an_order before stay none empty_records (inl (nothing, same)) =
-    let records = sym empty_records ∙ ap (λ (start : Start). start.records) same in cc
-not_told_amid_an_order before stay none empty_records (inr (rests, same, first, lost)) =
-    let stands : standing_at opened_once [] ≡ Idle = rw none at rests in cc
+pub none_begins_amid_an_order : (stay : Stay) → Begins empty opened stay → ⊥
+none_begins_amid_an_order stay begins = by begins.rests where
+  by : (opened ≡ []) ⊎ (standing_at empty opened ≡ Idle) ⊎ (is_busy empty opened ≡ false) → ⊥
+  by (inl none) = cc
+  by (inr (inl idle)) = cc
+  by (inr (inr free)) = let never : true ≡ false = free in cc
+
+pub none_begins_amid_an_order_by_no_records : (stay : Stay) → stay.start.records ≡ [] → Begins opened_once [] stay → ⊥
+none_begins_amid_an_order_by_no_records stay none begins =
+    let all : opened_once.records ≡ begins.older =
+    begins.newest ∙ ap (λ (own : List Record). own ++ begins.older) none in
+    let never : Opened first_order ≡ Idle = ap standing_of all ∙ begins.idle in cc
+
+-- where a unit is left, one begins while no order waits, and none amid the frames that close it
+abbrev left_stay : Stay
+left_stay = record (at_rest (alone blank_unit) [] (alone blank_unit) []) { start = left_once }
+
+pub one_begins_where_a_unit_is_left : Begins left_once (Stopped ∷ []) left_stay
+one_begins_where_a_unit_is_left = record { older = []; newest = refl; idle = refl; rests = inr (inr refl) }
+
+pub none_begins_while_it_is_closed : (stay : Stay)
+    → Begins left_once (Sent (Dtr1 1) None ∷ Answered 2 replies.Taken ∷ Asked next_order 20 ∷ []) stay → ⊥
+none_begins_while_it_is_closed stay begins = by begins.rests where
+  closing : List Happening
+  closing = Sent (Dtr1 1) None ∷ Answered 2 replies.Taken ∷ Asked next_order 20 ∷ []
+
+  by : (closing ≡ []) ⊎ (standing_at left_once closing ≡ Idle) ⊎ (is_busy left_once closing ≡ false) → ⊥
+  by (inl none) = cc
+  by (inr (inl idle)) = cc
+  by (inr (inr free)) = let never : true ≡ false = free in cc
 
 pub unlocking_comes : Comes unlocking (after_write blank_unit 0x02 0x55)
 unlocking_comes = write_comes [] blank_unit 0x02 0x55 0xFF refl (record { states = []; steps = refl })
@@ -148,7 +175,7 @@ unlocking_legal =
 
 pub along_amid_an_order : IsAlong amid
 along_amid_an_order =
-    ready_begins opened_once (alone blank_unit) amid.last unlocking amid.states ready_when_blank unlocking_comes.steps
+    ready_begins (alone blank_unit) amid.last unlocking amid.states 10 ready_when_blank unlocking_comes.steps
 
 at_the_last : (holds : List Happening → World → Type 0) (past : List Happening) (last : World) (states : List World)
     → AtEachMoment holds past last states → holds past last
@@ -206,7 +233,7 @@ unread_is_a_stay = record {
   before = read_before;
   later = [];
   is_part = refl;
-  told = inr (refl, refl, refl, refl);
+  begins = record { older = records_of empty read_before; newest = refl; idle = refl; rests = inr (inl refl) };
   along = unread_along;
 }
 

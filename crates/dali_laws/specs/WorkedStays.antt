@@ -11,7 +11,7 @@ use Rattle.dali_trace.specs.declared.happening.Happening.{Happening}
 use Rattle.dali_trace.specs.declared.happening.Happening.TheVariants.{Asked, Answered, Sent, Kept, Powered}
 use Rattle.dali_trace.specs.Trace.{Start}
 use Rattle.dali_trace.specs.Worked.{first_order, measured, empty, alone, blank_unit, write_at}
-use Rattle.dali_laws.specs.Stays.{Stay}
+use Rattle.dali_laws.specs.Stays.{Stay, left_by}
 
 -- a stay that begins at rest with this world
 abbrev pub at_rest : World → List Happening → World → List World → Stay
@@ -44,6 +44,10 @@ exchanged =
 -- order 1 was opened, and a blank unit comes in the place of the one that was read; the lock byte is written
 abbrev pub opened_once : Start
 opened_once = record { records = Opened 5 ∷ Began first_order 7 ∷ []; limit = 10 }
+
+-- order 1 left its unit open
+abbrev pub left_once : Start
+left_once = record { records = left_by first_order 7 5; limit = 10 }
 
 abbrev pub unlocking : List Happening
 unlocking = write_at 5 0x02 0x55 []

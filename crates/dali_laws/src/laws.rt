@@ -13,10 +13,12 @@ ghost use Rattle.dali_trace.specs.Steps.{IsSaidInTime};
 ghost use Rattle.dali_trace.specs.ByPlan.{ByPlan};
 ghost use Rattle.dali_laws.specs.Powered.{unpowered, IsPowerApart};
 ghost use Rattle.dali_laws.specs.Joined.{Sitting, joined, FollowOn, IsOneTrace};
-ghost use Rattle.dali_laws.specs.Stays.{Stay, IsAlong, IsRightThrough, IsToldFrom, IsStay, IsReady, IsReadyAtRest, UnitFits};
+ghost use Rattle.dali_laws.specs.Stays.{Stay, IsAlong, IsRightThrough, Begins, IsStay, IsReady, IsReadyAtRest};
+ghost use Rattle.dali_laws.specs.Stays.{left_by, UnitFits};
 ghost use Rattle.dali_journal.specs.declared.record.Record.{Record};
 ghost use Rattle.dali_journal.specs.Sentence.{standing_of, IsSentence};
-ghost use Rattle.dali_trace.specs.Fits.{Fits};
+ghost use Rattle.dali_trace.specs.Fits.{Fits, IsLockedAbove, OnlyNamed};
+ghost use Rattle.dali_bank.specs.Order.{Contents};
 ghost use Rattle.dali_trace.specs.Next.{IsNext, IsSameBut};
 ghost use Rattle.dali_trace.specs.Work.{IsWorked};
 ghost use Rattle.dali_trace.specs.Moves.{Moves};
@@ -121,13 +123,14 @@ pub fn sittings_are_one_trace()
 {}
 
 /// A stay is a part of what happened, over one set of units; before it and behind it the units may be any others, or
-/// used by anyone. Units may lose their power in it at any moment. From the start on it is told against the start world
-/// and the start's records, as the laws above; from any moment on at which the journal stands idle, against the world
-/// of that moment, as if the journal had been empty. Either way each moment fits, no unit but the named one is enabled,
-/// every place that is in no doubt is as the journal says, and when a record is kept, what it says is so.
+/// used by anyone. Units may lose their power in it at any moment. It begins with the trace, or at rest: where the
+/// journal stands idle, or nothing is to be done or said. From the start on it is told by all records, as the laws
+/// above; from a moment on at which the journal stands idle it may be told by none, against the world of that moment,
+/// as if the journal had been empty. Either way each moment fits, no unit but the named one is enabled, every place
+/// that is in no doubt is as the journal says, and when a record is kept, what it says is so.
 pub fn every_moment_of_a_stay_is_right()
     // a legal trace from its start on, whether it keeps to the plans or not;
-    ensures trace { (start : Start) (stay : Stay) → Legal start stay.past → IsToldFrom start [] stay → IsAlong stay
+    ensures trace { (start : Start) (stay : Stay) → Legal start stay.past → Begins start [] stay → IsAlong stay
         → IsRightThrough stay }
     // any part of a legal trace that keeps to the plans;
     ensures part { (start : Start) (happened : List Happening) (stay : Stay) → Legal start happened
@@ -138,13 +141,18 @@ pub fn every_moment_of_a_stay_is_right()
 {}
 
 /// Where the journal stands idle in a stay, that is behind each end but one that leaves its unit open, no unit is
-/// write-enabled and the lock bytes of the banks from 2 up are FFh: the units are as the next stay wants them, and it
-/// wants no more of them.
+/// write-enabled and the lock bytes of the banks from 2 up are FFh: the units are as the next stay wants them.
 pub fn each_rest_suits_the_next_stay()
     ensures ready { (stay : Stay) → IsAlong stay → IsRightThrough stay → IsReadyAtRest stay }
-    ensures begins { (start : Start) (first last : World) (past : List Happening) (states : List World)
+    // A stay wants no more of the units that it begins with, told by no records and against what they hold;
+    ensures begins { (first last : World) (past : List Happening) (states : List World) (limit : ℕ)
         → IsReady first → IsChain Moves first past last states
-        → Along first [] (record start { records = [] }) first past last states }
+        → Along first [] (record { records = []; limit = limit }) first past last states }
+    // and where a unit is left, told by its order's records, that no other is write-enabled.
+    ensures left { (first last : World) (past : List Happening) (states : List World) (order : Contents)
+        (moment unit limit : ℕ) → IsLockedAbove first → OnlyNamed (left_by order moment unit) first
+        → IsChain Moves first past last states
+        → Along first [] (record { records = left_by order moment unit; limit = limit }) first past last states }
 {}
 
 /// A luminaire that nobody touched between two stays fits over both: what its memory was when the first began, with the

@@ -174,6 +174,26 @@ pub no_counter_in_bank_0 : (new : Gear) → Hears 5 (record (by_a_counter true) 
 no_counter_in_bank_0 new h =
     no_read_aside (record (by_a_counter true) { dtr1 = 0 }) new h.obeyed 7 (inr (omega arith)) (λ e. cc) h.obeys
 
+pub no_counter_in_bank_1 : (new : Gear) → Hears 5 (small true) (Read 5) (Some 8) new → ⊥
+no_counter_in_bank_1 new h =
+    no_read_aside (small true) new h.obeyed 8 (inr (omega arith)) (λ e. omega (arith, same_byte 7 8 e)) h.obeys
+
+pub nothing_counts_on_in_bank_1 : (answer : Option ℕ)
+    → Hears 5 (small true) (Read 5) answer (record (moved false) { memory = stored two_places 1 3 8 }) → ⊥
+nothing_counts_on_in_bank_1 answer h = by h.obeyed h.obeys h.ends where
+  counted : Gear
+  counted = record (moved false) { memory = stored two_places 1 3 8 }
+
+  changed : (obeyed : Gear) → obeyed.memory 1 3 ≡ Some 7 → MayEnd obeyed counted → ⊥
+  changed obeyed same ends = omega (arith, same_byte 8 7 (byte_kept obeyed counted ends ∙ same))
+
+  by : (obeyed : Gear) → Obeys 5 (small true) (Read 5) answer obeyed → MayEnd obeyed counted → ⊥
+  by obeyed (inl (mine, inl did)) ends = changed obeyed (ap (λ (g : Gear). g.memory 1 3) did.2) ends
+  by obeyed (inl (mine, inr (inl nothing))) ends =
+      changed obeyed (ap (λ (g : Gear). g.memory 1 3) nothing.1.2) ends
+  by obeyed (inl (mine, inr (inr aside))) ends = changed obeyed (ap (λ (g : Gear). g.memory 1 3) aside.2.2) ends
+  by obeyed (inr (others, ignored)) ends = others refl
+
 pub no_other_byte_than_told : (new : Gear)
     → Hears 5 (record (with_locks 0x55 0xFF) { dtr1 = 2; dtr0 = 2 }) (Read 5) (Some 0x55) new → ⊥
 no_other_byte_than_told new h =

@@ -11,16 +11,17 @@ use Rattle.dali_write.specs.Exchanges.{Exchange}
 use Rattle.dali_write.specs.Requests.{Meets, request}
 use Rattle.dali_write.specs.Tries.{most_tries, Trying}
 use Rattle.dali_write.specs.declared.request.Request.{Request}
-use Rattle.dali_read.specs.declared.block.Block.{Block}
-use Rattle.dali_read.specs.Blocks.{Fits, block_requests, reads, read_answer, bytes_of}
+use Rattle.dali_write.specs.declared.block.Block.{Block}
+use Rattle.dali_write.specs.Requests.{block_requests, reads}
+use Rattle.dali_write.specs.Blocks.{Fits, read_answer, bytes_of}
 use Rattle.dali_read.specs.Readings.{Course, told_in, Done}
-use Rattle.dali_read.proofs.BlockBytesLemmas.{block_count}
+use Rattle.dali_write.proofs.BlockBytesLemmas.{block_count}
 use Rattle.dali_trace.specs.declared.fault.DriveFault.{DriveFault}
 use Rattle.dali_drive.specs.Transcript.{Streams, Transcript, AreAnswers, sent_lines, said_lines, recorded}
 use Rattle.dali_drive.specs.Driven.{BreaksFrame}
 use Rattle.dali_drive.specs.UnitRead.{LinkText, TriedTo, TryTold, TryMissed, TryBroke, MissedSoOften, BlockTold}
 use Rattle.dali_drive.specs.UnitRead.{BlockFailed, BlockBroke, ReadSoFar, IsUnitRead, UnitReadBroke}
-use Rattle.dali_read.proofs.BlockShapeLemmas.{reads_length}
+use Rattle.dali_write.proofs.BlockShapeLemmas.{reads_length}
 use Rattle.dali_write.proofs.RequestLemmas.{drop_at, drop_end}
 
 -- What was told over a link, piece by piece

@@ -9,8 +9,11 @@ use Rattle.dali_write.specs.WorkedAccesses.{sent}
 use Rattle.dali_write.specs.declared.request.Wish.TheVariants.{Nothing, Exactly}
 use Rattle.dali_write.specs.Tries.{Misses}
 use Rattle.dali_read.specs.declared.finding.Finding.TheVariants.{Same, Other, Short, Format}
-use Rattle.dali_read.specs.Blocks.{Fits, block_requests, Succeeds, IsBlockRead}
-use Rattle.dali_read.specs.Places.{first_block, last_course, block, order_course}
+use Rattle.dali_write.specs.Requests.{block_requests}
+use Rattle.dali_write.specs.Blocks.{Fits, IsBlockRead}
+use Rattle.dali_read.specs.Blocks.{Succeeds}
+use Rattle.dali_write.specs.Requests.{block}
+use Rattle.dali_read.specs.Places.{first_block, last_course, order_course}
 use Rattle.dali_read.specs.Readings.{Course, Ends, Done, IsRead, InTurn, bytes_in, told_in}
 use Rattle.dali_drive.specs.Lines.{IsAnswerLine, link_line}
 use Rattle.dali_drive.specs.Transcript.{Streams, AreAnswers, link_shown}
@@ -33,7 +36,7 @@ use Rattle.dali_drive.proofs.ReadingLemmas.{try_breaks}
 use Rattle.dali_drive.proofs.WorkedDriveLemmas.{none_line, answer_line, is_short}
 use Rattle.dali_trace.specs.declared.fault.DriveFault.TheVariants as faults
 use Rattle.dali_frame.specs.declared.forward.Frame.{Frame}
-use Rattle.dali_read.specs.declared.block.Block.{Block}
+use Rattle.dali_write.specs.declared.block.Block.{Block}
 use Rattle.dali_read.specs.Findings.{IsFound}
 use Rattle.dali_trace.specs.declared.fault.DriveFault.TheVariants as faults
 

@@ -5,8 +5,10 @@ use Rattle.dali_trace.specs.declared.happening.Happening.TheVariants.{Sent}
 use Rattle.dali_write.specs.Exchanges.{Exchange}
 use Rattle.dali_write.specs.Tries.{Trying, Missed, Misses}
 use Rattle.dali_write.specs.declared.request.Request.{Request}
-use Rattle.dali_read.specs.declared.block.Block.{Block}
-use Rattle.dali_read.specs.Blocks.{Fits, block_requests, bytes_of, IsBlockRead, Succeeds, Fails, Stands}
+use Rattle.dali_write.specs.declared.block.Block.{Block}
+use Rattle.dali_write.specs.Requests.{block_requests}
+use Rattle.dali_write.specs.Blocks.{Fits, bytes_of, IsBlockRead}
+use Rattle.dali_read.specs.Blocks.{Succeeds, Fails, Stands}
 use Rattle.dali_read.specs.Readings.{Course, Done, InTurn, Ends, IsReading, bytes_in, told_in}
 use Rattle.dali_trace.specs.declared.fault.DriveFault.{DriveFault}
 use Rattle.dali_drive.specs.Transcript.{Streams, Transcript}

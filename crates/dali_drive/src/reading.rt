@@ -1,5 +1,5 @@
 ghost use Rattle.std.specs.Prelude.{◌≡◌, ◌≤◌, ◌+◌, ◌++◌, Some, None, IfOk, IfErr, OnOk, IfSome, IsNone, length, false};
-ghost use Rattle.dali_read.specs.Blocks.{read_answer};
+ghost use Rattle.dali_write.specs.Blocks.{read_answer};
 ghost use Rattle.dali_read.specs.Places.{course_of};
 ghost use Rattle.dali_drive.specs.Transcript.{link_shown};
 ghost use Rattle.dali_drive.specs.Driven.{FailedAs, LinkEnds};
@@ -12,9 +12,7 @@ use arrayvec::ArrayVec;
 use dali_frame::Frame;
 use dali_read::{Block, Places};
 use dali_trace::DriveFault;
-
-// The most tries of a block.
-const MOST_TRIES: u8 = 8;
+use dali_write::MOST_TRIES;
 
 // The most bytes of a block.
 const MOST_OF_BLOCK: usize = 16;

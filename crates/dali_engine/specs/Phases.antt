@@ -27,6 +27,7 @@ check_code verdicts.Doubt = codes.Silent
 check_code verdicts.DoubtOpen = codes.Silent
 check_code verdicts.Closed = codes.Silent
 check_code verdicts.NotClosed = codes.Silent
+check_code verdicts.Read = codes.Silent
 
 -- the record by which a fresh session is followed
 abbrev pub check_record : ℕ → Verdict → Record
@@ -44,6 +45,7 @@ write_code verdicts.Format = codes.DoubtOpen
 write_code verdicts.Silent = codes.DoubtOpen
 write_code verdicts.Closed = codes.DoubtOpen
 write_code verdicts.NotClosed = codes.DoubtOpen
+write_code verdicts.Read = codes.DoubtOpen
 
 -- while a session goes on its frame is wanted, and then the record
 abbrev pub check_of : ℕ → Ask → Want
@@ -67,6 +69,7 @@ closing_of id unit (asks.Ended verdicts.Format) = Say id (replies.Blocked unit)
 closing_of id unit (asks.Ended verdicts.Silent) = Say id (replies.Blocked unit)
 closing_of id unit (asks.Ended verdicts.Doubt) = Say id (replies.Blocked unit)
 closing_of id unit (asks.Ended verdicts.DoubtOpen) = Say id (replies.Blocked unit)
+closing_of id unit (asks.Ended verdicts.Read) = Say id (replies.Blocked unit)
 
 -- what a phase wants
 abbrev pub want_of : Phase → Want

@@ -65,7 +65,8 @@ impl Phase {
                     | Verdict::Format
                     | Verdict::Silent
                     | Verdict::Doubt
-                    | Verdict::DoubtOpen,
+                    | Verdict::DoubtOpen
+                    | Verdict::Read,
                 ) => Want::Say(order.id(), Reply::Blocked(session.unit())),
             },
             Phase::Says(id, code) => Want::Say(*id, Reply::Kept(*code)),
@@ -98,7 +99,8 @@ fn check_code(verdict: Verdict) -> Code
         | Verdict::Doubt
         | Verdict::DoubtOpen
         | Verdict::Closed
-        | Verdict::NotClosed => Code::Silent,
+        | Verdict::NotClosed
+        | Verdict::Read => Code::Silent,
     }
 }
 
@@ -116,7 +118,8 @@ pub(crate) fn write_code(verdict: Verdict) -> Code
         | Verdict::Format
         | Verdict::Silent
         | Verdict::Closed
-        | Verdict::NotClosed => Code::DoubtOpen,
+        | Verdict::NotClosed
+        | Verdict::Read => Code::DoubtOpen,
     }
 }
 

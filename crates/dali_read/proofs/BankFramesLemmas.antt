@@ -4,7 +4,7 @@ use Rattle.std.proofs.Common.{◌<◌, min, nat_lt, Bool, true, false, if◌then
 use Rattle.std.proofs.Common.{length-append, Some, None, arith}
 use Rattle.std.proofs.lemmas.Bool.{ltb-true, ltb-false}
 use Rattle.dali_write.specs.Exchanges.{Exchange}
-use Rattle.dali_read.specs.declared.block.Block.{Block}
+use Rattle.dali_write.specs.declared.block.Block.{Block}
 use Rattle.dali_read.specs.Places.{first_block, last_course, bank_course}
 use Rattle.dali_read.specs.Readings.{Course, Done, bytes_in, told_in, InTurn, IsRead}
 use Rattle.dali_read.specs.Counts.{block_frames, bank_frames, AreSoMany}

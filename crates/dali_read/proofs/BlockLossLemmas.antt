@@ -23,11 +23,15 @@ use Rattle.dali_write.proofs.LossLemmas.{Suits, AllFor, after_reading, suits_ask
 use Rattle.dali_write.proofs.KeptLemmas.{parts}
 use Rattle.dali_write.proofs.SuccessLemmas.{world_alone, unlost, byte_there}
 use Rattle.dali_write.proofs.RunLemmas.{Leads, losses_along, UnrefusedAlong, sim_run}
-use Rattle.dali_read.specs.declared.block.Block.{Block}
-use Rattle.dali_read.specs.Blocks.{Fits, reads, block_requests, IsBlockRead}
-use Rattle.dali_read.proofs.BlockShapeLemmas.{back_requests}
+use Rattle.dali_write.specs.declared.block.Block.{Block}
+use Rattle.dali_write.specs.Requests.{reads, block_requests, moved_on}
+use Rattle.dali_write.specs.Blocks.{Fits, IsBlockRead}
+use Rattle.dali_write.proofs.BlockShapeLemmas.{back_requests}
 use Rattle.dali_read.proofs.BlockMissLemmas.{up_below}
-use Rattle.dali_read.proofs.BlockLemmas.{block_true}
+use Rattle.dali_write.proofs.BlockLemmas.{block_true}
+use Rattle.dali_write.proofs.PlaceLemmas.{moved_is}
+use Rattle.dali_write.specs.Worlds.{Shows}
+use Rattle.dali_read.proofs.InBlockLemmas.{place_is}
 use Rattle.dali_read.proofs.QuietLemmas.{Sent, OfBlocks, block_asks, trying_sent, misses_sent}
 
 -- so many reads, where the first of their locations is selected
@@ -52,6 +56,8 @@ suits_block : (at : ℕ) (block : Block) (unit : UnitState) → Fits block → u
     → Suits (block_requests at block) unit
 suits_block at block unit fits is long =
     let here = eq-eqb at unit.address (sym is) in
+    let last = moved_on block.location block.count in
+    let same = moved_is block.location block.count fits.within in
     let selected : UnitState = record unit { half_pair = false; dtr1 = 1; dtr0 = block.location } in (
       tt,
       (
@@ -60,8 +66,8 @@ suits_block at block unit fits is long =
           tt,
           (
             rw here refl,
-            suits_reads at block.location block.count (block.location + block.count) selected is refl refl refl
-                fits.within long,
+            suits_reads at block.location block.count last selected is refl refl (sym same)
+                (omega (arith, same, fits.within)) (omega (arith, same, long)),
           ),
         ),
       ),
@@ -159,8 +165,10 @@ block_holds loses at block bytes unit tried first last run keeps_power alone fit
     gentle_keeps loses at unit tried first last run keeps_power alone
     (trying_sent (IsGentle at) (block_requests at block) tried [] (blocks_gentle at block fits) read.0) in
     let shows =
-    block_true tried (world_of first.units) (world_of last.units) at block bytes fits
-    (sim_run loses tried first last run) read index byte is in
+    subst (λ (place : ℕ). Shows loses (world_of last.units) at place byte)
+    (place_is at block bytes tried fits read index byte is)
+    (block_true tried (world_of first.units) (world_of last.units) at block bytes (sim_run loses tried first last run)
+    read index byte is) in
     let both : Some shows.gear ≡ Some (gear_of kept.now) =
     sym shows.is ∙ world_alone at kept.now last.units kept.alone in
     let same : shows.gear ≡ gear_of kept.now = cc in

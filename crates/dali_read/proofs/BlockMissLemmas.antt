@@ -11,11 +11,13 @@ use Rattle.dali_write.specs.Misses.{location_in, misses_in}
 use Rattle.dali_write.proofs.ShapeLemmas.{trying_length}
 use Rattle.dali_write.proofs.CountLemmas.{misses_length, times_most}
 use Rattle.dali_write.proofs.MissLemmas.{Apt, trying, missed}
-use Rattle.dali_read.specs.declared.block.Block.{Block}
-use Rattle.dali_read.specs.Blocks.{most_locations, Fits, reads, block_requests, Succeeds, Fails, Stands}
+use Rattle.dali_write.specs.declared.block.Block.{Block}
+use Rattle.dali_write.specs.Requests.{moved_on, reads, block_requests}
+use Rattle.dali_write.specs.Blocks.{most_locations, Fits}
+use Rattle.dali_read.specs.Blocks.{Succeeds, Fails, Stands}
 use Rattle.dali_read.specs.Counts.{block_frames}
-use Rattle.dali_read.proofs.BlockLemmas.{up_one}
-use Rattle.dali_read.proofs.BlockShapeLemmas.{back_requests, block_frames_are}
+use Rattle.dali_write.proofs.PlaceLemmas.{up_one, moved_is}
+use Rattle.dali_write.proofs.BlockShapeLemmas.{back_requests, block_frames_are}
 
 -- DTR0 moves on by one below FFh
 pub up_below : (place : ℕ) → place < 0xFF → up place ≡ suc place
@@ -34,7 +36,20 @@ apt_reads unit (suc count) place last within is = (
 
 pub apt_block : (unit : ℕ) (block : Block) (place : ℕ) → Fits block → Apt place (block_requests unit block)
 apt_block unit block place fits =
-    (refl, (refl, (refl, (refl, apt_reads unit block.count block.location _ fits.within refl))))
+    let same = moved_is block.location block.count fits.within in (
+      refl,
+      (
+        refl,
+        (
+          refl,
+          (
+            refl,
+            apt_reads unit block.count block.location (moved_on block.location block.count)
+                (omega (arith, same, fits.within)) (sym same),
+          ),
+        ),
+      ),
+    )
 
 -- so many tries missed
 pub block_misses : (unit : ℕ) (block : Block) (count : ℕ) (told older : List Exchange) → Fits block

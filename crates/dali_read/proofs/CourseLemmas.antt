@@ -5,9 +5,10 @@ use Rattle.std.proofs.Common.{length, length-append, slice_get, Option, Some, No
 use Rattle.std.proofs.lemmas.Bool.{lt-ltb, le-ltb, ltb-true, ltb-false, eqb-true}
 use Rattle.dali_write.specs.Exchanges.{Exchange}
 use Rattle.dali_write.specs.Plans.{greatest}
-use Rattle.dali_read.specs.declared.block.Block.{Block}
-use Rattle.dali_read.specs.Blocks.{most_locations}
-use Rattle.dali_read.specs.Places.{block, first_block, last_course, bank_course, in_a_row, row_of, order_course}
+use Rattle.dali_write.specs.declared.block.Block.{Block}
+use Rattle.dali_write.specs.Blocks.{most_locations}
+use Rattle.dali_write.specs.Requests.{block}
+use Rattle.dali_read.specs.Places.{first_block, last_course, bank_course, in_a_row, row_of, order_course}
 use Rattle.dali_read.specs.Readings.{Done, bytes_in, InTurn, IsRead}
 use Rattle.dali_read.specs.Shown.{InBlock, ShowsBank}
 use Rattle.dali_read.proofs.InBlockLemmas.{Follows, done_count, read_tells}

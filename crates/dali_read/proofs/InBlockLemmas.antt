@@ -6,13 +6,16 @@ use Rattle.dali_bus.specs.World.{World}
 use Rattle.dali_bus.specs.Carry.{WorldStep}
 use Rattle.dali_write.specs.Exchanges.{Exchange}
 use Rattle.dali_write.proofs.RunLemmas.{Leads}
-use Rattle.dali_read.specs.declared.block.Block.{Block}
-use Rattle.dali_read.specs.Blocks.{Fits, Succeeds}
+use Rattle.dali_write.specs.declared.block.Block.{Block}
+use Rattle.dali_write.specs.Requests.{moved_on}
+use Rattle.dali_write.specs.Blocks.{Fits, IsBlockRead}
+use Rattle.dali_read.specs.Blocks.{Succeeds}
 use Rattle.dali_read.specs.Readings.{Course, Done, bytes_in, told_in, InTurn, IsRead}
 use Rattle.dali_read.specs.Shown.{InBlock, WhenTold}
-use Rattle.dali_read.specs.WhenBlock.{WhenBlock}
-use Rattle.dali_read.proofs.BlockBytesLemmas.{block_count}
-use Rattle.dali_read.proofs.BlockLemmas.{when_block}
+use Rattle.dali_write.specs.WhenBlock.{WhenBlock}
+use Rattle.dali_write.proofs.BlockBytesLemmas.{block_count}
+use Rattle.dali_write.proofs.PlaceLemmas.{moved_is}
+use Rattle.dali_write.proofs.BlockLemmas.{when_block}
 
 -- 'place index' is the location of the byte with this index, if it has one: each byte is shown there
 abbrev pub Tells : (ℕ → ℕ → Type 0) → (ℕ → Option ℕ) → List ℕ → Type 0
@@ -73,6 +76,15 @@ in_block_now told older unit this bytes location index byte fits done place ther
       there = there;
     }
 
+-- the place of each byte of a block that fits
+pub place_is : (unit : ℕ) (this : Block) (bytes : List ℕ) (tried : List Exchange) → Fits this
+    → IsBlockRead unit this bytes tried → (index byte : ℕ) → slice_get bytes index ≡ Some byte
+    → moved_on this.location index ≡ this.location + index
+place_is unit this bytes tried fits read index byte is =
+    let below = slice_get_within bytes index byte is in
+    let count = block_count unit this bytes tried read in
+    moved_is this.location index (omega (arith, fits.within, below, count))
+
 -- so many bytes were told of a block that was read
 pub done_count : (unit : ℕ) (this : Block) (bytes : List ℕ) (told : List Exchange) → Succeeds unit this bytes told
     → length bytes ≡ this.count
@@ -115,13 +127,15 @@ pub when_told : {loses : ℕ → Type 0} (told : List Exchange) (first last : Wo
     → WhenTold loses told first last unit location byte
 when_told {loses} told first last unit location byte b run =
     record {
-      block = b.block;
+      then = record {
+        block = b.block;
+        bytes = b.bytes;
+        index = b.index;
+        place = b.place ∙ sym (place_is unit b.block b.bytes b.tried b.fits b.read b.index byte b.there);
+        there = b.there;
+        when = subst (λ (t : List Exchange). WhenBlock loses t first last unit b.block b.bytes) (sym b.parts)
+            (when_block b.newer b.tried b.older first last unit b.block b.bytes
+            (subst (λ (t : List Exchange). Leads WorldStep loses t first last) b.parts run) b.read);
+      };
       fits = b.fits;
-      bytes = b.bytes;
-      index = b.index;
-      place = b.place;
-      there = b.there;
-      when = subst (λ (t : List Exchange). WhenBlock loses t first last unit b.block b.bytes) (sym b.parts)
-          (when_block b.newer b.tried b.older first last unit b.block b.bytes b.fits
-          (subst (λ (t : List Exchange). Leads WorldStep loses t first last) b.parts run) b.read);
     }

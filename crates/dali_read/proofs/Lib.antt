@@ -1,7 +1,4 @@
 pub mod FindingLemmas
-pub mod BlockShapeLemmas
-pub mod BlockBytesLemmas
-pub mod BlockLemmas
 pub mod QuietLemmas
 pub mod InBlockLemmas
 pub mod CourseLemmas

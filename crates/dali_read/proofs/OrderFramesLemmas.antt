@@ -8,10 +8,11 @@ use Rattle.std.proofs.lemmas.List.{length-replicate}
 use Rattle.std.specs.Cmp.{first_so, second_so}
 use Rattle.dali_write.specs.Exchanges.{Exchange}
 use Rattle.dali_write.specs.Plans.{greatest}
-use Rattle.dali_read.specs.declared.block.Block.{Block}
+use Rattle.dali_write.specs.declared.block.Block.{Block}
 use Rattle.dali_read.specs.declared.finding.Finding.{Finding}
 use Rattle.dali_read.specs.declared.finding.Finding.TheVariants.{Same, Other, Short, Format}
-use Rattle.dali_read.specs.Places.{block, first_block, row_of, order_course}
+use Rattle.dali_write.specs.Requests.{block}
+use Rattle.dali_read.specs.Places.{first_block, row_of, order_course}
 use Rattle.dali_read.specs.Readings.{Done, bytes_in, told_in, InTurn, IsRead}
 use Rattle.dali_read.specs.Findings.{IsFound, IsFirstOther}
 use Rattle.dali_read.specs.Counts.{block_frames, blocks_behind, order_frames, found_frames, AreSoMany}

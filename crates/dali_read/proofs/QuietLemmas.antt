@@ -1,5 +1,5 @@
 -- The frames of block reads and of readings: what holds of each frame of a block that fits holds of all of them.
-use Rattle.std.proofs.Common.{◌⊎◌, inl, inr, refl, sym, subst, ℕ, zero, suc, ◌+◌, ◌<◌, ◌≤◌, List, [], ◌∷◌, ◌++◌}
+use Rattle.std.proofs.Common.{◌⊎◌, inl, inr, refl, sym, subst, ℕ, zero, suc, ◌<◌, ◌≤◌, List, [], ◌∷◌, ◌++◌}
 use Rattle.std.proofs.Common.{Option, Some, None, arith}
 use Rattle.std.specs.List.{AllByRecursion}
 use Rattle.dali_frame.specs.declared.forward.Frame.{Frame}
@@ -19,10 +19,12 @@ use Rattle.dali_write.proofs.GearLemmas.{IsQuiet}
 use Rattle.dali_write.proofs.ShapeLemmas.{AllOf, left_all}
 use Rattle.dali_write.proofs.RunLemmas.{Leads}
 use Rattle.dali_write.proofs.TruthLemmas.{AllQuiet, run_keeps}
-use Rattle.dali_read.specs.declared.block.Block.{Block}
-use Rattle.dali_read.specs.Blocks.{Fits, block_requests, reads, Succeeds}
+use Rattle.dali_write.specs.declared.block.Block.{Block}
+use Rattle.dali_write.specs.Requests.{block_requests, moved_on, reads}
+use Rattle.dali_write.specs.Blocks.{Fits}
+use Rattle.dali_read.specs.Blocks.{Succeeds}
 use Rattle.dali_read.specs.Readings.{Course, Done, told_in, InTurn, Ends, IsReading}
-use Rattle.dali_read.proofs.BlockShapeLemmas.{back_requests}
+use Rattle.dali_write.proofs.BlockShapeLemmas.{back_requests}
 
 -- it holds of each frame that was sent
 abbrev pub Sent : (Frame → Type 0) → List Exchange → Type 0
@@ -130,7 +132,7 @@ block_asks P unit block set ask1 place ask0 read = (
       place,
       (
         ask0,
-        reads_ask P unit block.count (back_requests unit (block.location + block.count)) read (ask0, (ask1, tt)),
+        reads_ask P unit block.count (back_requests unit (moved_on block.location block.count)) read (ask0, (ask1, tt)),
       ),
     ),
   ),

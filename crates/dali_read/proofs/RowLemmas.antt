@@ -3,7 +3,7 @@ use Rattle.std.proofs.Common.{◌≡◌, refl, ap, ℕ, zero, suc, ◌+◌, ◌*
 use Rattle.std.proofs.Common.{if◌then◌else◌, List, [], ◌∷◌, length, drop, Some, None, arith}
 use Rattle.std.proofs.lemmas.Bool.{eq-eqb}
 use Rattle.std.proofs.lemmas.List.{length-drop, drop-drop}
-use Rattle.dali_read.specs.declared.block.Block.{Block}
+use Rattle.dali_write.specs.declared.block.Block.{Block}
 use Rattle.dali_read.specs.Places.{in_a_row, row_of}
 use Rattle.dali_read.specs.Counts.{block_frames, blocks_behind}
 

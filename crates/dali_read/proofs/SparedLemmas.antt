@@ -14,8 +14,10 @@ use Rattle.dali_write.proofs.DriftLemmas.{drifts_alone}
 use Rattle.dali_write.proofs.KeptLemmas.{parts}
 use Rattle.dali_write.proofs.RunLemmas.{Leads, losses_along, UnrefusedAlong, SparedAlong, MissesAlong}
 use Rattle.dali_write.proofs.SuccessLemmas.{alone_bank, starts_whole}
-use Rattle.dali_read.specs.declared.block.Block.{Block}
-use Rattle.dali_read.specs.Blocks.{Fits, block_requests, Succeeds}
+use Rattle.dali_write.specs.declared.block.Block.{Block}
+use Rattle.dali_write.specs.Requests.{block_requests}
+use Rattle.dali_write.specs.Blocks.{Fits}
+use Rattle.dali_read.specs.Blocks.{Succeeds}
 use Rattle.dali_read.specs.Places.{first_block}
 use Rattle.dali_read.specs.Readings.{Course, Done, bytes_in, told_in, InTurn, IsRead, Ends}
 use Rattle.dali_read.specs.Shown.{InBlock}

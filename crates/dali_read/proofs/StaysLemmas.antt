@@ -6,8 +6,9 @@ use Rattle.std.proofs.lemmas.Bool.{ltb-true, ltb-false, eqb-true}
 use Rattle.std.proofs.lemmas.Option.{get_or_from_slice_get}
 use Rattle.dali_gear.specs.Faults.{IsBank}
 use Rattle.dali_write.specs.Plans.{greatest}
-use Rattle.dali_read.specs.declared.block.Block.{Block}
-use Rattle.dali_read.specs.Places.{block, first_block, last_course, bank_course, order_course, in_a_row, row_of}
+use Rattle.dali_write.specs.declared.block.Block.{Block}
+use Rattle.dali_write.specs.Requests.{block}
+use Rattle.dali_read.specs.Places.{first_block, last_course, bank_course, order_course, in_a_row, row_of}
 use Rattle.dali_read.proofs.BankFramesLemmas.{if_next}
 use Rattle.dali_read.proofs.OrderFramesLemmas.{if_not, if_so}
 use Rattle.dali_read.proofs.SparedLemmas.{HeadIs, Stays}

@@ -4,7 +4,7 @@ use Rattle.std.proofs.Common.{◌∷◌, ◌++◌, length, length-append, Option
 use Rattle.dali_frame.specs.declared.forward.Frame.{Frame}
 use Rattle.dali_write.specs.Exchanges.{Exchange}
 use Rattle.dali_write.specs.Tries.{most_tries}
-use Rattle.dali_read.specs.declared.block.Block.{Block}
+use Rattle.dali_write.specs.declared.block.Block.{Block}
 use Rattle.dali_read.specs.Readings.{Course, Done, bytes_in, told_in, InTurn, Ends, IsReading}
 use Rattle.dali_read.specs.Counts.{block_frames, AreSoMany}
 use Rattle.dali_read.proofs.BlockMissLemmas.{success_misses, success_frames, success_limit}

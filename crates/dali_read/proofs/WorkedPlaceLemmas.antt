@@ -4,7 +4,8 @@ use Rattle.std.proofs.Common.{◌∷◌, ◌++◌, drop, Some, None, arith}
 use Rattle.std.specs.List.{AllByRecursion}
 use Rattle.dali_write.specs.WorkedAccesses.{after_a_miss}
 use Rattle.dali_read.specs.declared.finding.Finding.TheVariants.{Same, Other, Short, Format}
-use Rattle.dali_read.specs.Places.{block, last_course, bank_course, row_of, order_course}
+use Rattle.dali_write.specs.Requests.{block}
+use Rattle.dali_read.specs.Places.{last_course, bank_course, row_of, order_course}
 use Rattle.dali_read.specs.Findings.{own_bytes, IsFound}
 use Rattle.dali_read.specs.Shown.{ShowsBank, Finds, Holds}
 use Rattle.dali_read.specs.Counts.{block_frames, bank_frames, blocks_behind, order_frames, found_frames, AreSoMany}

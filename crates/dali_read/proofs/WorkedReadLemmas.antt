@@ -2,156 +2,34 @@
 use Rattle.std.proofs.Common.{◌≡◌, refl, sym, ap, subst, ◌∙◌, ℕ, zero, suc, ◌+◌, ◌<◌, List, []}
 use Rattle.std.proofs.Common.{◌∷◌, ◌++◌, append-nil, length, drop, slice_get, Some, None, arith}
 use Rattle.dali_frame.specs.declared.forward.Frame.{Frame}
-use Rattle.dali_frame.specs.declared.forward.Frame.TheVariants.{Dtr1, AskDtr0, AskDtr1, Read}
+use Rattle.dali_frame.specs.declared.forward.Frame.TheVariants.{Dtr1, Read}
 use Rattle.dali_bus.specs.World.{World, byte_at}
-use Rattle.dali_bus.specs.Carry.{WorldStep}
 use Rattle.dali_write.specs.Exchanges.{Exchange}
 use Rattle.dali_write.specs.declared.request.Request.{Request}
 use Rattle.dali_write.specs.declared.request.Wish.TheVariants.{Nothing, Exactly, Anything}
-use Rattle.dali_write.specs.Requests.{Meets, request}
-use Rattle.dali_write.specs.Tries.{Trying, Missed, Misses}
+use Rattle.dali_write.specs.Requests.{request}
+use Rattle.dali_write.specs.Tries.{Missed, Misses}
 use Rattle.dali_write.specs.Misses.{location_in, misses_in}
-use Rattle.dali_write.specs.Worlds.{IsAmong, Run}
-use Rattle.dali_write.specs.WorkedAccesses.{sent}
-use Rattle.dali_write.specs.LoneUnit.{lone_unit, six_frames}
-use Rattle.dali_write.proofs.LoneUnitLemmas.{tells_dtr1}
-use Rattle.dali_write.proofs.RunLemmas.{run_of, leads_of, Stays}
 use Rattle.dali_write.proofs.MissLemmas.{trying}
 use Rattle.dali_write.proofs.ShapeLemmas.{left_is}
-use Rattle.dali_write.proofs.WorkedSixFrameLemmas.{six_may_be}
-use Rattle.dali_read.specs.declared.block.Block.{Block}
-use Rattle.dali_read.specs.Blocks.{Fits, block_requests, IsBlockRead, Succeeds, Fails, Stands}
-use Rattle.dali_read.specs.Places.{block, first_block, last_course, bank_course}
+use Rattle.dali_write.specs.declared.block.Block.{Block}
+use Rattle.dali_write.specs.Requests.{block_requests}
+use Rattle.dali_write.specs.Blocks.{Fits, IsBlockRead}
+use Rattle.dali_read.specs.Blocks.{Succeeds, Fails, Stands}
+use Rattle.dali_write.specs.Requests.{block}
+use Rattle.dali_read.specs.Places.{first_block, last_course, bank_course}
 use Rattle.dali_read.specs.Readings.{Done, bytes_in, told_in, InTurn, IsRead, IsSilent, IsReading}
-use Rattle.dali_read.specs.WorkedReads.{two_locations, two_read, whole_read, missed_try, missed_tries, four_frames}
+use Rattle.dali_write.specs.WorkedBlocks.{two_locations, whole_read}
+use Rattle.dali_write.proofs.WorkedBlockLemmas.{last_doesnt, two_are_read, request_next}
+use Rattle.dali_read.specs.WorkedReads.{missed_try, missed_tries, four_frames}
 use Rattle.dali_read.specs.WorkedReads.{last_read}
 use Rattle.dali_read.specs.WorkedReads.{first_part, second_part}
-use Rattle.dali_read.specs.WorkedReads.{seven_frames}
 use Rattle.std.proofs.lemmas.Option.{slice_get_within}
 use Rattle.dali_read.specs.Shown.{WhenTold}
-use Rattle.dali_read.proofs.BlockBytesLemmas.{block_count}
+use Rattle.dali_write.proofs.BlockBytesLemmas.{block_count}
+use Rattle.dali_read.proofs.InBlockLemmas.{place_is}
 use Rattle.dali_read.proofs.TurnLemmas.{none_done}
 use Rattle.dali_read.proofs.BlockMissLemmas.{apt_block, block_misses, success_misses}
-use Rattle.dali_bus.proofs.ByteLemmas.{same_byte}
-
--- Which blocks fit
-
-pub some_fit : Fits (block 0x00 1) × Fits (block 0xFE 1) × Fits (block 0xEF 16)
-some_fit = (
-  record { some = omega arith; few = omega arith; within = omega arith },
-  record { some = omega arith; few = omega arith; within = omega arith },
-  record { some = omega arith; few = omega arith; within = omega arith },
-)
-
-pub none_doesnt : Fits (block 0x03 0) → ⊥
-none_doesnt fits = omega (arith, fits.some)
-
-pub seventeen_dont : Fits (block 0x03 17) → ⊥
-seventeen_dont fits = omega (arith, fits.few)
-
-pub last_doesnt : (Fits (block 0xFF 1) → ⊥) × (Fits (block 0xF0 16) → ⊥)
-last_doesnt = ((λ fits. omega (arith, fits.within)), (λ fits. omega (arith, fits.within)))
-
--- What is a block read
-
-pub two_are_read : IsBlockRead 5 two_locations (0x0A ∷ 0x0B ∷ []) whole_read
-two_are_read = (
-  (
-    Exactly 1,
-    refl,
-    (
-      Exactly 5,
-      refl,
-      (Anything, refl, (Anything, refl, (Exactly 3, refl, (Nothing, tt, (Exactly 1, refl, (Nothing, tt, refl)))))),
-    ),
-  ),
-  refl,
-)
-
-pub eight_frames : length whole_read ≡ 8
-eight_frames = refl
-
-pub no_other_bytes : (bytes : List ℕ) → IsBlockRead 5 two_locations bytes whole_read → bytes ≡ 0x0A ∷ 0x0B ∷ []
-no_other_bytes bytes read = sym read.1
-
--- of a try each exchange is what its request asks for
-request_next : (number : ℕ) (requests : List Request) (one next : Request) (left : List Request)
-    → one ∷ left ≡ drop number requests → slice_get requests number ≡ Some next → one ≡ next
-request_next zero [] one next left is at = cc
-request_next zero (first ∷ requests) one next left is at = cc
-request_next (suc number) [] one next left is at = cc
-request_next (suc number) (first ∷ requests) one next left is at = request_next number requests one next left is at
-
-pub asked_for : (requests : List Request) (newer : List Exchange) (x : Exchange) (older : List Exchange)
-    (left : List Request) (next : Request)
-    → slice_get requests (length older) ≡ Some next → Trying requests (newer ++ x ∷ older) left
-    → (x.frame ≡ next.frame) × Meets next.wish x.answer
-asked_for requests [] x older left next at try =
-    let same =
-    request_next (length older) requests (request x.frame try.0) next left (left_is requests older _ try.2) at in (
-      ap (λ (r : Request). r.frame) same,
-      subst (λ (r : Request). Meets r.wish x.answer) same try.1,
-    )
-asked_for requests (y ∷ newer) x older left next at try =
-    asked_for requests newer x older (request y.frame try.0 ∷ left) next at try.2
-
--- DTR0 one less, DTR1 at 00h, or a read that wasn't answered
-pub moved_less : (bytes : List ℕ)
-    → IsBlockRead 5 two_locations bytes (two_read (Some 0x0A) (Some 0x0B) (Some 0x04) (Some 0x01)) → ⊥
-moved_less bytes read =
-    let frames = two_read (Some 0x0A) (Some 0x0B) (Some 0x04) (Some 0x01) in
-    let wanted =
-    asked_for (block_requests 5 two_locations) (sent (AskDtr1 5) (Some 0x01) ∷ []) (sent (AskDtr0 5) (Some 0x04))
-    (drop 2 frames) [] (request (AskDtr0 5) (Exactly 5)) refl read.0 in
-    omega (arith, same_byte 0x04 0x05 wanted.1)
-
-pub in_bank_0 : (bytes : List ℕ)
-    → IsBlockRead 5 two_locations bytes (two_read (Some 0x0A) (Some 0x0B) (Some 0x05) (Some 0x00)) → ⊥
-in_bank_0 bytes read =
-    let frames = two_read (Some 0x0A) (Some 0x0B) (Some 0x05) (Some 0x00) in
-    let wanted =
-    asked_for (block_requests 5 two_locations) [] (sent (AskDtr1 5) (Some 0x00)) (drop 1 frames) []
-    (request (AskDtr1 5) (Exactly 1)) refl read.0 in
-    omega (arith, same_byte 0x00 0x01 wanted.1)
-
-pub one_unanswered : (bytes : List ℕ)
-    → IsBlockRead 5 two_locations bytes (two_read (Some 0x0A) None (Some 0x05) (Some 0x01)) → ⊥
-one_unanswered bytes read =
-    let frames = two_read (Some 0x0A) None (Some 0x05) (Some 0x01) in
-    let wanted =
-    asked_for (block_requests 5 two_locations) (sent (AskDtr1 5) (Some 0x01) ∷ sent (AskDtr0 5) (Some 0x05) ∷ [])
-    (sent (Read 5) None) (drop 3 frames) [] (request (Read 5) Anything) refl read.0 in
-    cc
-
--- and without its last frame it isn't whole
-pub last_unasked : (bytes : List ℕ) → IsBlockRead 5 two_locations bytes (drop 1 whole_read) → ⊥
-last_unasked bytes read =
-    let all : [] ≡ drop 7 (block_requests 5 two_locations) =
-    left_is (block_requests 5 two_locations) (drop 1 whole_read) [] read.0 in
-    cc
-
--- A loss of power before the reads is told by the last frame alone: the first six are answered as they want.
-
-pub six_as_wanted : Trying (block_requests 9 first_block) six_frames (request (AskDtr1 9) (Exactly 1) ∷ [])
-six_as_wanted =
-    (Exactly 1, refl, (Anything, refl, (Exactly 0, refl, (Nothing, tt, (Exactly 1, refl, (Nothing, tt, refl))))))
-
-pub seven_may_be : Run WorldStep (IsAmong (9 ∷ [])) seven_frames (lone_unit 0 0) (lone_unit 0 1)
-seven_may_be =
-    run_of seven_frames (lone_unit 0 0) (lone_unit 0 1) (
-      lone_unit 0 1,
-      lone_unit 0 1,
-      leads_of six_frames (lone_unit 0 0) (lone_unit 0 1) six_may_be,
-      tells_dtr1 0 1 9 refl,
-      Stays,
-    )
-
-pub loss_is_told : (bytes : List ℕ) → IsBlockRead 9 first_block bytes seven_frames → ⊥
-loss_is_told bytes read =
-    let wanted =
-    asked_for (block_requests 9 first_block) [] (sent (AskDtr1 9) (Some 0x00)) six_frames []
-    (request (AskDtr1 9) (Exactly 1)) refl read.0 in
-    omega (arith, same_byte 0x00 0x01 wanted.1)
 
 -- How many tries
 
@@ -470,19 +348,18 @@ pub was_there : (loses : ℕ → Type 0) (told : List Exchange) (first last : Wo
     → WhenTold loses told first last unit location byte
     → (reached : World) × (byte_at reached unit 1 location ≡ Some byte)
 was_there loses told first last unit location byte w =
-    let held = w.when.held w.index byte w.there in (
+    let held = w.then.when.held w.then.index byte w.then.there in (
       held.reached,
-      subst (λ (l : ℕ). byte_at held.reached unit 1 l ≡ Some byte) (sym w.place) held.held,
+      subst (λ (l : ℕ). byte_at held.reached unit 1 l ≡ Some byte) (sym w.then.place) held.held,
     )
 
 -- and that location isn't FFh
 pub not_ff : (loses : ℕ → Type 0) (told : List Exchange) (first last : World) (unit location byte : ℕ)
     → WhenTold loses told first last unit location byte → location < 0xFF
 not_ff loses told first last unit location byte w =
-    let within = w.fits.within in
-    let place = w.place in
-    let below = slice_get_within w.bytes w.index byte w.there in
-    let count =
-    block_count unit w.block w.bytes
-    (w.when.back ++ (w.when.each ++ (w.when.middle ++ w.when.two))) w.when.read in
-    omega arith
+    let t = w.then in
+    let below = slice_get_within t.bytes t.index byte t.there in
+    let tried = t.when.back ++ (t.when.each ++ (t.when.middle ++ t.when.two)) in
+    let count = block_count unit t.block t.bytes tried t.when.read in
+    let at = place_is unit t.block t.bytes tried w.fits t.when.read t.index byte t.there in
+    omega (arith, w.fits.within, t.place, at, below, count)

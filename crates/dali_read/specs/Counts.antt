@@ -5,7 +5,7 @@ use Rattle.dali_write.specs.Misses.{misses_in}
 use Rattle.dali_write.specs.Plans.{greatest}
 use Rattle.dali_read.specs.declared.finding.Finding.{Finding}
 use Rattle.dali_read.specs.declared.finding.Finding.TheVariants.{Short, Format}
-use Rattle.dali_read.specs.Blocks.{most_locations}
+use Rattle.dali_write.specs.Blocks.{most_locations}
 
 -- the frames of a block read of so many locations
 abbrev pub block_frames : ℕ → ℕ

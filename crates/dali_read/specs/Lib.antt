@@ -2,7 +2,6 @@ pub mod Blocks
 pub mod Readings
 pub mod Places
 pub mod Findings
-pub mod WhenBlock
 pub mod Shown
 pub mod Counts
 pub mod WorkedReads

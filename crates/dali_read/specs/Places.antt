@@ -2,14 +2,12 @@
 use Rattle.std.specs.Prelude.{ℕ, suc, ◌-◌, ◌==◌, ◌&&◌, nat_lt, min, drop, List, [], ◌∷◌, length, Option, Some, None}
 use Rattle.std.specs.Prelude.{if◌then◌else◌}
 use Rattle.dali_write.specs.Plans.{greatest}
-use Rattle.dali_read.specs.declared.block.Block.{Block}
+use Rattle.dali_write.specs.declared.block.Block.{Block}
 use Rattle.dali_read.specs.declared.places.Places.{Places}
 use Rattle.dali_read.specs.declared.places.Places.TheVariants as places
-use Rattle.dali_read.specs.Blocks.{most_locations}
+use Rattle.dali_write.specs.Requests.{block}
+use Rattle.dali_write.specs.Blocks.{most_locations}
 use Rattle.dali_read.specs.Readings.{Course}
-
-abbrev pub block : ℕ → ℕ → Block
-block location count = record { location = location; count = count }
 
 -- the location that names the last one of its bank
 abbrev pub first_block : Block

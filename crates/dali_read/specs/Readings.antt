@@ -2,8 +2,9 @@
 use Rattle.std.specs.Prelude.{◌≡◌, ℕ, List, [], ◌∷◌, ◌++◌, Option, Some, None, ⊤}
 use Rattle.dali_frame.specs.declared.forward.Frame.{Frame}
 use Rattle.dali_write.specs.Exchanges.{Exchange}
-use Rattle.dali_read.specs.declared.block.Block.{Block}
-use Rattle.dali_read.specs.Blocks.{Fits, Succeeds, Fails, Stands}
+use Rattle.dali_write.specs.declared.block.Block.{Block}
+use Rattle.dali_write.specs.Blocks.{Fits}
+use Rattle.dali_read.specs.Blocks.{Succeeds, Fails, Stands}
 
 -- which block is next after these bytes, if any
 abbrev pub Course : Type 0

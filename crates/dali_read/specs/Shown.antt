@@ -4,11 +4,11 @@ use Rattle.std.specs.List.{AllByRecursion}
 use Rattle.dali_bus.specs.World.{World}
 use Rattle.dali_write.specs.Exchanges.{Exchange}
 use Rattle.dali_write.specs.Findings.{Suits, IsTooShort, HasOtherFormat}
-use Rattle.dali_read.specs.declared.block.Block.{Block}
+use Rattle.dali_write.specs.declared.block.Block.{Block}
 use Rattle.dali_read.specs.declared.finding.Finding.{Finding}
 use Rattle.dali_read.specs.declared.finding.Finding.TheVariants.{Same, Other, Short, Format}
-use Rattle.dali_read.specs.Blocks.{Fits, IsBlockRead}
-use Rattle.dali_read.specs.WhenBlock.{WhenBlock}
+use Rattle.dali_write.specs.Blocks.{Fits, IsBlockRead}
+use Rattle.dali_write.specs.WhenBlock.{WhenTold as ToldThen}
 
 -- among these exchanges is a whole read of a block with this location, and it told this byte of it
 pub record InBlock (told : List Exchange) (unit location byte : ℕ) : Type 0 where
@@ -24,16 +24,11 @@ pub record InBlock (told : List Exchange) (unit location byte : ℕ) : Type 0 wh
   pub place : location ≡ block.location + index
   pub there : slice_get bytes index ≡ Some byte
 
--- a read of a block that told this byte of this location, and when the block's bytes were there
+-- a read of a block that fits told this byte of this location, and when the block's bytes were there
 pub record WhenTold (loses : ℕ → Type 0) (told : List Exchange) (first last : World) (unit location byte : ℕ)
     : Type 0 where
-  pub block : Block
-  pub fits : Fits block
-  pub bytes : List ℕ
-  pub index : ℕ
-  pub place : location ≡ block.location + index
-  pub there : slice_get bytes index ≡ Some byte
-  pub when : WhenBlock loses told first last unit block bytes
+  pub then : ToldThen loses told first last unit location byte
+  pub fits : Fits then.block
 
 -- These bytes are those of a bank, told by block reads: that of 00h, and that of each location up to the one that it
 -- names, at most to FEh.

@@ -16,18 +16,22 @@ ghost use Rattle.dali_write.specs.Guards.{IsGuarded};
 ghost use Rattle.dali_write.specs.Successes.{Spared, MissesByLosses};
 ghost use Rattle.dali_write.specs.Tries.{most_tries};
 ghost use Rattle.dali_write.specs.Worlds.{IsAmong, Run, Shows, KeepsAt};
-ghost use Rattle.dali_read.specs.declared.block.Block.{Block};
+ghost use Rattle.dali_write.specs.declared.block.Block.{Block};
 ghost use Rattle.dali_read.specs.declared.finding.Finding.{Finding};
-ghost use Rattle.dali_read.specs.Blocks.{Fits, block_requests, IsBlockRead};
-ghost use Rattle.dali_read.specs.Places.{block, last_course, bank_course, order_course};
+ghost use Rattle.dali_write.specs.Requests.{block_requests, moved_on};
+ghost use Rattle.dali_write.specs.Blocks.{Fits, IsBlockRead};
+ghost use Rattle.dali_write.specs.Requests.{block};
+ghost use Rattle.dali_read.specs.Places.{last_course, bank_course, order_course};
 ghost use Rattle.dali_read.specs.Readings.{Course, Ends, IsRead, IsReading};
 ghost use Rattle.dali_read.specs.Findings.{IsFound};
 ghost use Rattle.dali_read.specs.Shown.{InBlock, WhenTold, ShowsBank, Finds, Holds};
-ghost use Rattle.dali_read.specs.WhenBlock.{WhenBlock};
+ghost use Rattle.dali_write.specs.WhenBlock.{WhenBlock};
 ghost use Rattle.dali_read.specs.Counts.{block_frames, bank_frames, order_frames, found_frames, AreSoMany};
 
-/// A block read of one location is the checked read, and how many frames one has.
+/// A block read of one location is the checked read, how many frames one has, and where DTR0 stands behind its reads:
+/// so many further.
 pub fn blocks_are_these()
+    ensures place { (location count : ℕ) → location + count ≤ 0xFF → moved_on location count ≡ location + count }
     ensures one { (unit location : ℕ) → location < 0xFF
         → block_requests unit (block location 1) ≡ read_requests unit location }
     ensures frames { (unit : ℕ) (block : Block) → length (block_requests unit block) ≡ block_frames block.count }

@@ -2,11 +2,10 @@
 //! locations are read, by which frames, and what their answers show.
 #![tactic(auto)]
 
-mod block;
 mod finding;
 pub mod laws;
 mod places;
 
-pub use block::Block;
+pub use dali_write::Block;
 pub use finding::{Finding, compare};
 pub use places::Places;

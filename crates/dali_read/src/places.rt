@@ -1,11 +1,10 @@
 ghost use Rattle.std.specs.Prelude.{◌≡◌, ◌+◌, ◌≤◌, drop, length, min, IfSome};
 ghost use Rattle.dali_bank.specs.Order.{AreUpdates};
-ghost use Rattle.dali_read.specs.Blocks.{Fits};
+ghost use Rattle.dali_write.specs.Blocks.{Fits};
 ghost use Rattle.dali_read.specs.Places.{course_of, bank_course, order_course, row_of, in_a_row};
 
-use crate::block::Block;
 use dali_bank::Order;
-use dali_write::greatest_location;
+use dali_write::{Block, greatest_location};
 
 // The most locations of a block.
 const MOST_LOCATIONS: u8 = 16;

@@ -51,7 +51,7 @@ fn bus_with(alloc: Global, bank: &[u8], fixed: &[u8]) -> Result<SimBus, Fail> {
 // Carries a session on to its end, and tells how many frames it took and how it ended. Whatever is
 // told to it after that changes nothing.
 fn finish<B: Bus>(bus: &mut B, session: &mut Session) -> (u32, Option<Verdict>) {
-    for frames in 0..2_000u32 {
+    for frames in 0..15_000u32 {
         match session.want() {
             Ask::Send(frame) => {
                 let answer = bus.carry(&frame);
@@ -64,7 +64,7 @@ fn finish<B: Bus>(bus: &mut B, session: &mut Session) -> (u32, Option<Verdict>) 
             }
         }
     }
-    (2_000, None)
+    (15_000, None)
 }
 
 // Whether the session takes so many frames and ends so.
@@ -169,12 +169,28 @@ fn sessions_with_a_blank_unit(rt: HostRuntime) -> Result<(), Fail> {
     )
 }
 
+// Carries a reading session for this unit on, which reads these bytes.
+fn judge_reading(
+    bus: &mut SimBus,
+    unit: u8,
+    frames: u32,
+    verdict: Verdict,
+    bytes: &[u8],
+) -> Result<(), Fail>
+    requires { unit ≤ 63 }
+{
+    let mut session = Session::reading(unit);
+    let is_right = ends_so(bus, &mut session, frames, verdict) && session.bytes() == bytes;
+    expect_that(is_right, "the bytes of a reading session")
+}
+
 #[test]
 fn sessions_with_no_unit(rt: HostRuntime) -> Result<(), Fail> {
     let mut bus = blank_bus(rt.alloc(), Vec::new(rt.alloc()))?;
     judge_fresh(&mut bus, 9, &GTIN, 16, Verdict::Silent)?;
     judge_opened(&mut bus, 9, 80, Verdict::DoubtOpen)?;
-    judge_closing(&mut bus, 9, 48, Verdict::NotClosed)
+    judge_closing(&mut bus, 9, 48, Verdict::NotClosed)?;
+    judge_reading(&mut bus, 9, 16, Verdict::Silent, &[])
 }
 
 #[test]
@@ -196,7 +212,16 @@ fn another_content_format(rt: HostRuntime) -> Result<(), Fail> {
 #[test]
 fn a_short_bank(rt: HostRuntime) -> Result<(), Fail> {
     let mut bus = bus_with(rt.alloc(), &SHORT_BANK, &[])?;
-    judge_fresh(&mut bus, 5, &YEAR, 7, Verdict::Short)
+    judge_fresh(&mut bus, 5, &YEAR, 7, Verdict::Short)?;
+    judge_reading(&mut bus, 5, 119, Verdict::Read, &SHORT_BANK)
+}
+
+#[test]
+fn a_bank_of_255_bytes(rt: HostRuntime) -> Result<(), Fail> {
+    let mut bank = [0xA5; 255];
+    bank[0] = 0xFE;
+    let mut bus = bus_with(rt.alloc(), &bank, &[])?;
+    judge_reading(&mut bus, 5, 1785, Verdict::Read, &bank)
 }
 
 // Fates of so many frames that go through whole, and one more.

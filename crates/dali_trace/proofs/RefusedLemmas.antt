@@ -12,7 +12,7 @@ use Rattle.dali_journal.specs.declared.standing.Standing.TheVariants as standing
 use Rattle.dali_write.specs.Exchanges.{Exchange}
 use Rattle.dali_write.specs.Worlds.{Selects}
 use Rattle.dali_write.specs.Reads.{EndsInRead, StillRead, HasRead}
-use Rattle.dali_write.proofs.EndLemmas.{reads_by, ends_selecting, ends_reading}
+use Rattle.dali_write.proofs.EndLemmas.{reads_by, ends_selecting, ends_reading, one_location}
 use Rattle.dali_trace.specs.declared.happening.Reply.TheVariants as replies
 use Rattle.dali_trace.specs.declared.happening.Happening.{Happening}
 use Rattle.dali_trace.specs.declared.happening.Happening.TheVariants.{Answered, Sent, Powered}
@@ -56,16 +56,13 @@ read_is unit location byte x y told reads =
     let newest : x ≡ ends.x7 = cc in
     let next : y ≡ ends.x6 = cc in (
       ap (λ (e : Exchange). e.frame) newest ∙ ends.got7.frame_is,
-      ap (λ (e : Exchange). e.frame) next ∙ ends.got6.frame_is,
+      ap (λ (e : Exchange). e.frame) next ∙ ends.ask6,
     )
 
-told_is : (unit location byte : ℕ) (x7 x6 x5 x4 : Exchange) (told : List Exchange)
+told_is : (unit location byte to : ℕ) (x7 x6 x5 x4 : Exchange) (told : List Exchange) → x4.frame ≡ AskDtr0 to
     → EndsInRead unit location byte (x7 ∷ x6 ∷ x5 ∷ x4 ∷ told) → x4.answer ≡ Some location
-told_is unit location byte x7 x6 x5 x4 told reads =
-    let ends = ends_reading unit location byte (x7 ∷ x6 ∷ x5 ∷ x4 ∷ told) reads in
-    let is = ends.is in
-    let same : x4 ≡ ends.x4 = cc in
-    ap (λ (e : Exchange). e.answer) same ∙ ends.got4.meets
+told_is unit location byte to x7 x6 x5 x4 told asks reads =
+    (one_location unit location byte x7 x6 x5 x4 told to asks reads).meets
 
 newest_ends : (unit location byte : ℕ) (x : Exchange) (told : List Exchange) → EndsInRead unit location byte (x ∷ told)
     → x.frame ≡ AskDtr1 unit
@@ -114,7 +111,7 @@ not_behind : (past : List Happening) (unit location byte other place found : ℕ
     → StillRead (sent_of (read_at other place found past)) unit location byte
     → StillRead (sent_of past) unit location byte
 not_behind past unit location byte other place found differs (inl reads) =
-    let told : Some place ≡ Some location = told_is unit location byte _ _ _ _ _ reads in
+    let told : Some place ≡ Some location = told_is unit location byte other _ _ _ _ _ refl reads in
     absurd (differs (let same : place ≡ location = cc in same))
 not_behind past unit location byte other place found differs (inr (t7, inl reads)) =
     absurd (ends_none unit location byte _ _ refl reads)
@@ -148,7 +145,7 @@ reads_one : (unit location byte : ℕ) (told : List Exchange) → EndsInRead uni
 reads_one unit location byte told reads =
     let ends = ends_reading unit location byte told reads in
     subst (λ (t : List Exchange). none_read t ≡ false) (sym ends.is)
-    (rw (ends.got7.frame_is, ends.got6.frame_is, ends.got5.frame_is) refl)
+    (rw (ends.got7.frame_is, ends.ask6, ends.read5) refl)
 
 pub has_none : (unit : ℕ) (told : List Exchange) → none_read told ≡ true → HasRead unit told → ⊥
 has_none unit [] none has = has

@@ -30,6 +30,8 @@ use Rattle.dali_trace.specs.Worked.{empty, left_open, first_order, second_order,
 use Rattle.dali_trace.specs.Worked.{short_ended, ended, said, left_said, second_taken, unreached, taken_again}
 use Rattle.dali_trace.specs.WorkedPlans.{first_frame, begun_anew, said_again, second_taken_behind, frames_more}
 use Rattle.dali_trace.specs.WorkedPlans.{tries_more, reads_more, records_more, begun_said, opened_said, blocked_said}
+use Rattle.dali_write.proofs.EndLemmas.{ends_reading}
+use Rattle.dali_write.proofs.BlockOneLemmas.{one_tells}
 use Rattle.dali_trace.proofs.RefusedLemmas.{none_read, has_none}
 
 -- so many frames were sent, and one record kept
@@ -177,8 +179,7 @@ blocked_after (suc n) unread =
 
 -- a byte was found only where a checked read was answered
 ends_has : (unit location byte : ℕ) (told : List Exchange) → EndsInRead unit location byte told → HasRead unit told
-ends_has unit location byte [] ([], older, parts, (try, is)) = let never = try in cc
-ends_has unit location byte [] (x ∷ newer, older, parts, (try, is)) = cc
+ends_has unit location byte [] reads = let is = (ends_reading unit location byte [] reads).is in cc
 ends_has unit location byte (x ∷ told) reads = inl (location, byte, reads)
 
 has_later : (unit : ℕ) (newer told : List Exchange) → HasRead unit told → HasRead unit (newer ++ told)
@@ -204,7 +205,7 @@ found_read unit plan expected told found = by found.answered
         let parts : found.read ++ found.older ≡ tried ++ (missed ++ found.older) =
         ap (λ (t : List Exchange). t ++ found.older) same ∙ append_assoc tried missed found.older in
         let here = ends_has unit found.location found.found (found.read ++ found.older)
-        (tried, missed ++ found.older, parts, (try, sym outcome)) in
+        (tried, missed ++ found.older, parts, one_tells unit found.location found.found tried (try, sym outcome)) in
         subst (λ (t : List Exchange). HasRead unit t) (sym found.parts)
         (has_later unit found.newer (found.read ++ found.older) here)
 

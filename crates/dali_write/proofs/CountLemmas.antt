@@ -1,5 +1,5 @@
 -- How many frames a session sends at most.
-use Rattle.std.proofs.Common.{◌≡◌, ◌⊎◌, inl, inr, refl, ap, subst, ℕ, zero, suc, ◌+◌, ◌-◌, ◌*◌, ◌<◌, ◌≤◌, ◌==◌}
+use Rattle.std.proofs.Common.{◌≡◌, ◌⊎◌, inl, inr, refl, ap, subst, ℕ, zero, suc, ◌+◌, ◌-◌, ◌*◌, ◌<◌, ◌≤◌, min, ◌==◌}
 use Rattle.std.proofs.Common.{nat_lt, if◌then◌else◌, List, [], ◌∷◌, ◌++◌, length, length-append, Option, arith}
 use Rattle.std.proofs.lemmas.Nat.{mul-le}
 use Rattle.dali_write.specs.Exchanges.{Exchange}
@@ -8,12 +8,12 @@ use Rattle.dali_write.specs.declared.access.Access.{Access}
 use Rattle.dali_write.specs.declared.access.Access.TheVariants.{ReadFrom, WriteTo}
 use Rattle.dali_write.specs.declared.ask.Verdict.{Verdict}
 use Rattle.dali_write.specs.declared.stage.Task.{Task}
-use Rattle.dali_write.specs.declared.stage.Task.TheVariants.{Fresh, Opened, Closing}
+use Rattle.dali_write.specs.declared.stage.Task.TheVariants.{Fresh, Opened, Closing, Reading}
 use Rattle.dali_write.specs.declared.session.Session.{Session}
 use Rattle.dali_write.specs.Requests.{request, access_requests}
 use Rattle.dali_write.specs.Frames.{read_frames, write_frames}
 use Rattle.dali_write.specs.Plans.{Plan, Finish, Make, next_plan, plan_after, greatest, read_format, judge_length}
-use Rattle.dali_write.specs.Plans.{read_length, close, give_up, expect, read_back, read_lock, write_on, unlock}
+use Rattle.dali_write.specs.Plans.{read_length, close, give_up, expect, read_back, read_lock, write_on, unlock, read_on}
 use Rattle.dali_write.specs.Tries.{most_tries, Trying, Missed, Misses, Succeeds, Fails, AccessEnds, AccessesEnd}
 use Rattle.dali_write.specs.Tries.{plan_requests}
 use Rattle.dali_write.specs.Tries.{Stands}
@@ -213,12 +213,25 @@ read_length_takes updates = (
       (if_all (TakesAtMost (2 * most_read)) (nat_lt (greatest updates) 0x13) _ _ tt read_format_takes)),
 )
 
+read_on_takes : (limit location left : ℕ) → left * most_read ≤ limit → TakesAtMost limit (read_on location left)
+read_on_takes limit location zero le = tt
+read_on_takes limit location (suc left) le = (
+  omega arith,
+  either_all (TakesAtMost (limit - most_read)) _ (λ byte. read_on (suc location) left) tt
+      (λ byte. read_on_takes (limit - most_read) (suc location) left (omega arith)),
+)
+
 plan_takes : (task : Task) → TakesAtMost (frame_limit task) (plan_of task)
 plan_takes (Fresh order) = read_length_takes order.updates
 plan_takes (Opened order) = unlock_takes (frame_limit (Opened order)) order.updates (omega arith)
 plan_takes Closing = close_takes most_close _ _ (omega arith)
+plan_takes Reading = (
+  omega arith,
+  either_all (TakesAtMost (254 * most_read)) _ (λ last. read_on 1 (min last 0xFE)) tt
+      (λ last. read_on_takes (254 * most_read) 1 (min last 0xFE) (omega arith)),
+)
 
 pub told_length : (told : List Exchange) (s : Session) → Told told s → length told ≤ frame_limit s.task
 unfolding Told
-told_length told s was = stands_takes _ (plan_of s.task) told _ _ _ _ (frame_limit s.task) was
+told_length told s was = stands_takes _ (plan_of s.task) told _ _ _ _ (frame_limit s.task) was.stands
     (plan_takes s.task)

@@ -1,5 +1,5 @@
--- How many frames a session takes that looks at a bank or closes it.
-use Rattle.std.proofs.Common.{◌≡◌, ◌≢◌, inl, inr, refl, ap, ℕ, zero, suc, ◌+◌, ◌-◌, ◌*◌, ◌<◌, ◌≤◌, Bool, true}
+-- How many frames a session takes that looks at a bank, closes it or reads it.
+use Rattle.std.proofs.Common.{◌≡◌, ◌≢◌, inl, inr, refl, ap, ℕ, zero, suc, ◌+◌, ◌-◌, ◌*◌, ◌<◌, ◌≤◌, min, Bool, true}
 use Rattle.std.proofs.Common.{false, ◌==◌, ◌&&◌, nat_lt, if◌then◌else◌, List, [], ◌∷◌, length, length-append, Option}
 use Rattle.std.proofs.Common.{Some, None, arith}
 use Rattle.std.proofs.lemmas.Bool.{lt-ltb, le-ltb}
@@ -8,14 +8,15 @@ use Rattle.dali_write.specs.declared.request.Request.{Request}
 use Rattle.dali_write.specs.declared.access.Access.{Access}
 use Rattle.dali_write.specs.declared.access.Access.TheVariants.{ReadFrom, WriteTo}
 use Rattle.dali_write.specs.declared.ask.Verdict.{Verdict}
-use Rattle.dali_write.specs.declared.ask.Verdict.TheVariants.{MayOpen, Short, Format, Silent, Closed, NotClosed}
+use Rattle.dali_write.specs.declared.ask.Verdict.TheVariants.{MayOpen, Short, Format, Silent, Closed, NotClosed, Read}
 use Rattle.dali_write.specs.declared.ask.Ask.TheVariants.{Ended}
 use Rattle.dali_write.specs.Requests.{access_requests}
 use Rattle.dali_write.specs.Frames.{read_frames, write_frames, try_frames}
+use Rattle.dali_write.specs.Counts.{read_all_frames}
 use Rattle.dali_write.specs.Plans.{Plan, Finish, Make, either_way, greatest, read_format_low, read_format}
-use Rattle.dali_write.specs.Plans.{judge_length, read_length, read_closed, close}
+use Rattle.dali_write.specs.Plans.{judge_length, read_length, read_closed, close, read_on, read_all}
 use Rattle.dali_write.specs.Tries.{most_tries, Missed, Misses, AccessEnds, Wants}
-use Rattle.dali_write.specs.Walks.{Walk, access_misses, Took}
+use Rattle.dali_write.specs.Walks.{Walk, access_misses, Took, TookAll}
 use Rattle.dali_write.proofs.WalkLemmas.{ended_walk}
 use Rattle.dali_write.proofs.CountLemmas.{misses_length}
 use Rattle.dali_write.proofs.ExactLemmas.{Frames, at_most, and_rest, access_first}
@@ -207,3 +208,33 @@ pub closed_took : (told : List Exchange) (unit : ℕ) → Wants unit (close Clos
     → Took unit (close Closed NotClosed) told Closed (write_frames + read_frames)
 closed_took told unit wants =
     took unit (close Closed NotClosed) told Closed (write_frames + read_frames) (close_takes unit) wants
+
+-- a reading session
+
+read_on_takes : (unit location left : ℕ) → Takes unit (read_on location left) Read (left * read_frames)
+read_on_takes unit location zero outcomes told walk = takes_none unit Read Read outcomes told walk
+read_on_takes unit location (suc left) outcomes told walk =
+    let all = read_takes unit location (λ byte. read_on (suc location) left) Silent Read (left * read_frames) (λ e. cc)
+    (λ byte. read_on_takes unit (suc location) left) outcomes told walk in
+    let sum = all.took in
+    record { more = all.more; took = omega arith; few = all.few }
+
+pub read_took : (told : List Exchange) (unit : ℕ) → Wants unit read_all told (Ended Read) → TookAll unit told
+read_took told unit wants = let walk = ended_walk unit read_all told Read wants in by walk.0 walk.1
+  where
+    by : (outcomes : List (Option ℕ)) → Walk unit read_all outcomes told (Finish Read) → TookAll unit told
+    by [] walk = let no = walk.1 in cc
+    by (None ∷ outcomes) walk = absurd (ends_not unit Silent Read (λ e. cc) outcomes walk.0 walk.4)
+    by (Some last ∷ outcomes) walk =
+        let on = read_on_takes unit 1 (min last 0xFE) outcomes walk.0 walk.4 in
+        let reads = either_way (Finish Silent) (λ byte. read_on 1 (min byte 0xFE)) in
+        let all =
+        access_first unit (ReadFrom 0) reads last outcomes told (Finish Read) walk (min last 0xFE * read_frames)
+        (read_all_frames last) (omega arith) on in
+        record {
+          last = last;
+          rest = outcomes;
+          took =
+              record { outcomes = Some last ∷ outcomes; walk = walk; more = all.more; took = all.took; few = all.few };
+          first = refl;
+        }

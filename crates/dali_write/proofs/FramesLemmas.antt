@@ -1,5 +1,5 @@
 -- The frames that are still to come fall with each frame.
-use Rattle.std.proofs.Common.{◌≡◌, refl, ℕ, ◌+◌, ◌-◌, ◌*◌, ◌<◌, ◌≤◌, List, [], ◌∷◌, length, drop, Option}
+use Rattle.std.proofs.Common.{◌≡◌, refl, ℕ, zero, suc, ◌+◌, ◌-◌, ◌*◌, ◌<◌, ◌≤◌, List, [], ◌∷◌, length, drop, Option}
 use Rattle.std.proofs.Common.{Some, None, IsSome, arith}
 use Rattle.std.proofs.lemmas.Nat.{mul-le}
 use Rattle.std.proofs.lemmas.Option.{slice_get_within}
@@ -8,11 +8,12 @@ use Rattle.dali_write.specs.declared.stage.Task.{Task}
 use Rattle.dali_write.specs.declared.session.Session.{Session}
 use Rattle.dali_write.specs.declared.stage.Stage.{Stage}
 use Rattle.dali_write.specs.declared.stage.Stage.TheVariants.{ReadLength, ReadFormat, ReadFormatLow, Unlock, WriteOn}
-use Rattle.dali_write.specs.declared.stage.Stage.TheVariants.{ReadLock, ReadBack, Close, ReadClosed, Over}
-use Rattle.dali_write.specs.Plans.{write_on, read_back}
+use Rattle.dali_write.specs.declared.stage.Stage.TheVariants.{ReadLock, ReadBack, Close, ReadClosed, ReadAll, ReadOn}
+use Rattle.dali_write.specs.declared.stage.Stage.TheVariants.{Over}
+use Rattle.dali_write.specs.Plans.{write_on, read_back, read_on}
 use Rattle.dali_write.specs.Tries.{plan_requests}
 use Rattle.dali_write.specs.Stages.{updates_for, plan_at}
-use Rattle.dali_write.specs.FramesLeft.{limit_at}
+use Rattle.dali_write.specs.FramesLeft.{limit_at, read_limit}
 use Rattle.dali_write.specs.Told.{request_at_hand}
 
 write_on_requests : (unit : ℕ) (updates left : List (ℕ × ℕ)) → length (plan_requests unit (write_on updates left)) ≤ 7
@@ -22,6 +23,11 @@ write_on_requests unit updates (update ∷ left) = omega arith
 read_back_requests : (unit : ℕ) (updates : List (ℕ × ℕ)) → length (plan_requests unit (read_back updates)) ≤ 7
 read_back_requests unit [] = omega arith
 read_back_requests unit (update ∷ updates) = omega arith
+
+read_on_requests : (unit location left : ℕ)
+    → 8 * length (plan_requests unit (read_on location left)) ≤ read_limit * left
+read_on_requests unit location zero = omega arith
+read_on_requests unit location (suc left) = omega arith
 
 -- the limit of a stage has room for eight tries of the access at hand
 pub tries_fit : (unit : ℕ) (task : Task) (stage : Stage)
@@ -36,6 +42,8 @@ tries_fit unit task ReadLock = omega arith
 tries_fit unit task (ReadBack index) = omega (arith, read_back_requests unit (drop index (updates_for task)))
 tries_fit unit task (Close answered unanswered) = omega arith
 tries_fit unit task (ReadClosed answered unanswered) = omega arith
+tries_fit unit task ReadAll = omega arith
+tries_fit unit task (ReadOn location last) = read_on_requests unit location (suc last - location)
 tries_fit unit task (Over verdict) = omega arith
 
 -- the frames of the tries so far are fewer than those of eight

@@ -1,5 +1,5 @@
--- A fresh session is quiet.
-use Rattle.std.proofs.Common.{sym, subst, ℕ, nat_lt, List, [], ◌∷◌, ◌++◌, Option}
+-- What the verdict of a fresh session says of the world, and that reading is quiet.
+use Rattle.std.proofs.Common.{sym, subst, ℕ, zero, suc, min, nat_lt, List, [], ◌∷◌, ◌++◌, Option}
 use Rattle.std.specs.Prelude.{⊤}
 use Rattle.dali_bus.specs.World.{World}
 use Rattle.dali_write.specs.Exchanges.{Exchange}
@@ -7,7 +7,7 @@ use Rattle.dali_write.specs.declared.access.Access.TheVariants.{ReadFrom, WriteT
 use Rattle.dali_write.specs.declared.ask.Ask.{Ask}
 use Rattle.dali_write.specs.declared.ask.Verdict.TheVariants.{MayOpen, Short, Silent}
 use Rattle.dali_write.specs.Plans.{Plan, Finish, Make, next_plan, plan_after, greatest, judge_length, read_format}
-use Rattle.dali_write.specs.Plans.{read_format_low, read_length}
+use Rattle.dali_write.specs.Plans.{read_format_low, read_length, read_on, read_all}
 use Rattle.dali_write.specs.Tries.{AccessEnds, AccessesEnd, Wants, plan_requests}
 use Rattle.dali_write.specs.Worlds.{KeepsAt}
 use Rattle.dali_write.proofs.TruthLemmas.{AllQuiet, run_keeps}
@@ -74,9 +74,26 @@ length_reads updates =
     (if_all OnlyReads (nat_lt (greatest updates) 0x13) (Finish MayOpen) read_format tt (either_all OnlyReads
     (Finish Silent) read_format_low tt (λ high. either_all OnlyReads (Finish Silent) _ tt (λ low. tt)))))
 
+on_reads : (location left : ℕ) → OnlyReads (read_on location left)
+unfolding OnlyReads
+on_reads location zero = tt
+on_reads location (suc left) =
+    either_all OnlyReads (Finish Silent) (λ byte. read_on (suc location) left) tt (λ byte. on_reads (suc location) left)
+
+all_reads : OnlyReads read_all
+unfolding OnlyReads
+all_reads =
+    either_all OnlyReads (Finish Silent) (λ last. read_on 1 (min last 0xFE)) tt (λ last. on_reads 1 (min last 0xFE))
+
 pub fresh_quiet : {loses : ℕ → Type 0} (told : List Exchange) (first last : World) (unit : ℕ) (updates : List (ℕ × ℕ))
     (ask : Ask)
     → Leads WorldStep loses told first last → Wants unit (read_length updates) told ask
     → (address : ℕ) → KeepsAt loses first last address
 fresh_quiet told first last unit updates ask run wants =
     quiet_wants unit (read_length updates) told ask first last (length_reads updates) run wants
+
+pub reading_quiet : {loses : ℕ → Type 0} (told : List Exchange) (first last : World) (unit : ℕ) (ask : Ask)
+    → Leads WorldStep loses told first last
+    → Wants unit read_all told ask
+    → (address : ℕ) → KeepsAt loses first last address
+reading_quiet told first last unit ask run wants = quiet_wants unit read_all told ask first last all_reads run wants

@@ -1,5 +1,5 @@
 -- A session gives up only where its last access failed.
-use Rattle.std.proofs.Common.{◌≡◌, ◌⊎◌, inl, inr, refl, sym, ap, subst, ◌∙◌, ℕ, Bool, true, false, ◌==◌}
+use Rattle.std.proofs.Common.{◌≡◌, ◌⊎◌, inl, inr, refl, sym, ap, subst, ◌∙◌, ℕ, zero, suc, min, Bool, true, false, ◌==◌}
 use Rattle.std.specs.Prelude.{⊤}
 use Rattle.std.proofs.Common.{◌&&◌, nat_lt, if◌then◌else◌, List, [], ◌∷◌, ◌++◌, append_assoc, append-nil, Option, Some}
 use Rattle.std.proofs.Common.{None, IsSome}
@@ -10,7 +10,7 @@ use Rattle.dali_write.specs.declared.ask.Verdict.TheVariants.{MayOpen, Short, Fo
 use Rattle.dali_write.specs.declared.ask.Verdict.TheVariants.{NotClosed}
 use Rattle.dali_write.specs.declared.ask.Ask.TheVariants.{Ended}
 use Rattle.dali_write.specs.Plans.{Plan, Finish, Make, greatest, read_format, read_length, close, give_up, expect}
-use Rattle.dali_write.specs.Plans.{read_back, write_on, unlock}
+use Rattle.dali_write.specs.Plans.{read_back, write_on, unlock, read_on, read_all}
 use Rattle.dali_write.specs.declared.access.Access.TheVariants.{ReadFrom, WriteTo}
 use Rattle.dali_write.specs.declared.request.Request.{Request}
 use Rattle.dali_write.specs.Requests.{Meets, request, access_requests, byte_after}
@@ -178,6 +178,20 @@ closing_late told unit wants =
     only (ReadFrom 0x02) unit told
     (late LockRead unit (close Closed NotClosed) told NotClosed
     ((λ e. refl, λ read e. cc), λ written. (λ e. refl, λ read e. cc)) wants)
+
+-- a read of some location
+abbrev IsRead : Access → Type 0
+IsRead access = (location : ℕ) × (access ≡ ReadFrom location)
+
+read_on_late : (location left : ℕ) → Late IsRead Silent None (read_on location left)
+read_on_late location zero = λ e. cc
+read_on_late location (suc left) = (λ e. (location, refl), λ byte. read_on_late (suc location) left)
+
+pub reading_late : (told : List Exchange) (unit : ℕ) → Wants unit read_all told (Ended Silent)
+    → (location : ℕ) × EndsUnread unit location told
+reading_late told unit wants =
+    let of = late IsRead unit read_all told Silent (λ e. (0, refl), λ last. read_on_late 1 (min last 0xFE)) wants in
+    (of.1.0, subst (λ (s : Access). EndsInFailure unit s told) of.1.1 of.2)
 
 -- with older frames before
 

@@ -1,5 +1,5 @@
 -- The frames that a session wants are guarded.
-use Rattle.std.proofs.Common.{◌≡◌, refl, sym, ap, subst, ◌∙◌, inl, ℕ, nat_lt, List, [], ◌∷◌, ◌++◌}
+use Rattle.std.proofs.Common.{◌≡◌, refl, sym, ap, subst, ◌∙◌, inl, ℕ, zero, suc, min, nat_lt, List, [], ◌∷◌, ◌++◌}
 use Rattle.std.proofs.Common.{append_assoc, Option, Some, arith}
 use Rattle.dali_frame.specs.declared.forward.Frame.{Frame}
 use Rattle.dali_frame.specs.declared.forward.Frame.TheVariants.{Dtr0, Dtr1, Dtr2, Write, WriteSilent, Enable, AskDtr0}
@@ -13,7 +13,7 @@ use Rattle.dali_write.specs.declared.ask.Ask.TheVariants.{Send}
 use Rattle.dali_write.specs.declared.ask.Verdict.TheVariants.{MayOpen, Short, Silent, Closed, NotClosed}
 use Rattle.dali_write.specs.Requests.{request, select_requests, read_requests, write_requests}
 use Rattle.dali_write.specs.Plans.{Plan, Finish, Make, plan_after, close, unlock, greatest, judge_length, read_format}
-use Rattle.dali_write.specs.Plans.{read_format_low, read_length}
+use Rattle.dali_write.specs.Plans.{read_format_low, read_length, read_on, read_all}
 use Rattle.dali_write.specs.Tries.{Trying, Wants, plan_requests}
 use Rattle.dali_write.proofs.AskLemmas.{shown_ask, ask_shown}
 use Rattle.dali_write.specs.Touches.{Has, writes_of}
@@ -162,3 +162,18 @@ pub closing_guarded : (told : List Exchange) (unit : ℕ) (frame : Frame)
 closing_guarded told unit frame wants =
     wants_guarded ((2, 0xFF) ∷ []) unit (close Closed NotClosed) told frame
     (close_writes ((2, 0xFF) ∷ []) Closed NotClosed (inl (refl, refl))) wants
+
+on_writes : (location left : ℕ) → OnlyWrites [] (read_on location left)
+on_writes location zero = tt
+on_writes location (suc left) =
+    either_all (λ (p : Plan). OnlyWrites [] p) (Finish Silent) (λ byte. read_on (suc location) left) tt
+    (λ byte. on_writes (suc location) left)
+
+-- so does one that reads a bank
+pub reading_guarded : (told : List Exchange) (unit : ℕ) (frame : Frame) → Wants unit read_all told (Send frame)
+    → IsGuarded [] unit told frame
+reading_guarded told unit frame wants =
+    wants_guarded [] unit read_all told frame
+    (either_all (λ (p : Plan). OnlyWrites [] p) (Finish Silent) (λ last. read_on 1 (min last 0xFE)) tt
+    (λ last. on_writes 1 (min last 0xFE)))
+    wants

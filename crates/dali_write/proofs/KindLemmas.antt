@@ -1,5 +1,5 @@
 -- With which verdicts a session may end.
-use Rattle.std.proofs.Common.{◌∙◌, ◌≡◌, subst, ℕ, Bool, ◌==◌, ◌&&◌, nat_lt, true, false, if◌then◌else◌}
+use Rattle.std.proofs.Common.{◌∙◌, ◌≡◌, subst, ℕ, zero, suc, min, Bool, ◌==◌, ◌&&◌, nat_lt, true, false, if◌then◌else◌}
 use Rattle.std.proofs.Common.{List, [], ◌∷◌, Option}
 use Rattle.dali_write.specs.Exchanges.{Exchange}
 use Rattle.dali_write.specs.declared.request.Request.{Request}
@@ -9,10 +9,10 @@ use Rattle.dali_write.specs.declared.ask.Verdict.TheVariants.{MayOpen, Short, Fo
 use Rattle.dali_write.specs.declared.ask.Verdict.TheVariants.{NotClosed}
 use Rattle.dali_write.specs.Plans.{Plan, Finish, Make, next_plan, plan_after, greatest, judge_length, read_format}
 use Rattle.dali_write.specs.Plans.{read_format_low, read_length, close, give_up, expect, read_back, read_lock, write_on}
-use Rattle.dali_write.specs.Plans.{unlock}
+use Rattle.dali_write.specs.Plans.{unlock, read_on, read_all}
 use Rattle.dali_write.specs.Tries.{IsGoing, Wants}
 use Rattle.dali_write.proofs.AskLemmas.{shown_ask, ask_shown}
-use Rattle.dali_write.specs.Verdicts.{EndsFresh, EndsOpened, EndsClosing}
+use Rattle.dali_write.specs.Verdicts.{EndsFresh, EndsOpened, EndsClosing, EndsReading}
 use Rattle.dali_write.proofs.PlanLemmas.{either_all, if_all}
 
 -- wherever the plan ends, it ends so
@@ -98,3 +98,17 @@ pub closing_ends : (told : List Exchange) (unit : ℕ) (verdict : Verdict)
     → Wants unit (close Closed NotClosed) told (Ended verdict) → EndsClosing verdict
 closing_ends told unit verdict wants =
     ended EndsClosing unit (close Closed NotClosed) told verdict (close_ends EndsClosing Closed NotClosed tt tt) wants
+
+on_ends : (location left : ℕ) → EndsSo EndsReading (read_on location left)
+on_ends location zero = tt
+on_ends location (suc left) =
+    either_all (EndsSo EndsReading) (Finish Silent) (λ byte. read_on (suc location) left) tt
+    (λ byte. on_ends (suc location) left)
+
+pub reading_ends : (told : List Exchange) (unit : ℕ) (verdict : Verdict) → Wants unit read_all told (Ended verdict)
+    → EndsReading verdict
+reading_ends told unit verdict wants =
+    ended EndsReading unit read_all told verdict
+    (either_all (EndsSo EndsReading) (Finish Silent) (λ last. read_on 1 (min last 0xFE)) tt
+    (λ last. on_ends 1 (min last 0xFE)))
+    wants

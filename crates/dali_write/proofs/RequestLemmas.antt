@@ -1,12 +1,12 @@
 -- The requests that are left of a try, and the plan that has none.
-use Rattle.std.proofs.Common.{◌≡◌, refl, sym, ap, ◌∙◌, ℕ, zero, suc, ◌+◌, ◌<◌, List, [], ◌∷◌, length, drop}
-use Rattle.std.proofs.Common.{Option, Some, None, Ok, Err, is_some, false, slice_get, add-one, drop-cons}
+use Rattle.std.proofs.Common.{◌≡◌, refl, sym, ap, ◌∙◌, ℕ, zero, suc, ◌+◌, ◌-◌, ◌<◌, List, [], ◌∷◌, length, drop}
+use Rattle.std.proofs.Common.{Option, Some, None, Ok, Err, is_some, true, false, slice_get, add-one, drop-cons, arith}
 use Rattle.dali_write.specs.declared.request.Request.{Request}
 use Rattle.dali_write.specs.declared.access.Access.{Access}
 use Rattle.dali_write.specs.declared.ask.Verdict.{Verdict}
 use Rattle.dali_write.specs.declared.ask.Ask.TheVariants.{Send, Ended}
 use Rattle.dali_write.specs.Requests.{access_requests}
-use Rattle.dali_write.specs.Plans.{Plan, Finish, Make, write_on, next_plan, either_way, give_up}
+use Rattle.dali_write.specs.Plans.{Plan, Finish, Make, write_on, read_on, next_plan, either_way, give_up}
 use Rattle.dali_write.specs.Tries.{plan_requests, IsGoing, ask_at}
 use Rattle.dali_write.proofs.AskLemmas.{ask_shown}
 use Rattle.dali_write.specs.Stages.{access_of}
@@ -39,6 +39,16 @@ pub wants_nothing : (plan : Plan) (left : List Request) (verdict : Verdict) → 
     → ask_at plan left going ≡ Ended verdict
 wants_nothing (Finish ended) left verdict is going = let same : ended ≡ verdict = cc in ap Ended same
 wants_nothing (Make access after) left verdict is going = cc
+
+-- one more location to read
+pub read_on_next : (location last : ℕ) (outcome : Option ℕ) → location < last → is_some outcome ≡ true
+    → read_on (location + 1) (suc last - (location + 1)) ≡ next_plan (read_on location (suc last - location)) outcome
+read_on_next location last None below some = cc
+read_on_next location last (Some byte) below some =
+    let one : suc last - location ≡ suc (last - location) = omega arith in
+    let two : suc last - (location + 1) ≡ last - location = omega arith in
+    let next : location + 1 ≡ suc location = omega arith in
+    rw (one, two, next) refl
 
 -- one more update to write
 pub write_on_next : (updates : List (ℕ × ℕ)) (index : ℕ) (outcome : Option ℕ) → index < length updates

@@ -22,6 +22,7 @@ use Rattle.dali_write.specs.Walks.{Walk}
 use Rattle.dali_write.proofs.GearLemmas.{IsQuiet}
 use Rattle.dali_write.proofs.TruthLemmas.{AllQuiet}
 use Rattle.dali_write.proofs.EndLemmas.{ends_reading}
+use Rattle.dali_write.proofs.BlockOneLemmas.{one_tells}
 use Rattle.dali_write.proofs.VerdictLemmas.{read_access_quiet, finish_walk, only_older}
 use Rattle.dali_write.proofs.WalkLemmas.{ended_walk}
 
@@ -106,7 +107,8 @@ pub read_access_shows : (unit location byte : ℕ) (after : Option ℕ → Plan)
 read_access_shows unit location byte after told first last (inl done) is =
     let parts : last ≡ done.0 ++ (done.1 ++ first) =
     is ∙ (subst (λ (t : List Exchange). told ++ first ≡ t ++ first) done.3 refl ∙ append_assoc done.0 done.1 first) in
-    stands_now unit location byte last (done.0, done.1 ++ first, parts, (done.4, sym done.5))
+    let tells = one_tells unit location byte done.0 (done.4, sym done.5) in
+    stands_now unit location byte last (done.0, done.1 ++ first, parts, tells)
 read_access_shows unit location byte after told first last (inr failed) is = let never = failed.0 in cc
 
 -- it gave the order up
@@ -330,6 +332,7 @@ rests_on_too P Q A B updates Doubt f answered rests = answered rests
 rests_on_too P Q A B updates DoubtOpen f answered rests = tt
 rests_on_too P Q A B updates Closed f answered rests = answered rests
 rests_on_too P Q A B updates NotClosed f answered rests = tt
+rests_on_too P Q A B updates _ f answered rests = tt
 
 pub rests_too : (P Q : ℕ → ℕ → Type 0) (updates : List (ℕ × ℕ)) (verdict : Verdict) → Shown P Q
     → Rests P updates verdict → Rests Q updates verdict

@@ -18,7 +18,7 @@ goes_first unit (Make (ReadFrom location) after) = refl
 goes_first unit (Make (WriteTo location byte) after) = refl
 
 -- at the beginning
-pub stands_at_first : (unit : ℕ) (plan : Plan) → Stands unit plan [] plan 0 (plan_requests unit plan) None
+unfoldable pub stands_at_first : (unit : ℕ) (plan : Plan) → Stands unit plan [] plan 0 (plan_requests unit plan) None
 stands_at_first unit plan =
     record {
       outcomes = [];
@@ -36,7 +36,7 @@ stands_at_first unit plan =
     }
 
 -- the frame at hand got what it wants
-pub stands_on : (unit : ℕ) (plan : Plan) (told : List Exchange) (now : Plan) (misses : ℕ)
+unfoldable pub stands_on : (unit : ℕ) (plan : Plan) (told : List Exchange) (now : Plan) (misses : ℕ)
     (left : List Request)
     (byte : Option ℕ) (frame : Frame) (answer : Option ℕ) (wish : Wish)
     → Stands unit plan told now misses (request frame wish ∷ left) byte → Meets wish answer → IsGoing now left
@@ -59,7 +59,7 @@ stands_on unit plan told now misses left byte frame answer wish s meets going =
     }
 
 -- another try of the same access
-pub stands_again : (unit : ℕ) (plan : Plan) (told : List Exchange) (now : Plan) (misses : ℕ)
+unfoldable pub stands_again : (unit : ℕ) (plan : Plan) (told : List Exchange) (now : Plan) (misses : ℕ)
     (left : List Request) (byte : Option ℕ) (frame : Frame) (answer : Option ℕ) (wish : Wish)
     → Stands unit plan told now misses (request frame wish ∷ left) byte → ¬ Meets wish answer → suc misses < most_tries
     → Stands unit plan (record { frame = frame; answer = answer } ∷ told) now (suc misses) (plan_requests unit now) None
@@ -81,7 +81,7 @@ stands_again unit plan told now misses left byte frame answer wish s misses_it f
     }
 
 -- the access ended
-pub ends_access : (unit : ℕ) (plan : Plan) (told : List Exchange) (now : Plan) (outcomes : List (Option ℕ))
+unfoldable pub ends_access : (unit : ℕ) (plan : Plan) (told : List Exchange) (now : Plan) (outcomes : List (Option ℕ))
     (ended newer : List Exchange) (outcome : Option ℕ)
     → told ≡ newer ++ ended → AccessesEnd unit plan outcomes ended → plan_after plan outcomes ≡ now
     → AccessEnds unit now outcome newer
@@ -140,7 +140,7 @@ failed_ends unit (Make access after) tried missed frame answer wish left are try
     inr (refl, (x ∷ tried, missed, refl, (wish, left, misses_it, try), are))
 
 -- the last frame of a try got what it wants
-pub stands_done : (unit : ℕ) (plan : Plan) (told : List Exchange) (now : Plan) (misses : ℕ) (byte : Option ℕ)
+unfoldable pub stands_done : (unit : ℕ) (plan : Plan) (told : List Exchange) (now : Plan) (misses : ℕ) (byte : Option ℕ)
     (frame : Frame) (answer : Option ℕ) (wish : Wish)
     → Stands unit plan told now misses (request frame wish ∷ []) byte → Meets wish answer
     → Stands unit plan (record { frame = frame; answer = answer } ∷ told) (next_plan now (byte_after frame answer byte))
@@ -153,7 +153,7 @@ stands_done unit plan told now misses byte frame answer wish s meets =
     (done_ends unit now misses s.tried s.missed byte frame answer wish s.few s.misses_are s.try s.byte_is meets)
 
 -- the last try missed
-pub stands_failed : (unit : ℕ) (plan : Plan) (told : List Exchange) (now : Plan) (misses : ℕ)
+unfoldable pub stands_failed : (unit : ℕ) (plan : Plan) (told : List Exchange) (now : Plan) (misses : ℕ)
     (left : List Request) (byte : Option ℕ) (frame : Frame) (answer : Option ℕ) (wish : Wish)
     → Stands unit plan told now misses (request frame wish ∷ left) byte → ¬ Meets wish answer → 7 ≤ misses
     → Stands unit plan (record { frame = frame; answer = answer } ∷ told) (next_plan now None) 0

@@ -1,9 +1,10 @@
 -- Along the simulated bus a session that loses little goes its way.
-use Rattle.std.proofs.Common.{◌≡◌, ◌≢◌, ◌⊎◌, inl, inr, refl, sym, ap, subst, ◌∙◌, ℕ, ◌+◌, ◌≤◌, ◌<◌, Bool}
+use Rattle.std.proofs.Common.{◌≡◌, ◌≢◌, ◌⊎◌, inl, inr, refl, sym, ap, subst, ◌∙◌, ℕ, zero, suc, ◌+◌, ◌≤◌, ◌<◌, Bool}
 use Rattle.std.proofs.Common.{true, false, ◌==◌, nat_lt, if◌then◌else◌, List, [], ◌∷◌, ◌++◌, length, Option, Some, None}
 use Rattle.std.proofs.Common.{IsTrue, arith}
-use Rattle.std.specs.Prelude.{slice_get, slice_index, ⊤}
+use Rattle.std.specs.Prelude.{slice_get, slice_index, min, ⊤}
 use Rattle.std.proofs.lemmas.Bool.{eq-eqb, ne_eqb, eqb-true, eqb-false, lt-ltb, le-leb, ltb-false}
+use Rattle.std.proofs.Math.Nat.{min-le_left}
 use Rattle.std.proofs.lemmas.Option.{slice_get-get_or, get_or_from_slice_get}
 use Rattle.dali_bank.specs.Order.{RisesAbove}
 use Rattle.dali_bus.specs.World.{Gear}
@@ -14,10 +15,10 @@ use Rattle.dali_write.specs.Exchanges.{Exchange}
 use Rattle.dali_write.specs.declared.access.Access.{Access}
 use Rattle.dali_write.specs.declared.access.Access.TheVariants.{ReadFrom, WriteTo}
 use Rattle.dali_write.specs.declared.ask.Verdict.{Verdict}
-use Rattle.dali_write.specs.declared.ask.Verdict.TheVariants.{MayOpen, Done, Short, Format, Closed, NotClosed}
+use Rattle.dali_write.specs.declared.ask.Verdict.TheVariants.{MayOpen, Done, Short, Format, Closed, NotClosed, Read}
 use Rattle.dali_write.specs.declared.ask.Ask.TheVariants.{Ended}
 use Rattle.dali_write.specs.Plans.{Plan, Finish, Make, greatest, read_length, read_format, close, read_back, write_on}
-use Rattle.dali_write.specs.Plans.{unlock}
+use Rattle.dali_write.specs.Plans.{unlock, read_on, read_all}
 use Rattle.dali_write.specs.Tries.{most_tries, AccessEnds, Wants}
 use Rattle.dali_write.specs.Walks.{Walk, access_misses, misses_of}
 use Rattle.dali_write.specs.Losses.{IsAlone, CanDo, OnlyDiffers}
@@ -308,6 +309,34 @@ fresh_succeeds loses at unit updates verdict told first last spared wants =
     succeeds loses (λ now. now ≡ unit.bank1) (found_verdict unit.bank1.bytes updates) verdict at (read_length updates)
     unit told first last spared
     (fresh_goes updates unit.bank1 (spared_bank loses at unit _ _ verdict told first last spared wants)) wants
+
+-- a reading session
+
+read_on_goes : (location left : ℕ) (bank : BankState) → location + left ≤ length bank.bytes
+    → Goes (λ now. now ≡ bank) Read (read_on location left) bank
+read_on_goes location zero bank few = (refl, refl)
+read_on_goes location (suc left) bank few = (
+  slice_index bank.bytes location,
+  byte_there bank.bytes location (omega arith),
+  read_on_goes (suc location) left bank (omega arith),
+)
+
+read_all_goes : (bank : BankState) → IsBank bank.bytes → Goes (λ now. now ≡ bank) Read read_all bank
+read_all_goes bank is =
+    let least = is.least in
+    let last = is.last in (
+      slice_index bank.bytes 0,
+      byte_there bank.bytes 0 (omega arith),
+      read_on_goes 1 (min (slice_index bank.bytes 0) 0xFE) bank
+          (omega (arith, min-le_left (slice_index bank.bytes 0) 0xFE)),
+    )
+
+pub reading_succeeds : (loses : ℕ → Type 0) (at : ℕ) (unit : UnitState) (verdict : Verdict) (told : List Exchange)
+    (first last : SimState) (spared : SparedAlong loses at unit told first last)
+    → Wants at read_all told (Ended verdict) → (verdict ≡ Read) × MissesAlong loses at unit told first last spared
+reading_succeeds loses at unit verdict told first last spared wants =
+    succeeds loses (λ now. now ≡ unit.bank1) Read verdict at read_all unit told first last spared
+    (read_all_goes unit.bank1 (spared_bank loses at unit _ _ verdict told first last spared wants)) wants
 
 -- an opened session
 

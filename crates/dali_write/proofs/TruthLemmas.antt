@@ -14,12 +14,12 @@ use Rattle.dali_bus.specs.Carry.{Carry, MayHear, Heard}
 use Rattle.dali_write.specs.Exchanges.{Exchange}
 use Rattle.dali_write.specs.Requests.{select_requests, byte_after}
 use Rattle.dali_write.specs.Tries.{Trying, byte_of}
-use Rattle.dali_write.specs.Worlds.{IsCheckedRead, Shows, KeepsAt, Selects, OnlyEnabled, MayWrite}
+use Rattle.dali_write.specs.Worlds.{Shows, KeepsAt, Selects, OnlyEnabled, MayWrite}
 use Rattle.dali_write.specs.Worlds.{memory_at, Written}
 use Rattle.dali_write.proofs.GearLemmas.{asked1, asked0, carry_dtr1, carry_stays, IsQuiet, passing_keeps, end_steady}
-use Rattle.dali_write.proofs.GearLemmas.{dtr0_in, dtr1_in, same_byte, IsOff, memory_of}
-use Rattle.dali_write.proofs.PowerLemmas.{drifts_have, drifts_keep, keeps_then, stays_keeps, shows_kept}
-use Rattle.dali_write.proofs.ShapeLemmas.{WasRead, selected, was_read}
+use Rattle.dali_write.proofs.GearLemmas.{dtr0_in, dtr1_in, IsOff, memory_of}
+use Rattle.dali_write.proofs.PowerLemmas.{drifts_have, drifts_keep, keeps_then, stays_keeps}
+use Rattle.dali_write.proofs.ShapeLemmas.{WasRead, selected}
 use Rattle.dali_write.proofs.RunLemmas.{Leads, Stays}
 use Rattle.dali_bus.specs.Carry.{WorldStep}
 
@@ -51,20 +51,12 @@ HasBank gear = is_open gear ≡ true → dtr1_in gear ≡ Some 1
 abbrev HasPlace : ℕ → Option Gear → Type 0
 HasPlace location gear = dtr1_in gear ≡ Some 1 → dtr0_in gear ≡ Some location
 
--- one that has the bank holds what was read, and isn't enabled
-abbrev HasByte : ℕ → ℕ → Option Gear → Type 0
-HasByte location byte gear = dtr1_in gear ≡ Some 1 → (byte_in gear 1 location ≡ Some byte) × (is_open gear ≡ false)
-
 off_bank : (gear : Option Gear) → is_open gear ≡ false → (dtr1_in gear ≡ Some 1 → ⊥) → HasBank gear
 off_bank gear off gone on = let never = off in cc
 
 off_place : (location : ℕ) (gear : Option Gear) → is_open gear ≡ false → (dtr1_in gear ≡ Some 1 → ⊥)
     → HasPlace location gear
 off_place location gear off gone bank = absurd (gone bank)
-
-off_byte : (location byte : ℕ) (gear : Option Gear) → is_open gear ≡ false → (dtr1_in gear ≡ Some 1 → ⊥)
-    → HasByte location byte gear
-off_byte location byte gear off gone bank = absurd (gone bank)
 
 was_on : (old new : World) (frame : Frame) (answer : Option ℕ) (unit : ℕ) → IsQuiet unit frame
     → Carry old frame answer new → is_open (new unit) ≡ true → is_open (old unit) ≡ true
@@ -158,51 +150,11 @@ last_answer unit location byte tried s answer =
     (subst (λ (f : Frame). byte_after f s.x7.answer (byte_of (s.x6 ∷ s.x5 ∷ s.older)) ≡ Some byte) s.got7.frame_is
     (subst (λ (t : List Exchange). byte_of t ≡ Some byte) s.is answer)))
 
-quiet_byte : (old : World) (frame : Frame) (answer : Option ℕ) (new : World) (unit location byte : ℕ)
-    → IsQuiet unit frame → Carry old frame answer new
-    → (byte_in (old unit) 1 location ≡ Some byte) × (is_open (old unit) ≡ false)
-    → (byte_in (new unit) 1 location ≡ Some byte) × (is_open (new unit) ≡ false)
-quiet_byte old frame answer new unit location byte quiet carry holds =
-    let stays = carry_stays old frame answer new unit quiet carry in (
-      same_byte (old unit) (new unit) stays.memory 1 location ∙ holds.0,
-      stays.off holds.1,
-    )
-
 pub shows_now : {loses : ℕ → Type 0} (world : World) (unit location byte : ℕ) (gear : Option Gear) → world unit ≡ gear
     → (byte_in gear 1 location ≡ Some byte) × (is_open gear ≡ false) → Shows loses world unit location byte
 shows_now world unit location byte None is holds = let never = holds.0 in cc
 shows_now world unit location byte (Some gear) is holds =
     record { gear = gear; is = is; byte_is = inl holds.0; off = holds.1 }
-
--- the answer to the read of a checked read: the unit that tells 01h of DTR1 at its end has kept its power since it told
--- it first
-pub read_true : {loses : ℕ → Type 0} (tried : List Exchange) (first last : World) (unit location byte : ℕ)
-    → Leads WorldStep loses tried first last → IsCheckedRead unit location byte tried
-    → Shows loses last unit location byte
-read_true {loses} tried first last unit location byte run reads =
-    let s = was_read unit location tried reads.0 in
-    let r7 = subst (λ (t : List Exchange). Leads WorldStep loses t first last) s.is run in
-    let r6 = r7.2 in
-    let r5 = r6.2 in
-    let at = selects_run _ unit location s.older first r5.0 r5.2 s.selects in
-    let answer = last_answer unit location byte tried s reads.1 in
-    let c5 = carried r5.0 r5.1 s.x5 (Read unit) (Some byte) s.got5.frame_is answer r5.3 in
-    let read : HasByte location byte (r5.1 unit) = λ bank.
-    let before = sym (carry_dtr1 r5.0 (Read unit) (Some byte) r5.1 tt c5 unit) ∙ bank in
-    shown r5.0 unit location byte r5.1 c5 before (at.1 before) in
-    let later5 : HasByte location byte (r6.0 unit) =
-    drifts_have (HasByte location byte) (off_byte location byte) unit r5.1 r6.0 r5.4 read in
-    let c6 = carried_any r6.0 r6.1 s.x6 (AskDtr0 unit) s.got6.frame_is r6.3 in
-    let six : HasByte location byte (r6.1 unit) = λ bank.
-    quiet_byte r6.0 (AskDtr0 unit) s.x6.answer r6.1 unit location byte tt c6
-    (later5 (sym (carry_dtr1 r6.0 (AskDtr0 unit) s.x6.answer r6.1 tt c6 unit) ∙ bank)) in
-    let later6 : HasByte location byte (r7.0 unit) =
-    drifts_have (HasByte location byte) (off_byte location byte) unit r6.1 r7.0 r6.4 six in
-    let c7 = carried r7.0 r7.1 s.x7 (AskDtr1 unit) (Some 1) s.got7.frame_is s.got7.meets r7.3 in
-    let bank = sym (carry_dtr1 r7.0 (AskDtr1 unit) (Some 1) r7.1 tt c7 unit) ∙ asked1 r7.0 unit 1 r7.1 c7 in
-    let holds = quiet_byte r7.0 (AskDtr1 unit) (Some 1) r7.1 unit location byte tt c7 (later6 bank) in
-    shows_kept r7.1 last unit location byte (shows_now r7.1 unit location byte (r7.1 unit) refl holds)
-    (drifts_keep r7.1 last r7.4 unit)
 
 abbrev pub AllQuiet : ℕ → List Exchange → Type 0
 AllQuiet address [] = ⊤

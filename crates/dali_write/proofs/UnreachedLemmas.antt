@@ -179,7 +179,7 @@ not_ended : (unit location byte : ℕ) (told : List Exchange) → AllUnread told
 not_ended unit location byte told unread ends =
     let s = ends_reading unit location byte told ends in
     let all = (subst AllUnread s.is unread).0 in
-    let six = subst (λ (f : Frame). IsUnread s.x7.frame s.x7.answer (is_ask f)) s.got6.frame_is all in
+    let six = subst (λ (f : Frame). IsUnread s.x7.frame s.x7.answer (is_ask f)) s.ask6 all in
     subst (λ (f : Frame). IsUnread f s.x7.answer true) s.got7.frame_is six s.got7.meets
 
 unread_none : (unit : ℕ) (told : List Exchange) → AllUnread told → HasRead unit told → ⊥

@@ -11,7 +11,8 @@ use Rattle.dali_write.specs.Plans.{Plan, Finish, Make}
 use Rattle.dali_write.specs.Tries.{most_tries, Trying, Missed, Misses, AccessEnds}
 use Rattle.dali_write.specs.Worlds.{IsCheckedRead, Shows, KeepsAt}
 use Rattle.dali_write.proofs.GearLemmas.{IsQuiet}
-use Rattle.dali_write.proofs.TruthLemmas.{split, read_true, AllQuiet, run_keeps}
+use Rattle.dali_write.proofs.TruthLemmas.{split, AllQuiet, run_keeps}
+use Rattle.dali_write.proofs.BlockOneLemmas.{read_true}
 use Rattle.dali_write.specs.Walks.{Walk}
 use Rattle.dali_write.proofs.RunLemmas.{Leads}
 use Rattle.dali_bus.specs.Carry.{WorldStep}

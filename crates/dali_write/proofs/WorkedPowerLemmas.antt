@@ -4,7 +4,7 @@ use Rattle.dali_frame.specs.declared.forward.Frame.{Frame}
 use Rattle.dali_bus.specs.World.{World}
 use Rattle.dali_gear.specs.SimState.{SimState, SimCarry, SimPower, world_of}
 use Rattle.dali_write.specs.Worlds.{IsAmong, Run}
-use Rattle.dali_write.specs.WhenRead.{AllBut}
+use Rattle.dali_write.specs.WhenBlock.{AllBut}
 use Rattle.dali_write.proofs.RunLemmas.{leads_of, shown_run}
 use Rattle.dali_write.proofs.RunLemmas.{Drifts, Stays, Loses}
 use Rattle.dali_bus.specs.Carry.{WorldStep, Carried, Powered}

@@ -2,8 +2,8 @@
 use Rattle.std.proofs.Common.{◌≡◌, ◌⊎◌, inl, inr, refl}
 use Rattle.dali_write.specs.declared.ask.Verdict.{Verdict}
 use Rattle.dali_write.specs.declared.ask.Verdict.TheVariants.{MayOpen, Done, Short, Format, Silent, Doubt, DoubtOpen}
-use Rattle.dali_write.specs.declared.ask.Verdict.TheVariants.{Closed, NotClosed}
-use Rattle.dali_write.specs.Verdicts.{EndsFresh, EndsOpened, EndsClosing}
+use Rattle.dali_write.specs.declared.ask.Verdict.TheVariants.{Closed, NotClosed, Read}
+use Rattle.dali_write.specs.Verdicts.{EndsFresh, EndsOpened, EndsClosing, EndsReading}
 
 pub fresh_may : EndsFresh MayOpen × EndsFresh Short × EndsFresh Format × EndsFresh Silent
 fresh_may = (tt, tt, tt, tt)
@@ -33,3 +33,11 @@ pub closing_is : (verdict : Verdict) → EndsClosing verdict → (verdict ≡ Cl
 closing_is Closed ends = inl refl
 closing_is NotClosed ends = inr refl
 closing_is _ ends = absurd ends
+
+pub reading_may : EndsReading Read × EndsReading Silent
+reading_may = (tt, tt)
+
+pub reading_is : (verdict : Verdict) → EndsReading verdict → (verdict ≡ Read) ⊎ (verdict ≡ Silent)
+reading_is Read ends = inl refl
+reading_is Silent ends = inr refl
+reading_is _ ends = absurd ends

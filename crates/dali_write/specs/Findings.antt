@@ -6,7 +6,7 @@ use Rattle.std.specs.Prelude.{◌≡◌, ℕ, ◌<◌, ◌≤◌, List, ⊤}
 use Rattle.std.specs.List.{AllByRecursion}
 use Rattle.dali_write.specs.declared.ask.Verdict.{Verdict}
 use Rattle.dali_write.specs.declared.ask.Verdict.TheVariants.{MayOpen, Done, Short, Format, Silent, Doubt, DoubtOpen}
-use Rattle.dali_write.specs.declared.ask.Verdict.TheVariants.{Closed, NotClosed}
+use Rattle.dali_write.specs.declared.ask.Verdict.TheVariants.{Closed, NotClosed, Read}
 use Rattle.dali_write.specs.Plans.{greatest}
 
 -- bank 1 reaches to the greatest location of the updates, and where that is 13h or above the content format is 0003h
@@ -41,6 +41,7 @@ RestsOn shows answered updates Doubt = answered
 RestsOn shows answered updates DoubtOpen = ⊤
 RestsOn shows answered updates Closed = answered
 RestsOn shows answered updates NotClosed = ⊤
+RestsOn shows answered updates Read = ⊤
 
 -- what the verdict of a session rests on: the read that was answered is that of the lock byte
 abbrev pub Rests : (ℕ → ℕ → Type 0) → List (ℕ × ℕ) → Verdict → Type 0

@@ -1,9 +1,10 @@
 -- How many frames a session may still send: a number that falls with each of them.
-use Rattle.std.specs.Prelude.{ℕ, ◌+◌, ◌-◌, ◌*◌, length}
+use Rattle.std.specs.Prelude.{ℕ, suc, ◌+◌, ◌-◌, ◌*◌, length}
 use Rattle.dali_write.specs.declared.stage.Task.{Task}
 use Rattle.dali_write.specs.declared.stage.Stage.{Stage}
 use Rattle.dali_write.specs.declared.stage.Stage.TheVariants.{ReadLength, ReadFormat, ReadFormatLow, Unlock, WriteOn}
-use Rattle.dali_write.specs.declared.stage.Stage.TheVariants.{ReadLock, ReadBack, Close, ReadClosed, Over}
+use Rattle.dali_write.specs.declared.stage.Stage.TheVariants.{ReadLock, ReadBack, Close, ReadClosed, ReadAll, ReadOn}
+use Rattle.dali_write.specs.declared.stage.Stage.TheVariants.{Over}
 use Rattle.dali_write.specs.Frames.{read_frames, write_frames}
 use Rattle.dali_write.specs.Tries.{most_tries}
 use Rattle.dali_write.specs.Stages.{updates_for}
@@ -37,4 +38,6 @@ limit_at task ReadLock = read_limit + read_back_limit (length (updates_for task)
 limit_at task (ReadBack index) = read_back_limit (length (updates_for task)) index
 limit_at task (Close answered unanswered) = close_limit
 limit_at task (ReadClosed answered unanswered) = read_limit
+limit_at task ReadAll = 255 * read_limit
+limit_at task (ReadOn location last) = read_limit * (suc last - location)
 limit_at task (Over verdict) = 0

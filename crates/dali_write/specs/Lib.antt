@@ -3,11 +3,13 @@ pub mod Requests
 pub mod Frames
 pub mod Plans
 pub mod Tries
+pub mod Found
 pub mod FramesLeft
 pub mod Told
 pub mod Worlds
 pub mod Reads
-pub mod WhenRead
+pub mod Blocks
+pub mod WhenBlock
 pub mod Findings
 pub mod Counts
 pub mod Verdicts
@@ -21,3 +23,4 @@ pub mod Misses
 pub mod Successes
 pub mod WorkedAccesses
 pub mod LoneUnit
+pub mod WorkedBlocks

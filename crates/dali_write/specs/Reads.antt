@@ -1,10 +1,10 @@
 -- What checked reads among exchanges show. The newest exchange comes first.
-use Rattle.std.specs.Prelude.{◌≡◌, ◌⊎◌, ℕ, List, [], ◌∷◌, ◌++◌, ⊤}
+use Rattle.std.specs.Prelude.{◌≡◌, ◌⊎◌, ℕ, suc, ◌<◌, min, List, [], ◌∷◌, ◌++◌, length, slice_get, Some, ⊤}
 use Rattle.dali_frame.specs.declared.forward.Frame.{Frame}
 use Rattle.dali_frame.specs.declared.forward.Frame.TheVariants.{Dtr0, Dtr1, Dtr2, Write, WriteSilent, Enable}
 use Rattle.dali_frame.specs.declared.forward.Frame.TheVariants.{AskDtr0, AskDtr1, AskDtr2, Read, Other}
 use Rattle.dali_write.specs.Exchanges.{Exchange}
-use Rattle.dali_write.specs.Worlds.{IsCheckedRead}
+use Rattle.dali_write.specs.Blocks.{Tells}
 
 -- the frame enables no unit and writes nothing
 abbrev pub IsPassive : Frame → Type 0
@@ -20,12 +20,12 @@ IsPassive (AskDtr1 unit) = ⊤
 IsPassive (AskDtr2 unit) = ⊤
 IsPassive (Read unit) = ⊤
 
--- the newest exchanges are a checked read of the location, answered by the byte
+-- the newest exchanges are a read of a block, which told the byte of the location
 abbrev pub EndsInRead : ℕ → ℕ → ℕ → List Exchange → Type 0
 EndsInRead unit location byte told =
-    (newer : List Exchange) × (older : List Exchange) × (told ≡ newer ++ older) × IsCheckedRead unit location byte newer
+    (newer : List Exchange) × (older : List Exchange) × (told ≡ newer ++ older) × Tells unit location byte newer
 
--- a checked read of the location was answered by the byte, and no frame since then enables a unit or writes
+-- a read told the byte of the location, and no frame since then enables a unit or writes
 abbrev pub StillRead : List Exchange → ℕ → ℕ → ℕ → Type 0
 StillRead [] unit location byte = ⊥
 StillRead (x ∷ told) unit location byte =
@@ -35,3 +35,12 @@ StillRead (x ∷ told) unit location byte =
 abbrev pub HasRead : ℕ → List Exchange → Type 0
 HasRead unit [] = ⊥
 HasRead unit (x ∷ told) = ((location : ℕ) × (byte : ℕ) × EndsInRead unit location byte (x ∷ told)) ⊎ HasRead unit told
+
+-- These bytes were told by reads, each of them still read: that of 00h, and those of each location up to the one that
+-- it names, at most to FEh.
+pub record ReadsBank (told : List Exchange) (unit : ℕ) (bytes : List ℕ) : Type 0 where
+  pub last : ℕ
+  pub names : StillRead told unit 0 last
+  pub count : length bytes ≡ suc (min last 0xFE)
+  pub bytes_are : (location : ℕ) → location < length bytes
+      → (byte : ℕ) × (slice_get bytes location ≡ Some byte) × StillRead told unit location byte

@@ -1,11 +1,12 @@
--- The frames of a checked read and of a checked write, each with the answer that it wants.
-use Rattle.std.specs.Prelude.{◌≡◌, ℕ, List, [], ◌∷◌, ◌++◌, Option, Some, IsSome, ⊤}
+-- The frames of a read of a block and of a checked write, each with the answer that it wants.
+use Rattle.std.specs.Prelude.{◌≡◌, ℕ, zero, suc, List, [], ◌∷◌, ◌++◌, replicate, Option, Some, IsSome, ⊤}
 use Rattle.dali_frame.specs.declared.forward.Frame.{Frame}
 use Rattle.dali_frame.specs.declared.forward.Frame.TheVariants.{Dtr0, Dtr1, Write, Enable, AskDtr0, AskDtr1, Read}
 use Rattle.dali_bus.specs.Hears.{up}
 use Rattle.dali_write.specs.declared.request.Wish.{Wish}
 use Rattle.dali_write.specs.declared.request.Wish.TheVariants.{Nothing, Exactly, Anything}
 use Rattle.dali_write.specs.declared.request.Request.{Request}
+use Rattle.dali_write.specs.declared.block.Block.{Block}
 use Rattle.dali_write.specs.declared.access.Access.{Access}
 use Rattle.dali_write.specs.declared.access.Access.TheVariants.{ReadFrom, WriteTo}
 
@@ -27,15 +28,31 @@ select_requests unit location =
     ∷ request (AskDtr0 unit) (Exactly location)
     ∷ []
 
--- A checked read of the location. DTR0 has moved on by the read, and DTR1 is still 01h: so the unit kept its power
--- since it was asked for DTR1, and the byte is that of this place.
+-- so many locations from this one on
+abbrev pub block : ℕ → ℕ → Block
+block location count = record { location = location; count = count }
+
+-- where DTR0 stands after so many reads: so many further, and at FFh no further
+abbrev pub moved_on : ℕ → ℕ → ℕ
+moved_on location zero = location
+moved_on location (suc count) = up (moved_on location count)
+
+-- so many reads, each of which wants a byte
+abbrev pub reads : ℕ → ℕ → List Request
+reads unit count = replicate count (request (Read unit) Anything)
+
+-- A block read. DTR0 has moved on by each of the reads, and DTR1 is still 01h: so the unit kept its power since it was
+-- asked for DTR1, and each byte is that of its place.
+abbrev pub block_requests : ℕ → Block → List Request
+block_requests unit block =
+    select_requests unit block.location
+    ++ (reads unit block.count
+    ++ request (AskDtr0 unit) (Exactly (moved_on block.location block.count))
+    ∷ request (AskDtr1 unit) (Exactly 0x01) ∷ [])
+
+-- a checked read of the location: the read of it alone
 abbrev pub read_requests : ℕ → ℕ → List Request
-read_requests unit location =
-    select_requests unit location
-    ++ request (Read unit) Anything
-    ∷ request (AskDtr0 unit) (Exactly (up location))
-    ∷ request (AskDtr1 unit) (Exactly 0x01)
-    ∷ []
+read_requests unit location = block_requests unit (block location 1)
 
 -- a checked write of the byte to the location
 abbrev pub write_requests : ℕ → ℕ → ℕ → List Request

@@ -1,33 +1,37 @@
 -- What is left to do at a stage of a session.
-use Rattle.std.specs.Prelude.{ℕ, List, [], drop, Option, Some, None, Result, Ok, Err}
+use Rattle.std.specs.Prelude.{ℕ, suc, ◌-◌, List, [], drop, Option, Some, None, Result, Ok, Err}
 use Rattle.dali_bank.specs.Order.{Contents}
 use Rattle.dali_write.specs.declared.access.Access.{Access}
 use Rattle.dali_write.specs.declared.ask.Verdict.{Verdict}
 use Rattle.dali_write.specs.declared.ask.Verdict.TheVariants.{Closed, NotClosed}
 use Rattle.dali_write.specs.declared.stage.Task.{Task}
-use Rattle.dali_write.specs.declared.stage.Task.TheVariants.{Fresh, Opened, Closing}
+use Rattle.dali_write.specs.declared.stage.Task.TheVariants.{Fresh, Opened, Closing, Reading}
 use Rattle.dali_write.specs.declared.stage.Stage.{Stage}
 use Rattle.dali_write.specs.declared.stage.Stage.TheVariants.{ReadLength, ReadFormat, ReadFormatLow, Unlock, WriteOn}
-use Rattle.dali_write.specs.declared.stage.Stage.TheVariants.{ReadLock, ReadBack, Close, ReadClosed, Over}
+use Rattle.dali_write.specs.declared.stage.Stage.TheVariants.{ReadLock, ReadBack, Close, ReadClosed, ReadAll, ReadOn}
+use Rattle.dali_write.specs.declared.stage.Stage.TheVariants.{Over}
 use Rattle.dali_write.specs.Plans.{Plan, Finish, Make, read_length, read_format, read_format_low, unlock, write_on}
-use Rattle.dali_write.specs.Plans.{read_lock, read_back, close, read_closed}
+use Rattle.dali_write.specs.Plans.{read_lock, read_back, close, read_closed, read_all, read_on}
 
 abbrev pub updates_for : Task → List (ℕ × ℕ)
 updates_for (Fresh order) = order.updates
 updates_for (Opened order) = order.updates
 updates_for Closing = []
+updates_for Reading = []
 
 -- the order that it is for
 abbrev pub order_for : Task → Option Contents
 order_for (Fresh order) = Some order
 order_for (Opened order) = Some order
 order_for Closing = None
+order_for Reading = None
 
 -- the whole plan of a session
 abbrev pub plan_of : Task → Plan
 plan_of (Fresh order) = read_length order.updates
 plan_of (Opened order) = unlock order.updates
 plan_of Closing = close Closed NotClosed
+plan_of Reading = read_all
 
 -- the plan that is left at a stage
 abbrev pub plan_at : Task → Stage → Plan
@@ -40,6 +44,8 @@ plan_at task ReadLock = read_lock (updates_for task)
 plan_at task (ReadBack index) = read_back (drop index (updates_for task))
 plan_at task (Close answered unanswered) = close answered unanswered
 plan_at task (ReadClosed answered unanswered) = read_closed answered unanswered
+plan_at task ReadAll = read_all
+plan_at task (ReadOn location last) = read_on location (suc last - location)
 plan_at task (Over verdict) = Finish verdict
 
 -- the access at hand, or how the session ended

@@ -7,16 +7,20 @@ use Rattle.dali_bank.specs.Order.{Contents}
 use Rattle.dali_write.specs.declared.stage.Task.{Task}
 use Rattle.dali_write.specs.declared.stage.Task.TheVariants.{Fresh, Opened, Closing}
 use Rattle.dali_write.specs.declared.session.Session.{Session}
-use Rattle.dali_write.specs.Tries.{plan_requests, ask_at, Stands}
+use Rattle.dali_write.specs.Tries.{plan_requests, ask_at}
+use Rattle.dali_write.specs.Found.{StandsWith}
 use Rattle.dali_write.specs.FramesLeft.{limit_at}
 use Rattle.dali_write.specs.Stages.{plan_of, plan_at}
 
--- the short address of a session's unit, and what it is for
+-- the short address of a session's unit, what it is for, and what it has read
 abbrev pub unit_of : Session → ℕ
 unit_of s = s.unit
 
 abbrev pub task_of : Session → Task
 task_of s = s.task
+
+abbrev pub bytes_read : Session → List ℕ
+bytes_read s = s.bytes.items
 
 -- The session looks whether the order suits its unit; it carries the order out; it closes the unit.
 abbrev pub IsFresh : Contents → Session → Type 0
@@ -43,8 +47,8 @@ BeginsTry s = (s.misses ≡ 0) × (s.number ≡ 0) × (s.byte ≡ None)
 -- A session was told these.
 unfoldable pub Told : List Exchange → Session → Type 0
 Told told s =
-    Stands (s.unit) (plan_of s.task) told (plan_at s.task s.stage) s.misses
-    (drop s.number (plan_requests (s.unit) (plan_at s.task s.stage))) s.byte
+    StandsWith s.task (s.unit) (plan_of s.task) told (plan_at s.task s.stage) s.misses
+    (drop s.number (plan_requests (s.unit) (plan_at s.task s.stage))) s.byte s.bytes.items
 
 -- the most frames that are still to come: those from the stage on, less those of the access at hand that its tries so
 -- far used up

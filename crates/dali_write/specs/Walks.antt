@@ -1,10 +1,12 @@
 -- The whole accesses of a session, the oldest first, and how many tries missed.
-use Rattle.std.specs.Prelude.{◌≡◌, ℕ, ◌+◌, ◌*◌, ◌≤◌, List, [], ◌∷◌, ◌++◌, length, Option}
+use Rattle.std.specs.Prelude.{◌≡◌, ℕ, ◌+◌, ◌*◌, ◌≤◌, List, [], ◌∷◌, ◌++◌, length, Option, Some}
 use Rattle.std.proofs.Common.{inl, inr}
 use Rattle.dali_write.specs.Exchanges.{Exchange}
 use Rattle.dali_write.specs.declared.ask.Verdict.{Verdict}
+use Rattle.dali_write.specs.declared.ask.Verdict.TheVariants.{Read}
 use Rattle.dali_write.specs.Frames.{try_frames}
-use Rattle.dali_write.specs.Plans.{Plan, Finish, Make, next_plan}
+use Rattle.dali_write.specs.Counts.{read_all_frames}
+use Rattle.dali_write.specs.Plans.{Plan, Finish, Make, next_plan, read_all}
 use Rattle.dali_write.specs.Tries.{most_tries, AccessEnds}
 
 -- whole accesses lead from the plan to what is left of it
@@ -35,3 +37,10 @@ pub record Took (unit : ℕ) (plan : Plan) (told : List Exchange) (verdict : Ver
   pub more : ℕ
   pub took : length told ≡ frames + more
   pub few : more ≤ try_frames * misses_of unit plan outcomes told (Finish verdict) walk
+
+-- A reading session ended so. The byte that it read first, at 00h, says how many frames it took.
+pub record TookAll (unit : ℕ) (told : List Exchange) : Type 0 where
+  pub last : ℕ
+  pub took : Took unit read_all told Read (read_all_frames last)
+  pub rest : List (Option ℕ)
+  pub first : took.outcomes ≡ Some last ∷ rest

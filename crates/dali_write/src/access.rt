@@ -70,7 +70,7 @@ fn checked_write(unit: u8, location: u8, byte: u8) -> [Request; 7]
     [enable, enable, bank, bank_back, place, place_back, write]
 }
 
-fn request(frame: Frame, wish: Wish) -> Request
+pub(crate) fn request(frame: Frame, wish: Wish) -> Request
     ensures { result ≡ record { frame = frame; wish = wish } }
 {
     Request { frame, wish }

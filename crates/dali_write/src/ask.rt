@@ -13,7 +13,7 @@ pub enum Verdict {
     Short,
     /// A fresh session: the content format isn't 0003h.
     Format,
-    /// A fresh session: an access failed.
+    /// A fresh or reading session: an access failed.
     Silent,
     /// An opened session: each location of the order holds its old byte or the new one, and the unit
     /// isn't write-enabled.
@@ -24,6 +24,8 @@ pub enum Verdict {
     Closed,
     /// A closing session: the unit may still be write-enabled.
     NotClosed,
+    /// A reading session: bank 1 was read.
+    Read,
 }
 
 /// What a session wants (profile).

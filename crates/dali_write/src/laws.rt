@@ -1,5 +1,7 @@
 //! Laws of checked accesses and sessions. Each is the contract of a function that does nothing.
-ghost use Rattle.std.specs.Prelude.{◌≡◌, ◌∷◌, ◌≤◌, ◌<◌, ◌⊎◌, ◌+◌, ◌*◌, List, [], length, slice_get, Option, Some, ℕ};
+ghost use Rattle.std.specs.Prelude.{◌↔◌, ◌≡◌, ◌∷◌, ◌≤◌, ◌<◌, ◌⊎◌, ◌+◌, ◌*◌, List, [], length, slice_get, Some, ℕ};
+ghost use Rattle.std.specs.Prelude.{Option, ◌≢◌};
+ghost use Rattle.dali_write.specs.Found.{ReadsSoFar};
 ghost use Rattle.dali_frame.specs.declared.forward.Frame.{Frame};
 ghost use Rattle.dali_frame.specs.declared.forward.Frame.TheVariants.{Write};
 ghost use Rattle.dali_write.specs.declared.ask.Ask.{Ask};
@@ -8,12 +10,12 @@ ghost use Rattle.dali_bus.specs.Carry.{Carry, WorldStep};
 ghost use Rattle.dali_write.specs.Exchanges.{Exchange};
 ghost use Rattle.dali_write.specs.declared.session.Session.{Session};
 ghost use Rattle.dali_write.specs.declared.ask.Verdict.{Verdict};
-ghost use Rattle.dali_write.specs.Plans.{Plan, greatest, unlock, close, read_length};
+ghost use Rattle.dali_write.specs.Plans.{Plan, greatest, unlock, close, read_length, read_all};
 ghost use Rattle.dali_write.specs.Tries.{Wants};
-ghost use Rattle.dali_write.specs.Verdicts.{Says, EndsFresh, EndsOpened, EndsClosing};
+ghost use Rattle.dali_write.specs.Verdicts.{Says, ShowsBank, EndsFresh, EndsOpened, EndsClosing, EndsReading};
 ghost use Rattle.dali_write.specs.declared.stage.Task.{Task};
 ghost use Rattle.dali_write.specs.Stages.{plan_of};
-ghost use Rattle.dali_write.specs.Told.{Told, unit_of, task_of, aim_of};
+ghost use Rattle.dali_write.specs.Told.{Told, unit_of, task_of, bytes_read, aim_of};
 ghost use Rattle.dali_write.specs.Frames.{read_frames, write_frames};
 ghost use Rattle.dali_write.specs.Counts.{done_frames, frame_limit};
 ghost use Rattle.dali_gear.specs.SimState.{SimState, SimStep, AreApart, world_of};
@@ -22,7 +24,7 @@ ghost use Rattle.dali_write.specs.declared.access.Access.{Access};
 ghost use Rattle.dali_write.specs.declared.access.Access.TheVariants.{ReadFrom, WriteTo};
 ghost use Rattle.dali_write.specs.Requests.{access_requests};
 ghost use Rattle.dali_write.specs.Tries.{most_tries, Missed, Misses, Succeeds, Fails};
-ghost use Rattle.dali_write.specs.Walks.{Walk, misses_of, Took};
+ghost use Rattle.dali_write.specs.Walks.{Walk, misses_of, Took, TookAll};
 ghost use Rattle.dali_write.specs.Misses.{misses_in};
 ghost use Rattle.dali_write.specs.Successes.{TakesAll, found_verdict, Spared, MissesByLosses};
 ghost use Rattle.dali_bank.specs.Order.{Contents, RisesAbove};
@@ -31,10 +33,10 @@ ghost use Rattle.dali_write.specs.Losses.{losses, Unrefused, IsAlone, CanDo, Onl
 ghost use Rattle.dali_write.specs.Touches.{Touches, writes_of};
 ghost use Rattle.dali_write.specs.Findings.{Rests};
 ghost use Rattle.dali_write.specs.Guards.{IsGuarded};
-ghost use Rattle.dali_write.specs.Reads.{StillRead, HasRead};
+ghost use Rattle.dali_write.specs.Reads.{StillRead, HasRead, ReadsBank};
 ghost use Rattle.dali_write.specs.Worlds.{IsAmong, Run, IsCheckedRead, Shows, KeepsAt, Selects, OnlyEnabled};
 ghost use Rattle.dali_write.specs.Worlds.{MayWrite};
-ghost use Rattle.dali_write.specs.WhenRead.{WhenRead};
+ghost use Rattle.dali_write.specs.WhenBlock.{WhenTold};
 
 /// A session wants what its plan asks after what it was told, and ends so.
 pub fn sessions_follow_their_plans()
@@ -66,12 +68,12 @@ pub fn still_reads_are_true()
         → Shows (IsAmong loses) last unit location byte }
 {}
 
-/// What a checked read told was there when the read reached the unit, and from the answer to its second frame to that
-/// to its seventh the unit kept its power, whichever units lose theirs before, between and behind.
+/// What a read told was there when its read reached the unit, and from the answer to its second frame to that to its
+/// last one the unit kept its power, whichever units lose theirs before, between and behind.
 pub fn read_bytes_were_there()
     ensures { (loses : List ℕ) (told : List Exchange) (first last : World) (unit location byte : ℕ)
         → Run WorldStep (IsAmong loses) told first last → StillRead told unit location byte
-        → WhenRead (IsAmong loses) told first last unit location byte }
+        → WhenTold (IsAmong loses) told first last unit location byte }
 {}
 
 /// Where the unit was made sure to have selected the location, and no other unit is enabled, a
@@ -92,6 +94,8 @@ pub fn sessions_end_by_their_kind()
         → Wants unit (unlock updates) told (Ask.Ended verdict) → EndsOpened verdict }
     ensures closing { (told : List Exchange) (unit : ℕ) (verdict : Verdict)
         → Wants unit (close Verdict.Closed Verdict.NotClosed) told (Ask.Ended verdict) → EndsClosing verdict }
+    ensures reading { (told : List Exchange) (unit : ℕ) (verdict : Verdict)
+        → Wants unit read_all told (Ask.Ended verdict) → EndsReading verdict }
 {}
 
 /// What a session's verdict rests on: checked reads of its own that still stand.
@@ -103,6 +107,18 @@ pub fn verdicts_rest_on_reads()
     ensures closing { (told : List Exchange) (unit : ℕ) (verdict : Verdict)
         → Wants unit (close Verdict.Closed Verdict.NotClosed) told (Ask.Ended verdict)
         → Rests (StillRead told unit) [] verdict }
+    ensures reading { (told : List Exchange) (s : Session) → Told told s → task_of s ≡ Task.Reading
+        → aim_of s ≡ Ask.Ended Verdict.Read → ReadsBank told (unit_of s) (bytes_read s) }
+{}
+
+/// What a reading session has read at each moment: the bytes that its accesses so far told, in their order, at most
+/// 255. The others have read nothing.
+pub fn sessions_keep_what_they_read()
+    ensures reading { (told : List Exchange) (s : Session) → Told told s → task_of s ≡ Task.Reading
+        → ReadsSoFar told (unit_of s) (bytes_read s) }
+    ensures few { (told : List Exchange) (s : Session) → Told told s → length (bytes_read s) ≤ 255 }
+    ensures others { (told : List Exchange) (s : Session) → Told told s → task_of s ≢ Task.Reading
+        → bytes_read s ≡ [] }
 {}
 
 /// What a session's verdict says of the world, whichever units lose their power meanwhile.
@@ -119,14 +135,20 @@ pub fn verdicts_are_true()
         → Run WorldStep (IsAmong loses) told first last
         → Wants unit (close Verdict.Closed Verdict.NotClosed) told (Ask.Ended verdict)
         → Says (IsAmong loses) unit [] last verdict }
+    ensures reading { (loses : List ℕ) (told : List Exchange) (s : Session) (first last : World) → Told told s
+        → task_of s ≡ Task.Reading → aim_of s ≡ Ask.Ended Verdict.Read
+        → Run WorldStep (IsAmong loses) told first last → ShowsBank (IsAmong loses) last (unit_of s) (bytes_read s) }
 {}
 
-/// A session that looks whether a bank suits changes no memory and enables no unit; lock bytes of units that lose
-/// their power may change.
+/// A session that looks whether a bank suits, or reads it, changes no memory and enables no unit; lock bytes of units
+/// that lose their power may change.
 pub fn readers_are_quiet()
-    ensures { (loses : List ℕ) (told : List Exchange) (first last : World) (unit : ℕ) (updates : List (ℕ × ℕ))
-        (ask : Ask)
+    ensures fresh { (loses : List ℕ) (told : List Exchange) (first last : World) (unit : ℕ)
+        (updates : List (ℕ × ℕ)) (ask : Ask)
         → Run WorldStep (IsAmong loses) told first last → Wants unit (read_length updates) told ask
+        → (address : ℕ) → KeepsAt (IsAmong loses) first last address }
+    ensures reading { (loses : List ℕ) (told : List Exchange) (first last : World) (unit : ℕ) (ask : Ask)
+        → Run WorldStep (IsAmong loses) told first last → Wants unit read_all told ask
         → (address : ℕ) → KeepsAt (IsAmong loses) first last address }
 {}
 
@@ -150,7 +172,8 @@ pub fn sessions_touch_their_places_alone()
 {}
 
 /// A session sends only frames that set registers, ask its unit or read it; one that writes enables its unit besides,
-/// and writes a byte of its own where the unit was made sure to have selected its location. A fresh one writes nothing.
+/// and writes a byte of its own where the unit was made sure to have selected its location. A fresh or a reading one
+/// writes nothing.
 pub fn wanted_frames_are_guarded()
     ensures opened { (told : List Exchange) (unit : ℕ) (updates : List (ℕ × ℕ)) (frame : Frame)
         → Wants unit (unlock updates) told (Ask.Send frame) → IsGuarded (writes_of updates) unit told frame }
@@ -159,6 +182,8 @@ pub fn wanted_frames_are_guarded()
     ensures closing { (told : List Exchange) (unit : ℕ) (frame : Frame)
         → Wants unit (close Verdict.Closed Verdict.NotClosed) told (Ask.Send frame)
         → IsGuarded ((2, 0xFF) ∷ []) unit told frame }
+    ensures reading { (told : List Exchange) (unit : ℕ) (frame : Frame) → Wants unit read_all told (Ask.Send frame)
+        → IsGuarded [] unit told frame }
 {}
 
 /// What the simulated bus does with exchanges, while units of these addresses may lose their power, is what its units
@@ -203,6 +228,7 @@ pub fn counts_are_these()
     ensures fresh { (order : Contents) → frame_limit (Task.Fresh order) ≡ 168 }
     ensures opened { (order : Contents) → frame_limit (Task.Opened order) ≡ 112 * length order.updates + 280 }
     ensures closing { frame_limit Task.Closing ≡ 112 }
+    ensures reading { frame_limit Task.Reading ≡ 14280 }
     ensures done { (updates : ℕ) → done_frames updates ≡ 14 * updates + 21 }
     ensures frames { (read_frames ≡ 7) × (write_frames ≡ 7) }
 {}
@@ -233,6 +259,8 @@ pub fn sessions_take_exactly()
     ensures closed { (told : List Exchange) (unit : ℕ)
         → Wants unit (close Verdict.Closed Verdict.NotClosed) told (Ask.Ended Verdict.Closed)
         → Took unit (close Verdict.Closed Verdict.NotClosed) told Verdict.Closed (write_frames + read_frames) }
+    ensures read { (told : List Exchange) (unit : ℕ) → Wants unit read_all told (Ask.Ended Verdict.Read)
+        → TookAll unit told }
 {}
 
 /// A session gives up only where the access that it had last failed, in each of its tries: a read of
@@ -245,6 +273,8 @@ pub fn sessions_give_up_late()
     ensures closing { (told : List Exchange) (unit : ℕ)
         → Wants unit (close Verdict.Closed Verdict.NotClosed) told (Ask.Ended Verdict.NotClosed)
         → EndsUnread unit 0x02 told }
+    ensures reading { (told : List Exchange) (unit : ℕ)
+        → Wants unit read_all told (Ask.Ended Verdict.Silent) → (location : ℕ) × EndsUnread unit location told }
 {}
 
 /// Where a closing session ends as `NotClosed`, no checked read of its unit was answered since it began.
@@ -328,8 +358,8 @@ pub fn misses_are_those_of_the_tries()
 /// On the simulated bus, where no fate refuses, no other unit is write-enabled and the unit loses
 /// less than an access has tries, each session comes to its good end, and misses no more often than
 /// the unit loses: a fresh one ends as the bytes of bank 1 say, an opened one as `Done` if each of
-/// its locations is there and none is fixed, and a closing one as `Closed`. Other units may lose
-/// their power meanwhile.
+/// its locations is there and none is fixed, a closing one as `Closed`, and a reading one as `Read`.
+/// Other units may lose their power meanwhile.
 pub fn spared_sessions_succeed()
     ensures fresh { (loses : List ℕ) (at : ℕ) (unit : UnitState) (updates : List (ℕ × ℕ)) (verdict : Verdict)
         (told : List Exchange) (first last : SimState) (spared : Spared (IsAmong loses) at unit told first last)
@@ -344,4 +374,8 @@ pub fn spared_sessions_succeed()
         (first last : SimState) (spared : Spared (IsAmong loses) at unit told first last)
         → Wants at (close Verdict.Closed Verdict.NotClosed) told (Ask.Ended verdict)
         → (verdict ≡ Verdict.Closed) × MissesByLosses (IsAmong loses) at unit told first last spared }
+    ensures reading { (loses : List ℕ) (at : ℕ) (unit : UnitState) (verdict : Verdict) (told : List Exchange)
+        (first last : SimState) (spared : Spared (IsAmong loses) at unit told first last)
+        → Wants at read_all told (Ask.Ended verdict)
+        → (verdict ≡ Verdict.Read) × MissesByLosses (IsAmong loses) at unit told first last spared }
 {}

@@ -10,17 +10,19 @@ ghost use Rattle.dali_write.specs.declared.request.Wish.{Wish};
 ghost use Rattle.dali_write.specs.declared.ask.Verdict.{Verdict};
 ghost use Rattle.dali_write.specs.declared.stage.Task.{Task};
 ghost use Rattle.dali_write.specs.Stages.{plan_of, order_for, plan_at, access_of};
+ghost use Rattle.dali_write.specs.Found.{kept_after};
 ghost use Rattle.dali_write.specs.FramesLeft.{limit_at};
-ghost use Rattle.dali_write.specs.Counts.{fresh_limit, opened_limit, closing_limit};
+ghost use Rattle.dali_write.specs.Counts.{fresh_limit, opened_limit, closing_limit, reading_limit};
 
 use crate::ask::{Ask, Verdict};
 use crate::request::{Request, byte_after};
 use crate::stage::{Stage, Task};
+use arrayvec::ArrayVec;
 use dali_bank::Order;
 use dali_frame::Frame;
 
-// The most tries of an access.
-const MOST_TRIES: u8 = 8;
+/// The most tries of an access (profile).
+pub const MOST_TRIES: u8 = 8;
 
 /// A session with one unit (profile): it goes through a plan of checked reads and writes, frame by
 /// frame.
@@ -42,13 +44,16 @@ pub struct Session {
     number: usize,
     // the byte that the try at hand has read or written
     byte: Option<u8>,
+    // what a reading session has read so far
+    bytes: ArrayVec<u8, 255>,
     ghost short: { unit ≤ 63 },
     ghost few: { misses < most_tries },
     ghost going: { IsGoing (plan_at task stage) (drop number (plan_requests unit (plan_at task stage))) },
 }
 
 impl Session {
-    ghost use Rattle.dali_write.specs.Told.{Told, unit_of, task_of, aim_of, request_at_hand, frames_left, BeginsTry};
+    ghost use Rattle.dali_write.specs.Told.{Told, unit_of, task_of, bytes_read, aim_of, request_at_hand, frames_left};
+    ghost use Rattle.dali_write.specs.Told.{BeginsTry};
 
     /// Looks whether bank 1 of the order's unit suits the order: its last location, and the content
     /// format where the order writes from 13h on. Ends as `MayOpen`, `Short`, `Format` or `Silent`.
@@ -89,6 +94,18 @@ impl Session {
         )
     }
 
+    /// Reads bank 1 of the unit at a short address, at most 63: location 00h, and then those up to
+    /// the one that 00h names, at most up to FEh. Ends as `Read` or `Silent`.
+    pub fn reading(unit: u8) -> Session
+        requires { unit ≤ 63 }
+        ensures unit { unit_of result ≡ unit }
+        ensures task { task_of result ≡ Task.Reading }
+        ensures told { Told [] result }
+        ensures left { frames_left result ≡ reading_limit }
+    {
+        Session::begun(unit, Task::Reading, Stage::ReadAll)
+    }
+
     fn begun(unit: u8, task: Task, stage: Stage) -> Session
         requires short { unit ≤ 63 }
         requires stage { plan_at task stage ≡ plan_of task }
@@ -104,6 +121,7 @@ impl Session {
             misses: 0,
             number: 0,
             byte: None,
+            bytes: ArrayVec::new(),
         }
     }
 
@@ -137,8 +155,17 @@ impl Session {
     {
         match &self.task {
             Task::Fresh(order) | Task::Opened(order) => Some(order),
-            Task::Closing => None,
+            Task::Closing | Task::Reading => None,
         }
+    }
+
+    /// What a reading session has read so far: bank 1 from location 00h on, at most 255 bytes. Empty
+    /// for the others.
+    pub fn bytes(&self) -> &[u8]
+        ensures value { result.now ≡ bytes_read self.now }
+        ensures few { length result.now ≤ 255 }
+    {
+        self.bytes.as_slice()
     }
 
     /// Tells the session the answer to the frame that it wanted. A session that has ended is as it
@@ -224,10 +251,23 @@ impl Session {
         ensures limit { IfOk (access_of (plan_at self.old.task self.old.stage)) (λ access.
             limit_at self.new.task self.new.stage + most_tries * length (access_requests self.old.unit access)
             ≤ limit_at self.old.task self.old.stage) }
+        ensures bytes { length self.old.bytes.items < 255
+            → self.new.bytes.items ≡ kept_after self.old.task self.old.bytes.items outcome }
     {
-        self.stage = self.stage.next(&self.task, outcome);
+        let stage = self.stage.next(&self.task, outcome);
+        keep_byte(&mut self.bytes, &self.task, outcome);
+        self.stage = stage;
         self.misses = 0;
         self.number = 0;
         self.byte = None;
+    }
+}
+
+// Keeps the byte that a reading session has read.
+fn keep_byte(bytes: &mut ArrayVec<u8, 255>, task: &Task, outcome: Option<u8>)
+    ensures { length bytes.old.items < 255 → bytes.new.items ≡ kept_after task.now bytes.old.items outcome }
+{
+    if let (Task::Reading, Some(byte)) = (task, outcome) {
+        let _ = bytes.try_push(byte);
     }
 }

@@ -3,6 +3,7 @@ ghost use Rattle.dali_write.specs.Requests.{access_requests};
 ghost use Rattle.dali_write.specs.Plans.{greatest, next_plan, either_way, give_up};
 ghost use Rattle.dali_write.specs.Tries.{most_tries};
 ghost use Rattle.dali_write.specs.declared.stage.Task.{Task};
+ghost use Rattle.dali_write.specs.declared.stage.Stage.TheVariants.{ReadOn};
 ghost use Rattle.dali_write.specs.Stages.{plan_at, access_of, updates_for};
 ghost use Rattle.dali_write.specs.FramesLeft.{limit_at, read_limit, close_limit};
 
@@ -16,6 +17,7 @@ pub(crate) enum Task {
     Fresh(Order),
     Opened(Order),
     Closing,
+    Reading,
 }
 
 impl Task {
@@ -25,7 +27,7 @@ impl Task {
     {
         match self {
             Task::Fresh(order) | Task::Opened(order) => order.updates(),
-            Task::Closing => &[],
+            Task::Closing | Task::Reading => &[],
         }
     }
 }
@@ -46,6 +48,9 @@ pub(crate) enum Stage {
     /// Lock the unit, and see whether it answers: then the first verdict, else the second.
     Close(Verdict, Verdict),
     ReadClosed(Verdict, Verdict),
+    ReadAll,
+    /// Read this location and those after it, up to the last one.
+    ReadOn(u8, u8),
     Over(Verdict),
 }
 
@@ -55,7 +60,7 @@ impl Stage {
         ensures { result ≡ access_of (plan_at task.now self) }
     {
         match self {
-            Stage::ReadLength => Ok(Access::ReadFrom(0x00)),
+            Stage::ReadLength | Stage::ReadAll => Ok(Access::ReadFrom(0x00)),
             Stage::ReadFormat => Ok(Access::ReadFrom(0x11)),
             Stage::ReadFormatLow(_) => Ok(Access::ReadFrom(0x12)),
             Stage::Unlock => Ok(Access::WriteTo(0x02, 0x55)),
@@ -69,6 +74,13 @@ impl Stage {
                 None => Err(Verdict::Done),
             },
             Stage::Close(_, _) => Ok(Access::WriteTo(0x02, 0xFF)),
+            Stage::ReadOn(location, last) => {
+                if location <= last {
+                    Ok(Access::ReadFrom(location))
+                } else {
+                    Err(Verdict::Read)
+                }
+            }
             Stage::Over(verdict) => Err(verdict),
         }
     }
@@ -105,6 +117,11 @@ impl Stage {
             } else {
                 unanswered
             }),
+            Stage::ReadAll => match outcome {
+                Some(last) => Stage::ReadOn(1, last.min(0xFE)),
+                None => Stage::Over(Verdict::Silent),
+            },
+            Stage::ReadOn(location, last) => read_next(location, last, outcome),
             Stage::Over(_) => self,
         }
     }
@@ -175,5 +192,25 @@ fn after_read(outcome: Option<u8>, byte: u8, next: Stage) -> Stage
     match outcome {
         Some(found) if found == byte => next,
         _ => Stage::Close(Verdict::Doubt, Verdict::DoubtOpen),
+    }
+}
+
+// What follows the read of a location, where those up to the last one are to be read.
+#[tactic(auto, using(crate::proofs::RequestLemmas::read_on_next))]
+fn read_next(location: u8, last: u8, outcome: Option<u8>) -> Stage
+    ensures plan { (task : Task) → plan_at task result ≡ next_plan (plan_at task (Stage.ReadOn location last)) outcome }
+    ensures limit { (task : Task) → location ≤ last
+        → limit_at task result + read_limit ≤ limit_at task (Stage.ReadOn location last) }
+{
+    if location > last {
+        return Stage::Over(Verdict::Read);
+    }
+    if outcome.is_none() {
+        return Stage::Over(Verdict::Silent);
+    }
+    if location < last {
+        Stage::ReadOn(location + 1, last)
+    } else {
+        Stage::Over(Verdict::Read)
     }
 }

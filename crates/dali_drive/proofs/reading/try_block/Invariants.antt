@@ -1,5 +1,5 @@
 use Rattle.std.proofs.Common.{◌≡◌, ◌-◌, length, false}
-use Rattle.dali_read.specs.Blocks.{block_requests}
+use Rattle.dali_write.specs.Requests.{block_requests}
 use Rattle.dali_drive.specs.Transcript.{link_shown}
 use Rattle.dali_drive.specs.UnitRead.{TriedTo}
 use Rattle.dali_drive.proofs.reading.try_block.Given as goal

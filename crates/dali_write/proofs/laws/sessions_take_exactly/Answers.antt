@@ -1,4 +1,4 @@
-use Rattle.dali_write.proofs.ExactEndLemmas.{short_took, low_took, high_took, format_took, closed_took}
+use Rattle.dali_write.proofs.ExactEndLemmas.{short_took, low_took, high_took, format_took, closed_took, read_took}
 use Rattle.dali_write.proofs.laws.sessions_take_exactly.Goals as goal
 
 pub returns-clause-short : goal.returns-clause-short
@@ -15,3 +15,6 @@ returns-clause-format c = format_took
 
 pub returns-clause-closed : goal.returns-clause-closed
 returns-clause-closed c = closed_took
+
+pub returns-clause-read : goal.returns-clause-read
+returns-clause-read c = read_took

@@ -1,6 +1,6 @@
 use Rattle.dali_write.specs.Worlds.{IsAmong}
 use Rattle.dali_write.proofs.RunLemmas.{spared_along, few_too}
-use Rattle.dali_write.proofs.SuccessLemmas.{fresh_succeeds, opened_succeeds, closing_succeeds}
+use Rattle.dali_write.proofs.SuccessLemmas.{fresh_succeeds, opened_succeeds, closing_succeeds, reading_succeeds}
 use Rattle.dali_write.proofs.laws.spared_sessions_succeed.Goals as goal
 
 pub returns-clause-fresh : goal.returns-clause-fresh
@@ -20,4 +20,10 @@ pub returns-clause-closing : goal.returns-clause-closing
 returns-clause-closing c = λ loses at unit verdict told first last spared wants.
     let along = spared_along (IsAmong loses) at unit told first last spared in
     let ends = closing_succeeds (IsAmong loses) at unit verdict told first last along wants in
+    (ends.0, few_too (IsAmong loses) at unit told first last spared ends.1)
+
+pub returns-clause-reading : goal.returns-clause-reading
+returns-clause-reading c = λ loses at unit verdict told first last spared wants.
+    let along = spared_along (IsAmong loses) at unit told first last spared in
+    let ends = reading_succeeds (IsAmong loses) at unit verdict told first last along wants in
     (ends.0, few_too (IsAmong loses) at unit told first last spared ends.1)

@@ -1,9 +1,10 @@
-ghost use Rattle.std.specs.Prelude.{◌≡◌, ◌≤◌, ◌+◌, slice_get, IfSome};
+ghost use Rattle.std.specs.Prelude.{◌≡◌, ◌≤◌, slice_get, IfSome};
 ghost use Rattle.dali_frame.specs.Frame.{IsProper};
-ghost use Rattle.dali_read.specs.Blocks.{block_requests, Fits};
+ghost use Rattle.dali_write.specs.Requests.{block_requests};
 
+use crate::access::{request, selection};
+use crate::request::{Request, Wish};
 use dali_frame::Frame;
-use dali_write::{Request, Wish, selection};
 
 /// So many locations of memory bank 1 in a row (profile).
 ///
@@ -20,8 +21,8 @@ pub struct Block {
 impl Block {
     /// The frame of a try of the block read that has a number, counted from 0, with the answer that it wants. None
     /// behind the last one.
+    #[tactic(auto, using(crate::proofs::PlaceLemmas::place_behind))]
     pub fn request(self, unit: u8, number: usize) -> Option<Request>
-        requires { Fits self }
         ensures request { result ≡ slice_get (block_requests unit self) number }
         ensures proper { unit ≤ 63 → IfSome result (λ request. IsProper request.frame) }
     {
@@ -31,7 +32,7 @@ impl Block {
         } else if number < behind {
             Some(request(Frame::Read(unit), Wish::Anything))
         } else if number == behind {
-            let place = self.location + self.count;
+            let place = self.location.saturating_add(self.count);
             Some(request(Frame::AskDtr0(unit), Wish::Exactly(place)))
         } else if number == behind + 1 {
             Some(request(Frame::AskDtr1(unit), Wish::Exactly(1)))
@@ -39,10 +40,4 @@ impl Block {
             None
         }
     }
-}
-
-fn request(frame: Frame, wish: Wish) -> Request
-    ensures { result ≡ record { frame = frame; wish = wish } }
-{
-    Request { frame, wish }
 }

@@ -1,12 +1,16 @@
 -- When the bytes of a block read were there, and how long its unit kept its power. Exchanges have the newest first.
-use Rattle.std.specs.Prelude.{◌≡◌, ℕ, ◌+◌, List, ◌++◌, length, slice_get, Some}
+use Rattle.std.specs.Prelude.{◌≡◌, ◌≢◌, ℕ, List, ◌++◌, length, slice_get, Some}
 use Rattle.dali_bus.specs.World.{World, byte_at}
 use Rattle.dali_bus.specs.Carry.{WorldStep}
 use Rattle.dali_write.specs.Exchanges.{Exchange}
 use Rattle.dali_write.specs.Worlds.{Run}
-use Rattle.dali_write.specs.WhenRead.{AllBut}
-use Rattle.dali_read.specs.declared.block.Block.{Block}
-use Rattle.dali_read.specs.Blocks.{bytes_of, IsBlockRead}
+use Rattle.dali_write.specs.declared.block.Block.{Block}
+use Rattle.dali_write.specs.Requests.{moved_on}
+use Rattle.dali_write.specs.Blocks.{bytes_of, IsBlockRead}
+
+-- the address is one of these, and another than the unit's
+abbrev pub AllBut : ℕ → (ℕ → Type 0) → ℕ → Type 0
+AllBut unit loses address = loses address × (address ≢ unit)
 
 -- Among the reads of a block, which lead from the first world to the last, so many came before this one. The unit held
 -- the byte at the location in the world in which the read reached it.
@@ -52,6 +56,16 @@ pub record WhenBlock (loses : ℕ → Type 0) (told : List Exchange) (first last
   pub asking_back : Run WorldStep (AllBut unit loses) back moved answered
   pub behind : Run WorldStep loses newer answered last
   pub held : (index byte : ℕ) → slice_get bytes index ≡ Some byte
-      → HeldAt (AllBut unit loses) each selected moved unit (block.location + index) index byte
+      → HeldAt (AllBut unit loses) each selected moved unit (moved_on block.location index) index byte
   pub together : (index byte : ℕ) → slice_get bytes index ≡ Some byte
-      → byte_at answered unit 1 (block.location + index) ≡ Some byte
+      → byte_at answered unit 1 (moved_on block.location index) ≡ Some byte
+
+-- a read of a block that told this byte of this location, and when the block's bytes were there
+pub record WhenTold (loses : ℕ → Type 0) (told : List Exchange) (first last : World) (unit location byte : ℕ)
+    : Type 0 where
+  pub block : Block
+  pub bytes : List ℕ
+  pub index : ℕ
+  pub place : location ≡ moved_on block.location index
+  pub there : slice_get bytes index ≡ Some byte
+  pub when : WhenBlock loses told first last unit block bytes

@@ -1,9 +1,8 @@
 -- A block read tells each byte at its place, and its unit kept its power from the second frame to the last.
-use Rattle.std.proofs.Common.{◌≡◌, ◌⊎◌, inl, inr, refl, sym, ap, subst, ◌∙◌, ℕ, suc, ◌+◌, ◌<◌, ◌≤◌, List, []}
+use Rattle.std.proofs.Common.{◌≡◌, inl, inr, refl, sym, ap, subst, ◌∙◌, ℕ, suc, ◌<◌, List, []}
 use Rattle.std.proofs.Common.{◌∷◌, ◌++◌, length, append_assoc, Option, Some, None, arith}
-use Rattle.std.specs.Prelude.{◌≢◌, slice_get}
+use Rattle.std.specs.Prelude.{slice_get}
 use Rattle.std.proofs.lemmas.Option.{slice_get_within}
-use Rattle.std.proofs.lemmas.Bool.{ne_eqb}
 use Rattle.dali_frame.specs.declared.forward.Frame.TheVariants.{Dtr0, AskDtr0, AskDtr1, Read}
 use Rattle.dali_bus.specs.World.{World, Gear, byte_in, byte_at}
 use Rattle.dali_bus.specs.Hears.{Hears, Obeys, up}
@@ -12,17 +11,17 @@ use Rattle.dali_write.specs.Exchanges.{Exchange}
 use Rattle.dali_write.specs.Requests.{select_requests}
 use Rattle.dali_write.specs.Tries.{Trying}
 use Rattle.dali_write.specs.Worlds.{Shows}
-use Rattle.dali_write.specs.WhenRead.{AllBut}
 use Rattle.dali_write.proofs.GearLemmas.{IsQuiet, carry_stays, carry_dtr1, dtr0_in, dtr1_in, asked1, end_steady}
 use Rattle.dali_write.proofs.PowerLemmas.{shows_kept, stays_keeps, drifts_keep}
 use Rattle.dali_write.proofs.TruthLemmas.{split, carried, selects_run, held_then, shown, shows_now, run_keeps, AllQuiet}
 use Rattle.dali_write.proofs.WhenReadLemmas.{AllLeave, kept_on, leaves}
 use Rattle.dali_write.proofs.RunLemmas.{leads_of, run_of, Leads, Drifts, Stays, Loses}
-use Rattle.dali_read.specs.declared.block.Block.{Block}
-use Rattle.dali_read.specs.Blocks.{bytes_of, Fits, IsBlockRead}
-use Rattle.dali_read.specs.WhenBlock.{HeldAt, WhenBlock}
-use Rattle.dali_read.proofs.BlockShapeLemmas.{AllReads}
-use Rattle.dali_read.proofs.BlockBytesLemmas.{some_byte, bytes_next, bytes_count, one_of, front_of, told_block}
+use Rattle.dali_write.specs.declared.block.Block.{Block}
+use Rattle.dali_write.specs.Requests.{moved_on}
+use Rattle.dali_write.specs.Blocks.{bytes_of, IsBlockRead}
+use Rattle.dali_write.specs.WhenBlock.{AllBut, HeldAt, WhenBlock}
+use Rattle.dali_write.proofs.BlockShapeLemmas.{AllReads}
+use Rattle.dali_write.proofs.BlockBytesLemmas.{some_byte, bytes_next, bytes_count, one_of, front_of, told_block}
 
 -- others lost their power: the unit is as it was
 drifts_same : {loses : ℕ → Type 0} (unit : ℕ) (first last : World) → Drifts WorldStep (AllBut unit loses) first last
@@ -56,54 +55,46 @@ moves_on old unit location byte new carry bank place =
     let one_is : a.before.dtr1 ≡ 1 = cc in
     ap dtr0_in is ∙ ap Some (told.1 one_is ∙ ap up at_is)
 
--- below the last location it moves on by one
-pub up_one : (dtr0 : ℕ) → dtr0 < 0xFF → up dtr0 ≡ dtr0 + 1
-up_one dtr0 below = rw (ne_eqb dtr0 0xFF (λ same. let no : ⊥ = omega (arith, same) in no)) refl
-
 -- the place where a unit stands that has bank 1 selected
 abbrev pub StandsAt : Option Gear → ℕ → Type 0
 StandsAt gear location = (dtr1_in gear ≡ Some 1) × (dtr0_in gear ≡ Some location)
 
 -- after so many reads a unit that keeps its power has moved on by as many
 reads_stand : (loses : ℕ → Type 0) (unit location : ℕ) (each : List Exchange) (first last : World)
-    → Leads WorldStep (AllBut unit loses) each first last → AllReads unit each → location + length each ≤ 0xFF
-    → StandsAt (first unit) location → StandsAt (last unit) (location + length each)
-reads_stand loses unit location [] first last run all within at =
+    → Leads WorldStep (AllBut unit loses) each first last → AllReads unit each
+    → StandsAt (first unit) location → StandsAt (last unit) (moved_on location (length each))
+reads_stand loses unit location [] first last run all at =
     let still = drifts_same {loses = loses} unit first last run in
-    let same : location ≡ location + 0 = omega arith in
-    subst (λ (l : ℕ). StandsAt (last unit) l) same
-    (subst (λ (g : Option Gear). StandsAt g location) (sym still) at)
-reads_stand loses unit location (x ∷ each) first last run all within at =
-    let place = location + length each in
-    let below : place < 0xFF = omega arith in
-    let before = reads_stand loses unit location each first run.0 run.2 all.2 (omega arith) at in
+    subst (λ (g : Option Gear). StandsAt g location) (sym still) at
+reads_stand loses unit location (x ∷ each) first last run all at =
+    let place = moved_on location (length each) in
+    let before = reads_stand loses unit location each first run.0 run.2 all.2 at in
     let byte = some_byte x.answer all.1 in
     let carry = carried run.0 run.1 x (Read unit) (Some byte.0) all.0 byte.1 run.3 in
     let bank = carry_dtr1 run.0 (Read unit) (Some byte.0) run.1 tt carry unit ∙ before.0 in
-    let next : up place ≡ location + suc (length each) = up_one place below ∙ omega arith in
-    let moved = moves_on run.0 unit place byte.0 run.1 carry before.0 before.1 ∙ ap Some next in
-    subst (λ (g : Option Gear). StandsAt g (location + suc (length each)))
+    let moved = moves_on run.0 unit place byte.0 run.1 carry before.0 before.1 in
+    subst (λ (g : Option Gear). StandsAt g (moved_on location (suc (length each))))
     (sym (drifts_same {loses = loses} unit run.1 last run.4)) (bank, moved)
 
 -- each byte that they told was at its place when its read reached the unit
 reads_held : (loses : ℕ → Type 0) (unit location : ℕ) (each : List Exchange) (first last : World)
-    → Leads WorldStep (AllBut unit loses) each first last → AllReads unit each → location + length each ≤ 0xFF
+    → Leads WorldStep (AllBut unit loses) each first last → AllReads unit each
     → StandsAt (first unit) location → (index byte : ℕ) → slice_get (bytes_of each) index ≡ Some byte
-    → HeldAt (AllBut unit loses) each first last unit (location + index) index byte
-reads_held loses unit location [] first last run all within at index byte is =
+    → HeldAt (AllBut unit loses) each first last unit (moved_on location index) index byte
+reads_held loses unit location [] first last run all at index byte is =
     let below = slice_get_within [] index byte is in absurd (no below)
   where
     no : index < length {A = ℕ} [] → ⊥
     no below = omega arith
-reads_held loses unit location (x ∷ each) first last run all within at index byte is =
-    let before = reads_stand loses unit location each first run.0 run.2 all.2 (omega arith) at in
+reads_held loses unit location (x ∷ each) first last run all at index byte is =
+    let before = reads_stand loses unit location each first run.0 run.2 all.2 at in
     let new = some_byte x.answer all.1 in
     let carry = carried run.0 run.1 x (Read unit) (Some new.0) all.0 new.1 run.3 in
-    let place = location + length each in
+    let place = moved_on location (length each) in
     let here = subst (λ (l : List ℕ). slice_get l index ≡ Some byte) (bytes_next unit x each new.0 all.0 new.1) is in
     elim (one_of (bytes_of each) new.0 index byte here) [
       | inl earlier ↦
-          let held = reads_held loses unit location each first run.0 run.2 all.2 (omega arith) at index byte earlier in
+          let held = reads_held loses unit location each first run.0 run.2 all.2 at index byte earlier in
           let behind : Leads WorldStep (AllBut unit loses) (x ∷ held.newer) held.reached last =
           (run.0, run.1, leads_of held.newer held.reached run.0 held.behind, run.3, run.4) in
           record {
@@ -127,7 +118,7 @@ reads_held loses unit location (x ∷ each) first last run all within at index b
             reached = run.0;
             before = run_of _ _ _ run.2;
             behind = run_of _ _ _ behind;
-            held = subst (λ (i : ℕ). byte_at run.0 unit 1 (location + i) ≡ Some byte) (sym count)
+            held = subst (λ (i : ℕ). byte_at run.0 unit 1 (moved_on location i) ≡ Some byte) (sym count)
                 (held_then run.0 unit place new.0 run.1 carry before.0 before.1 ∙ ap Some (sym now.1));
           }
     ]
@@ -135,33 +126,33 @@ reads_held loses unit location (x ∷ each) first last run all within at index b
 -- each byte is shown at its place
 abbrev pub ShowsEach : (ℕ → Type 0) → World → ℕ → ℕ → List ℕ → Type 0
 ShowsEach loses world unit location bytes =
-    (index byte : ℕ) → slice_get bytes index ≡ Some byte → Shows loses world unit (location + index) byte
+    (index byte : ℕ) → slice_get bytes index ≡ Some byte → Shows loses world unit (moved_on location index) byte
 
 -- after so many reads a unit that keeps its power shows each byte that they told
 reads_show : (loses : ℕ → Type 0) (unit location : ℕ) (each : List Exchange) (first last : World)
-    → Leads WorldStep (AllBut unit loses) each first last → AllReads unit each → location + length each ≤ 0xFF
+    → Leads WorldStep (AllBut unit loses) each first last → AllReads unit each
     → StandsAt (first unit) location → ShowsEach (AllBut unit loses) last unit location (bytes_of each)
-reads_show loses unit location [] first last run all within at index byte is =
+reads_show loses unit location [] first last run all at index byte is =
     let below = slice_get_within [] index byte is in absurd (no below)
   where
     no : index < length {A = ℕ} [] → ⊥
     no below = omega arith
-reads_show loses unit location (x ∷ each) first last run all within at index byte is =
-    let before = reads_stand loses unit location each first run.0 run.2 all.2 (omega arith) at in
+reads_show loses unit location (x ∷ each) first last run all at index byte is =
+    let before = reads_stand loses unit location each first run.0 run.2 all.2 at in
     let new = some_byte x.answer all.1 in
     let carry = carried run.0 run.1 x (Read unit) (Some new.0) all.0 new.1 run.3 in
-    let place = location + length each in
+    let place = moved_on location (length each) in
     let here = subst (λ (l : List ℕ). slice_get l index ≡ Some byte) (bytes_next unit x each new.0 all.0 new.1) is in
-    shows_kept run.1 last unit (location + index) byte
+    shows_kept run.1 last unit (moved_on location index) byte
     (elim (one_of (bytes_of each) new.0 index byte here) [
       | inl earlier ↦
-          shows_kept run.0 run.1 unit (location + index) byte
-          (reads_show loses unit location each first run.0 run.2 all.2 (omega arith) at index byte earlier)
+          shows_kept run.0 run.1 unit (moved_on location index) byte
+          (reads_show loses unit location each first run.0 run.2 all.2 at index byte earlier)
           (stays_keeps run.0 run.1 unit (carry_stays run.0 (Read unit) (Some new.0) run.1 unit tt carry))
       | inr now ↦
           let shown_now = shown run.0 unit place new.0 run.1 carry before.0 before.1 in
           let count : index ≡ length each = now.0 ∙ bytes_count unit each all.2 in
-          subst (λ (i : ℕ). Shows (AllBut unit loses) run.1 unit (location + i) byte) (sym count)
+          subst (λ (i : ℕ). Shows (AllBut unit loses) run.1 unit (moved_on location i) byte) (sym count)
           (subst (λ (b : ℕ). Shows (AllBut unit loses) run.1 unit place b) (sym now.1)
           (shows_now run.1 unit place new.0 (run.1 unit) refl shown_now))
     ])
@@ -215,19 +206,16 @@ reads_leave unit (x ∷ each) all = (leaves x (Read unit) all.0 tt, reads_leave 
 -- a block read with exchanges before it
 when_just_block : (loses : ℕ → Type 0) (tried older : List Exchange) (first begun last : World) (unit : ℕ)
     (block : Block) (bytes : List ℕ)
-    → Fits block → Leads WorldStep loses older first begun → Leads WorldStep loses tried begun last
+    → Leads WorldStep loses older first begun → Leads WorldStep loses tried begun last
     → IsBlockRead unit block bytes tried
     → WhenBlock loses (tried ++ older) first last unit block bytes × ShowsEach loses last unit block.location bytes
-when_just_block loses tried older first begun last unit block bytes fits before run read =
+when_just_block loses tried older first begun last unit block bytes before run read =
     let location = block.location in
     let t = told_block unit block bytes tried read in
     let s = t.was in
     let four = t.four in
     let front = front_of four in
     let back : List Exchange = s.y2 ∷ s.y1 ∷ [] in
-    let count = s.count_is in
-    let fits_within = fits.within in
-    let within : location + length s.each ≤ 0xFF = omega arith in
     let r2 = subst (λ (t : List Exchange). Leads WorldStep loses t begun last) t.whole run in
     let r1 = r2.2 in
     let q = split loses s.each front begun r1.0 r1.2 in
@@ -265,8 +253,8 @@ when_just_block loses tried older first begun last unit block bytes fits before 
     let told_by : (index byte : ℕ) → slice_get bytes index ≡ Some byte → slice_get (bytes_of s.each) index ≡ Some byte =
     λ index byte is. subst (λ (l : List ℕ). slice_get l index ≡ Some byte) (sym t.bytes_are) is in
     let shown_then : ShowsEach (AllBut unit loses) r2.1 unit location bytes = λ index byte is.
-    shows_kept k1.0 r2.1 unit (location + index) byte
-    (reads_show loses unit location s.each q.0 k1.0 k1.2 s.all within (kept.1, place) index byte
+    shows_kept k1.0 r2.1 unit (moved_on location index) byte
+    (reads_show loses unit location s.each q.0 k1.0 k1.2 s.all (kept.1, place) index byte
     (told_by index byte is))
     (run_keeps back k1.0 r2.1 unit quiet asking_back) in (
       record {
@@ -291,25 +279,25 @@ when_just_block loses tried older first begun last unit block bytes fits before 
         reading = run_of _ _ _ k1.2;
         asking_back = run_of _ _ _ asking_back;
         behind = run_of _ _ _ behind;
-        held = λ index byte is. reads_held loses unit location s.each q.0 k1.0 k1.2 s.all within (kept.1, place) index
+        held = λ index byte is. reads_held loses unit location s.each q.0 k1.0 k1.2 s.all (kept.1, place) index
             byte (told_by index byte is);
-        together = λ index byte is. stood r2.1 unit (location + index) byte (shown_then index byte is);
+        together = λ index byte is. stood r2.1 unit (moved_on location index) byte (shown_then index byte is);
       },
       λ index byte is.
-          shows_kept r2.1 last unit (location + index) byte
-          (all_show r2.1 unit (location + index) byte (shown_then index byte is))
+          shows_kept r2.1 last unit (moved_on location index) byte
+          (all_show r2.1 unit (moved_on location index) byte (shown_then index byte is))
           (drifts_keep r2.1 last r2.4 unit),
     )
 
 -- and with exchanges behind it
 pub when_block : {loses : ℕ → Type 0} (newer tried older : List Exchange) (first last : World) (unit : ℕ)
     (block : Block) (bytes : List ℕ)
-    → Fits block → Leads WorldStep loses (newer ++ (tried ++ older)) first last → IsBlockRead unit block bytes tried
+    → Leads WorldStep loses (newer ++ (tried ++ older)) first last → IsBlockRead unit block bytes tried
     → WhenBlock loses (newer ++ (tried ++ older)) first last unit block bytes
-when_block {loses} newer tried older first last unit block bytes fits run read =
+when_block {loses} newer tried older first last unit block bytes run read =
     let p = split loses newer (tried ++ older) first last run in
     let q = split loses tried older first p.0 p.1 in
-    let w = (when_just_block loses tried older first q.0 p.0 unit block bytes fits q.1 q.2 read).0 in
+    let w = (when_just_block loses tried older first q.0 p.0 unit block bytes q.1 q.2 read).0 in
     let behind =
     run_joined loses newer w.newer w.answered p.0 last (leads_of w.newer w.answered p.0 w.behind) p.2 in
     let rest : List Exchange = (w.back ++ (w.each ++ (w.middle ++ w.two))) ++ w.older in
@@ -345,7 +333,7 @@ when_block {loses} newer tried older first last unit block bytes fits run read =
 -- a block read shows its bytes
 pub block_true : {loses : ℕ → Type 0} (tried : List Exchange) (first last : World) (unit : ℕ) (block : Block)
     (bytes : List ℕ)
-    → Fits block → Leads WorldStep loses tried first last → IsBlockRead unit block bytes tried
-    → (index byte : ℕ) → slice_get bytes index ≡ Some byte → Shows loses last unit (block.location + index) byte
-block_true {loses} tried first last unit block bytes fits run read index byte is =
-    (when_just_block loses tried [] first first last unit block bytes fits Stays run read).1 index byte is
+    → Leads WorldStep loses tried first last → IsBlockRead unit block bytes tried
+    → (index byte : ℕ) → slice_get bytes index ≡ Some byte → Shows loses last unit (moved_on block.location index) byte
+block_true {loses} tried first last unit block bytes run read index byte is =
+    (when_just_block loses tried [] first first last unit block bytes Stays run read).1 index byte is

@@ -11,9 +11,9 @@ use Rattle.dali_frame.specs.declared.forward.Frame.{Frame}
 use Rattle.dali_frame.specs.declared.forward.Frame.TheVariants.{Dtr0, Dtr1, AskDtr0, AskDtr1, Read}
 use Rattle.dali_write.specs.Exchanges.{Exchange}
 use Rattle.dali_write.proofs.ShapeLemmas.{Selected, selected}
-use Rattle.dali_read.specs.declared.block.Block.{Block}
-use Rattle.dali_read.specs.Blocks.{read_answer, bytes_of, IsBlockRead}
-use Rattle.dali_read.proofs.BlockShapeLemmas.{AllReads, WasBlock, was_block}
+use Rattle.dali_write.specs.declared.block.Block.{Block}
+use Rattle.dali_write.specs.Blocks.{read_answer, bytes_of, IsBlockRead}
+use Rattle.dali_write.proofs.BlockShapeLemmas.{AllReads, WasBlock, was_block}
 
 -- a byte that is there
 pub some_byte : (o : Option ℕ) → IsSome o → (byte : ℕ) × (o ≡ Some byte)

@@ -13,8 +13,8 @@ use Rattle.dali_write.specs.declared.request.Wish.TheVariants.{Exactly, Anything
 use Rattle.dali_write.specs.Requests.{Meets, request, select_requests}
 use Rattle.dali_write.specs.Tries.{Trying}
 use Rattle.dali_write.proofs.ShapeLemmas.{Got, got, cut, left_is, left_all, AllOf, trying_length, head_is, tail_is}
-use Rattle.dali_read.specs.declared.block.Block.{Block}
-use Rattle.dali_read.specs.Blocks.{reads, block_requests}
+use Rattle.dali_write.specs.declared.block.Block.{Block}
+use Rattle.dali_write.specs.Requests.{moved_on, reads, block_requests}
 
 -- a whole try of two parts of requests, one after the other
 pub record Parts (front back : List Request) (tried : List Exchange) (left : List Request) : Type 0 where
@@ -129,13 +129,13 @@ pub record WasBlock (unit : ℕ) (block : Block) (tried : List Exchange) : Type 
   pub selects : Trying (select_requests unit block.location) older []
   pub all : AllReads unit each
   pub count_is : length each ≡ block.count
-  pub got1 : Got y1 (AskDtr0 unit) (Exactly (block.location + block.count))
+  pub got1 : Got y1 (AskDtr0 unit) (Exactly (moved_on block.location block.count))
   pub got2 : Got y2 (AskDtr1 unit) (Exactly 1)
 
 pub was_block : (unit : ℕ) (block : Block) (tried : List Exchange) → Trying (block_requests unit block) tried []
     → WasBlock unit block tried
 was_block unit block tried try =
-    let place = block.location + block.count in
+    let place = moved_on block.location block.count in
     let p =
     in_parts (select_requests unit block.location) (reads unit block.count ++ back_requests unit place) tried [] try
     (omega arith) in
@@ -164,7 +164,7 @@ was_block unit block tried try =
 -- the frames of a block read
 pub block_frames_are : (unit : ℕ) (block : Block) → length (block_requests unit block) ≡ block.count + 6
 block_frames_are unit block =
-    let place = block.location + block.count in
+    let place = moved_on block.location block.count in
     let n = reads_length unit block.count in
     let all = length-append (reads unit block.count) (back_requests unit place) in
     omega arith

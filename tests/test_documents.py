@@ -8,8 +8,9 @@ functions, and behind a colon their clauses. The last column names edits.
 
 It fails where a name isn't in the file that it is said to be in; where a contract is said of a function that isn't
 public, or a clause isn't there; where a public call, a law or an edit stands in no such table, or an edit twice; where
-a cell is over MOST characters; where README doesn't say in the words of the help what the program is; and where a link
-leads nowhere. The last line is `N passed, M failed`.
+a cell is over MOST characters; where a name of several words, as `IsGtin`, stands in no code, definition or proof and
+in no unit of the service; where README doesn't say in the words of the help what the program is; and where a link leads
+nowhere. The last line is `N passed, M failed`.
 """
 
 import collections
@@ -27,6 +28,7 @@ HEAD = "| rule | definition | code | contract or law | what it refuses |"
 # What a cell may have, but the last column's, which is a list of names.
 MOST = 420
 NAMES = re.compile(r"`([^`]+)`")
+SEVERAL_WORDS = re.compile(r"`([A-Z][a-z]+[A-Z][a-z]\w*)[`.]")
 PLACE = re.compile(r"\(`(?P<file>[\w/]+\.(?:antt|rt))`(?: of `(?P<crate>dali_\w+)`)?\)")
 LINK = re.compile(r"\[[^\]]*\]\((?P<path>[^)#\s]*)(?:#(?P<anchor>[^)\s]*))?\)")
 EDITS = ("must-fail", "wrong-bodies", "wrong-lines")
@@ -104,6 +106,9 @@ class Judge:
             for path in CRATES.glob(f"*/{kind}/*.edit"):
                 self.edits[path.parent.parent.name].add(path.stem)
         self.called, self.tried = collections.defaultdict(set), collections.Counter()
+        parts = ("crates/*/src/**/*.rt", "crates/*/specs/**/*.antt", "crates/*/proofs/**/*.antt", "service/*.service")
+        written = [it for part in parts for it in ROOT.glob(part)]
+        self.names = {name for path in written for name in re.findall(r"\w+", text_of(path))}
 
     def look(self, is_so, where, what):
         """Count what is so, and note what isn't."""
@@ -218,6 +223,12 @@ class Judge:
                 if found["anchor"] and target.is_file():
                     self.look(found["anchor"] in anchors_of(target), where, f"no heading {found['anchor']} there")
 
+    def words(self, path):
+        """Look at the names of a document, wherever they stand."""
+        for number, line in enumerate(text_of(path).split("\n"), 1):
+            for name in SEVERAL_WORDS.findall(line):
+                self.look(name in self.names, f"{path.relative_to(ROOT)}:{number}", f"{name} is nowhere")
+
 
 def text_around(part):
     """Give the text of an item, and of the traits that its file declares where it is a method of one."""
@@ -246,6 +257,7 @@ def main():
             for number, cells in table.rows:
                 judge.row(table, number, cells)
         judge.links(path)
+        judge.words(path)
     about = re.search(r'ABOUT: &str = "\\\n(.*?)";', text_of(CRATES / "dali_job" / "src" / "usages.rt"), re.DOTALL)
     said = re.sub(r"\\\n", "", about[1])
     judge.look(said in text_of(ROOT / "README.md").replace("`", ""), "README.md", f"it doesn't say, as the help: {said}")

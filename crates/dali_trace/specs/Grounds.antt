@@ -1,5 +1,5 @@
 -- What a record of the journal rests on, where 'shows unit location byte' says that the unit's location in bank 1 shows
--- the byte. A legal trace has it from checked reads, and so it is so of the world.
+-- the byte. A legal trace has it from reads of blocks, and so it is so of the world.
 use Rattle.std.specs.Prelude.{◌≡◌, ℕ, List, [], Option, Some, None, ⊤}
 use Rattle.dali_journal.specs.declared.record.Code.TheVariants as codes
 use Rattle.dali_journal.specs.declared.record.Record.{Record}

@@ -64,14 +64,14 @@ MaySend past stands other = ⊥
 -- Records
 
 -- an order is begun that waits, with the moment at which it was submitted, and a left unit is closed for one that
--- waits, after a checked read of it since that was taken
+-- waits, after a read of a block of it since that was taken
 abbrev pub IsDue : List Happening → Record → Type 0
 IsDue past (Began order moment) = (waiting past ≡ Some order) × (moment ≡ waiting_since past)
 IsDue past (Closed unit) = IsSome (waiting past) × HasRead unit (sent_since_taken past)
 IsDue past other = ⊤
 
 -- the record may be kept: the records are a sentence with it, of no more orders than there may be, and it rests on
--- checked reads
+-- reads of blocks
 pub record MayKeep (start : Start) (past : List Happening) (entry : Record) : Type 0 where
   pub whole : IsSentenceWithin start.limit (entry ∷ records_of start past)
   pub due : IsDue past entry
@@ -89,8 +89,8 @@ abbrev pub HasNumber : ℕ → Option Contents → Type 0
 HasNumber id None = ⊥
 HasNumber id (Some order) = order.id ≡ id
 
--- this may be said of the order of this number: how it ended, just now, or that it is blocked by a left unit which no
--- checked read reached
+-- this may be said of the order of this number: how it ended, just now, or that it is blocked by a left unit of which
+-- no block was read
 abbrev pub MaySay : Start → List Happening → ℕ → Reply → Type 0
 MaySay start past id (replies.Kept code) = (has_ended past ≡ true) × EndsAs id code (orders_of (records_of start past))
 MaySay start past id (replies.Blocked unit) =

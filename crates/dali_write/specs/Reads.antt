@@ -1,4 +1,4 @@
--- What checked reads among exchanges show. The newest exchange comes first.
+-- What reads of blocks among exchanges show. The newest exchange comes first.
 use Rattle.std.specs.Prelude.{◌≡◌, ◌⊎◌, ℕ, suc, ◌<◌, min, List, [], ◌∷◌, ◌++◌, length, slice_get, Some, ⊤}
 use Rattle.dali_frame.specs.declared.forward.Frame.{Frame}
 use Rattle.dali_frame.specs.declared.forward.Frame.TheVariants.{Dtr0, Dtr1, Dtr2, Write, WriteSilent, Enable}
@@ -31,7 +31,7 @@ StillRead [] unit location byte = ⊥
 StillRead (x ∷ told) unit location byte =
     EndsInRead unit location byte (x ∷ told) ⊎ (IsPassive x.frame × StillRead told unit location byte)
 
--- some checked read of the unit was answered
+-- some read of a block of the unit told a byte
 abbrev pub HasRead : ℕ → List Exchange → Type 0
 HasRead unit [] = ⊥
 HasRead unit (x ∷ told) = ((location : ℕ) × (byte : ℕ) × EndsInRead unit location byte (x ∷ told)) ⊎ HasRead unit told

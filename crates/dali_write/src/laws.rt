@@ -60,8 +60,8 @@ pub fn checked_reads_are_true()
         → (address : ℕ) → KeepsAt (IsAmong loses) first last address }
 {}
 
-/// What a checked read told is still so until a frame enables a unit or writes; the lock byte of a unit that lost its
-/// power may be FFh.
+/// What a read of a block told is still so until a frame enables a unit or writes; the lock byte of a unit that
+/// lost its power may be FFh.
 pub fn still_reads_are_true()
     ensures { (loses : List ℕ) (told : List Exchange) (first last : World) (unit location byte : ℕ)
         → Run WorldStep (IsAmong loses) told first last → StillRead told unit location byte
@@ -277,7 +277,7 @@ pub fn sessions_give_up_late()
         → Wants unit read_all told (Ask.Ended Verdict.Silent) → (location : ℕ) × EndsUnread unit location told }
 {}
 
-/// Where a closing session ends as `NotClosed`, no checked read of its unit was answered since it began.
+/// Where a closing session ends as `NotClosed`, no read of a block of its unit told a byte since it began.
 pub fn unreached_units_were_not_read()
     ensures { (told : List Exchange) (unit : ℕ)
         → Wants unit (close Verdict.Closed Verdict.NotClosed) told (Ask.Ended Verdict.NotClosed) → HasRead unit told

@@ -5,16 +5,14 @@ use Rattle.std.specs.Prelude.{◌≡◌, List, [], ◌∷◌}
 abbrev pub IsChain : {S E : Type 0} → (S → E → S → Type 0) → S → List E → S → List S → Type 0
 IsChain step first [] last [] = last ≡ first
 IsChain step first (newest ∷ past) last (state ∷ states) = step state newest last × IsChain step first past state states
-IsChain step first [] last (state ∷ states) = ⊥
-IsChain step first (newest ∷ past) last [] = ⊥
+IsChain step first past last states = ⊥
 
 -- it holds at each moment: of what happened up to there, the state there, and those before it
 abbrev pub AtEachState : {S E : Type 0} → (List E → S → List S → Type 0) → List E → S → List S → Type 0
 AtEachState holds [] last [] = holds [] last []
 AtEachState holds (newest ∷ past) last (state ∷ states) =
     holds (newest ∷ past) last (state ∷ states) × AtEachState holds past state states
-AtEachState holds [] last (state ∷ states) = ⊥
-AtEachState holds (newest ∷ past) last [] = ⊥
+AtEachState holds past last states = ⊥
 
 -- the same, of what happened up to there and the state there alone
 abbrev pub AtEachMoment : {S E : Type 0} → (List E → S → Type 0) → List E → S → List S → Type 0

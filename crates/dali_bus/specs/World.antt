@@ -28,8 +28,7 @@ stored memory bank location byte b l = if (b == bank) && (l == location) then So
 abbrev pub IfThere : (Gear → Gear → Type 0) → Option Gear → Option Gear → Type 0
 IfThere so None None = ⊤
 IfThere so (Some old) (Some new) = so old new
-IfThere so None (Some new) = ⊥
-IfThere so (Some old) None = ⊥
+IfThere so old new = ⊥
 
 -- the byte at a place of the unit, if there is a unit and it has the place
 abbrev pub byte_in : Option Gear → ℕ → ℕ → Option ℕ

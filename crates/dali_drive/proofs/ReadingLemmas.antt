@@ -1,28 +1,26 @@
 -- How the reading of a unit goes on, frame by frame and block by block, and how it is broken off.
-use Rattle.std.proofs.Common.{◌≡◌, ◌≤◌, ◌<◌, ◌+◌, refl, ℕ, zero, suc, List, [], ◌∷◌, ◌++◌, length, drop, map}
-use Rattle.std.proofs.Common.{append_assoc, append-nil, length-append, Option, Some, None, slice_get, arith, add-one}
-use Rattle.std.proofs.lemmas.Option.{slice_get_within}
+use Rattle.std.proofs.Common.{◌≡◌, ◌≢◌, ◌∙◌, ℕ, List, [], ◌∷◌, ◌++◌, length, map}
+use Rattle.std.proofs.Common.{append_assoc, append-nil, Option, Some, None, arith}
 use Rattle.std.proofs.KnownBytes.{Appends-trans, Appends-nil, Consumes-trans, Consumes-nil}
 use Rattle.dali_frame.specs.declared.forward.Frame.{Frame}
-use Rattle.dali_frame.specs.declared.forward.Frame.TheVariants.{Read}
 use Rattle.dali_trace.specs.declared.happening.Happening.{Happening}
 use Rattle.dali_trace.specs.declared.happening.Happening.TheVariants.{Sent}
 use Rattle.dali_write.specs.Exchanges.{Exchange}
-use Rattle.dali_write.specs.Requests.{Meets, request}
-use Rattle.dali_write.specs.Tries.{most_tries, Trying}
-use Rattle.dali_write.specs.declared.request.Request.{Request}
+use Rattle.dali_write.specs.declared.ask.Ask.TheVariants.{Send, Ended}
+use Rattle.dali_write.specs.declared.ask.Verdict.TheVariants.{Read}
+use Rattle.dali_write.specs.declared.ask.Verdict.{Verdict}
 use Rattle.dali_write.specs.declared.block.Block.{Block}
-use Rattle.dali_write.specs.Requests.{block_requests, reads}
-use Rattle.dali_write.specs.Blocks.{Fits, read_answer, bytes_of}
+use Rattle.dali_write.specs.declared.session.Session.{Session}
+use Rattle.dali_write.specs.Blocks.{Fits}
+use Rattle.dali_write.specs.Told.{Told, unit_of, task_of, aim_of, bytes_read}
+use Rattle.dali_write.proofs.BlockSessionLemmas.{block_amid, block_read, block_silent}
 use Rattle.dali_read.specs.Readings.{Course, told_in, Done}
-use Rattle.dali_write.proofs.BlockBytesLemmas.{block_count}
+use Rattle.dali_read.proofs.InBlockLemmas.{done_count}
 use Rattle.dali_trace.specs.declared.fault.DriveFault.{DriveFault}
 use Rattle.dali_drive.specs.Transcript.{Streams, Transcript, AreAnswers, sent_lines, said_lines, recorded}
 use Rattle.dali_drive.specs.Driven.{BreaksFrame}
-use Rattle.dali_drive.specs.UnitRead.{LinkText, TriedTo, TryTold, TryMissed, TryBroke, MissedSoOften, BlockTold}
-use Rattle.dali_drive.specs.UnitRead.{BlockFailed, BlockBroke, ReadSoFar, IsUnitRead, UnitReadBroke}
-use Rattle.dali_write.proofs.BlockShapeLemmas.{reads_length}
-use Rattle.dali_write.proofs.RequestLemmas.{drop_at, drop_end}
+use Rattle.dali_drive.specs.UnitRead.{LinkText, BlockSoFar, BlockTold, BlockFailed, BlockBroke}
+use Rattle.dali_drive.specs.UnitRead.{ReadSoFar, IsUnitRead, UnitReadBroke}
 
 -- What was told over a link, piece by piece
 
@@ -56,108 +54,47 @@ told_both newer older first mid last one two = record {
   out = rw (texts_both newer older).2 (Appends-trans _ _ _ _ _ one.out two.out);
 }
 
--- so many of the requests are reads
-abbrev reads_in_one : Frame → ℕ
-reads_in_one (Read to) = 1
-reads_in_one other = 0
-
-abbrev reads_in : List Request → ℕ
-reads_in [] = 0
-reads_in (next ∷ left) = reads_in_one next.frame + reads_in left
-
-answer_few : (frame : Frame) (answer : Option ℕ) → length (read_answer frame answer) ≤ reads_in_one frame
-answer_few frame answer = grind arith
-
-bytes_few : (requests : List Request) (told : List Exchange) (left : List Request) → Trying requests told left
-    → length (bytes_of told) + reads_in left ≤ reads_in requests
-bytes_few requests [] left try = grind arith
-bytes_few requests (x ∷ told) left try =
-    let few = bytes_few requests told (request x.frame try.0 ∷ left) try.2 in grind (arith, answer_few, length-append)
-
-reads_both : (one two : List Request) → reads_in (one ++ two) ≡ reads_in one + reads_in two
-reads_both [] two = omega arith
-reads_both (next ∷ one) two = omega (arith, reads_both one two)
-
-reads_count : (unit count : ℕ) → reads_in (reads unit count) ≡ count
-reads_count unit zero = refl
-reads_count unit (suc count) = omega (arith, reads_count unit count)
+-- One block
 
 module _ (unit : ℕ) (block : Block) where
-  -- One try of a block
+  pub block_goes_on : (s next : Session) (first mid last : Streams) (frame : Frame) (answer : Option ℕ)
+      → (b : BlockSoFar unit block s first mid) → Told (record { frame = frame; answer = answer } ∷ b.told) next
+      → unit_of next ≡ unit_of s → task_of next ≡ task_of s
+      → Transcript (Sent frame answer ∷ []) mid last → BlockSoFar unit block next first last
+  block_goes_on s next first mid last frame answer b was here same text =
+      let one : List Exchange = record { frame = frame; answer = answer } ∷ [] in
+      record {
+        told = one ++ b.told;
+        was = was;
+        reads = (here ∙ b.reads.0, same ∙ b.reads.1);
+        text = told_both one b.told _ _ _ b.text text;
+      }
 
-  abbrev requests : List Request
-  requests = block_requests unit block
-
-  -- the request of a number is the first of those that are left
-  at_hand : (number : ℕ) (told : List Exchange) (next : Request) → slice_get requests number ≡ Some next
-      → Trying requests told (drop number requests) → Trying requests told (next ∷ drop (number + 1) requests)
-  at_hand number told next is try = rw (add-one number) (rw (drop_at requests number next is) at try)
-
-  pub try_goes_on : (bytes all : List ℕ) (number : ℕ) (first mid last : Streams) (next : Request) (answer : Option ℕ)
-      → all ≡ bytes ++ read_answer next.frame answer → TriedTo unit block bytes number first mid
-      → slice_get requests number ≡ Some next → Meets next.wish answer
-      → Transcript (Sent next.frame answer ∷ []) mid last → TriedTo unit block all (number + 1) first last
-  try_goes_on bytes all number first mid last next answer more t is meets text =
-      let one : List Exchange = record { frame = next.frame; answer = answer } ∷ [] in
-      let try = at_hand number t.told next is t.try in
-      let both = told_both one t.told _ _ _ t.text text in
-      record { told = one ++ t.told; try = (_, meets, try); bytes_are = grind (arith, t.bytes_are); text = both }
-
-  pub try_misses : (bytes : List ℕ) (number : ℕ) (first mid last : Streams) (next : Request) (answer : Option ℕ)
-      → TriedTo unit block bytes number first mid → slice_get requests number ≡ Some next
-      → (Meets next.wish answer → ⊥) → Transcript (Sent next.frame answer ∷ []) mid last
-      → TryMissed unit block first last
-  try_misses bytes number first mid last next answer t is missed text =
-      let one : List Exchange = record { frame = next.frame; answer = answer } ∷ [] in
-      let try = at_hand number t.told next is t.try in
-      record { told = one ++ t.told; missed = (_, _, missed, try); text = told_both one t.told _ _ _ t.text text }
-
-  pub try_breaks : (bytes : List ℕ) (number : ℕ) (first mid last : Streams) (next : Request) (fault : DriveFault)
-      → TriedTo unit block bytes number first mid → slice_get requests number ≡ Some next
-      → BreaksFrame next.frame fault mid last → TryBroke unit block fault first last
-  try_breaks bytes number first mid last next fault t is broken = grind (arith, at_hand number t.told next is t.try)
-
-  pub try_ends : (bytes : List ℕ) (number : ℕ) (first last : Streams) → TriedTo unit block bytes number first last
-      → slice_get requests number ≡ None → TryTold unit block bytes first last
-  try_ends bytes number first last t is = grind (arith, drop_end)
-
-  -- there is room for the byte that is read next
-  pub try_has_room : (bytes : List ℕ) (number : ℕ) (first mid : Streams) (next : Request) (answer : Option ℕ)
-      → Fits block → TriedTo unit block bytes number first mid → slice_get requests number ≡ Some next
-      → length bytes + length (read_answer next.frame answer) ≤ 16
-  try_has_room bytes number first mid next answer fits t is =
-      let few = bytes_few requests t.told _ (at_hand number t.told next is t.try) in
-      grind (arith, answer_few next.frame answer, reads_both, reads_count)
-
-  -- no number of a request is higher
-  pub few_requests : (number : ℕ) (next : Request) → Fits block → slice_get requests number ≡ Some next
-      → (number < length requests) × (number < 22)
-  few_requests number next fits is = grind (arith, slice_get_within, length-append, reads_length)
-
-  -- The whole of it
-
-  pub one_miss_more : (misses : ℕ) (first mid last : Streams) → MissedSoOften unit block misses first mid
-      → TryMissed unit block mid last → MissedSoOften unit block (misses + 1) first last
-  one_miss_more misses first mid last m t =
-      let text = told_both t.told m.told _ _ _ m.text t.text in
-      record { told = _; misses_are = rw add-one (t.told, m.told, refl, t.missed, m.misses_are); text = text }
-
-  pub block_told : (bytes : List ℕ) (misses : ℕ) (first mid last : Streams)
-      → MissedSoOften unit block misses first mid → misses < most_tries → TryTold unit block bytes mid last
-      → BlockTold unit block bytes first last
-  block_told bytes misses first mid last m few t =
-      record { told = _; succeeds = search; text = told_both t.told m.told _ _ _ m.text t.text }
-
-  pub block_breaks : (misses : ℕ) (first mid last : Streams) (fault : DriveFault)
-      → MissedSoOften unit block misses first mid → misses < most_tries → TryBroke unit block fault mid last
+  pub block_breaks : (s : Session) (first mid last : Streams) (frame : Frame) (fault : DriveFault)
+      → BlockSoFar unit block s first mid → aim_of s ≡ Send frame → BreaksFrame frame fault mid last
       → BlockBroke unit block fault first last
-  block_breaks misses first mid last fault m few t =
-      record { told = t.told ++ m.told; frame = t.next.frame; stands = grind arith; broke = grind (arith, told_both) }
+  block_breaks s first mid last frame fault b is broken =
+      record {
+        told = b.told;
+        frame = frame;
+        amid = block_amid b.told s unit block frame b.was b.reads is;
+        broke = record { middle = mid; text = b.text; broken = broken };
+      }
+
+  pub block_told : (s : Session) (first last : Streams) → BlockSoFar unit block s first last
+      → aim_of s ≡ Ended Read → BlockTold unit block (bytes_read s) first last
+  block_told s first last b is =
+      record { told = b.told; succeeds = block_read b.told s unit block b.was b.reads is; text = b.text }
+
+  pub block_failed : (s : Session) (first last : Streams) (verdict : Verdict) → BlockSoFar unit block s first last
+      → aim_of s ≡ Ended verdict → verdict ≢ Read → BlockFailed unit block first last
+  block_failed s first last verdict b is other =
+      record { told = b.told; fails = block_silent b.told s unit block verdict b.was b.reads is other; text = b.text }
 
   -- a block that was read has told a byte of each of its locations
   pub told_count : (bytes : List ℕ) (first last : Streams) → BlockTold unit block bytes first last
       → length bytes ≡ block.count
-  told_count bytes first last t = block_count unit block bytes t.succeeds.tried t.succeeds.read
+  told_count bytes first last t = done_count unit block bytes t.told t.succeeds
 
 -- A whole reading
 

@@ -1,5 +1,5 @@
 -- A scan of two units and two orders verified by hand, frames that are broken off, and what is near them and isn't so.
-use Rattle.std.proofs.Common.{◌≡◌, inl, refl, sym, append_assoc, ℕ, zero, suc, List, [], ◌∷◌, ◌++◌, Some, None, codes}
+use Rattle.std.proofs.Common.{◌≡◌, inl, refl, sym, ap, append_assoc, ℕ, zero, suc, List, [], ◌∷◌, ◌++◌, Some, None, codes}
 use Rattle.std.proofs.Common.{true, is_some, take, length, arith, ◌≤◌, append-nil, take-append-drop, inr, false}
 use Rattle.std.proofs.lemmas.Fmt.{decimal_digit}
 use Rattle.std.proofs.lemmas.List.{length-map}
@@ -7,11 +7,11 @@ use Rattle.dali_frame.specs.declared.forward.Frame.TheVariants.{Dtr0, Dtr1, AskD
 use Rattle.dali_write.specs.Exchanges.{Exchange}
 use Rattle.dali_write.specs.WorkedAccesses.{sent}
 use Rattle.dali_write.specs.declared.request.Wish.TheVariants.{Nothing, Exactly}
-use Rattle.dali_write.specs.Tries.{Misses}
+use Rattle.dali_write.specs.Tries.{Misses, Succeeds}
+use Rattle.dali_write.specs.Requests.{request}
 use Rattle.dali_read.specs.declared.finding.Finding.TheVariants.{Same, Other, Short, Format}
 use Rattle.dali_write.specs.Requests.{block_requests}
-use Rattle.dali_write.specs.Blocks.{Fits, IsBlockRead}
-use Rattle.dali_read.specs.Blocks.{Succeeds}
+use Rattle.dali_write.specs.Blocks.{Fits, IsBlockRead, IsAmid}
 use Rattle.dali_write.specs.Requests.{block}
 use Rattle.dali_read.specs.Places.{first_block, last_course, order_course}
 use Rattle.dali_read.specs.Readings.{Course, Ends, Done, IsRead, InTurn, bytes_in, told_in}
@@ -30,9 +30,7 @@ use Rattle.dali_drive.specs.WorkedSurveys.{other_order, short_order, before_two_
 use Rattle.dali_drive.specs.WorkedSurveys.{after_near_order, amid_far_order, before_frame, after_frame}
 use Rattle.dali_trace.specs.declared.fault.DriveFault.{DriveFault}
 use Rattle.dali_drive.specs.Driven.{BreaksFrame}
-use Rattle.dali_write.specs.Requests.{request}
-use Rattle.dali_drive.proofs.ReadingLemmas.{told_nothing, as_sent, answers_both, reading_breaks, block_breaks}
-use Rattle.dali_drive.proofs.ReadingLemmas.{try_breaks}
+use Rattle.dali_drive.proofs.ReadingLemmas.{told_nothing, as_sent, answers_both, reading_breaks}
 use Rattle.dali_drive.proofs.WorkedDriveLemmas.{none_line, answer_line, is_short}
 use Rattle.dali_trace.specs.declared.fault.DriveFault.TheVariants as faults
 use Rattle.dali_frame.specs.declared.forward.Frame.{Frame}
@@ -123,19 +121,19 @@ pub silent_scanned : IsScanReport silent_unit
 silent_scanned = (silent_ends last_course refl, refl)
 
 -- a block that was read at once, and a reading that came to its end
-at_once : {unit : ℕ} {block : Block} {bytes : List ℕ} {told : List Exchange} → IsBlockRead unit block bytes told
-    → Succeeds unit block bytes told
-at_once {told = told} read =
-    let same = sym (append-nil told) in
-    record { tried = told; missed = []; misses = 0; parts = same; read = read; few = omega arith; misses_are = refl }
+at_once : (unit : ℕ) (block : Block) (bytes : List ℕ) (told : List Exchange) → IsBlockRead unit block bytes told
+    → Succeeds (block_requests unit block) (Some bytes) told
+at_once unit block bytes told read =
+    (told, [], 0, sym (append-nil told), read.0, ap Some (sym read.1), omega arith, refl)
 
 is_read : {unit : ℕ} {course : Course} (done : List Done) → InTurn unit course done → course (bytes_in done) ≡ None
     → IsRead unit course (bytes_in done) (told_in done)
 is_read done turn over = grind arith
 
-pub length_told : Succeeds 1 first_block (0x77 ∷ []) length_read
+pub length_told : Succeeds (block_requests 1 first_block) (Some (0x77 ∷ [])) length_read
 length_told =
-    at_once ((_, search, (_, search, (_, search, (_, search, (_, search, (_, search, (_, search, refl))))))), refl)
+    at_once 1 first_block _ _
+    ((_, search, (_, search, (_, search, (_, search, (_, search, (_, search, (_, search, refl))))))), refl)
 
 abbrev pub first_done : Done
 first_done = record { block = first_block; bytes = 0x77 ∷ []; told = length_read }
@@ -174,15 +172,33 @@ pub not_two_bytes : (line : List ℕ) → TellsLast 1 (Some (0x77 ∷ 0x00 ∷ [
 not_two_bytes line (last, one, is) = cc
 
 -- where a reading is broken off in its first frame
+first_amid : (unit : ℕ) (block : Block) → IsAmid unit block [] (Dtr1 1)
+first_amid unit block =
+    record {
+      tried = [];
+      missed = [];
+      misses = 0;
+      next = request (Dtr1 1) Nothing;
+      left = _;
+      parts = refl;
+      few = omega arith;
+      misses_are = refl;
+      try = refl;
+      frame_is = refl;
+    }
+
 pub frame_broke : {fault : DriveFault} {old new : Streams} (unit : ℕ) (course : Course) → course [] ≡ Some first_block
     → BreaksFrame (Dtr1 1) fault old new → UnitReadBroke unit course fault old new
 frame_broke {old = old} unit course next broken =
     let text = told_nothing old in
     reading_breaks unit course [] _ _ _ first_block _
     (record { done = []; in_turn = tt; bytes_are = refl; text = text }) first_fits next
-    (block_breaks unit first_block 0 _ _ _ _ (record { told = []; misses_are = refl; text = text }) (omega arith)
-    (try_breaks unit first_block [] 0 _ _ _ (request (Dtr1 1) Nothing) _
-    (record { told = []; try = refl; bytes_are = refl; text = text }) refl broken))
+    (record {
+      told = [];
+      frame = Dtr1 1;
+      amid = first_amid unit first_block;
+      broke = record { middle = old; text = text; broken = broken };
+    })
 
 -- a frame's line is broken off behind so many bytes
 cut_frame : (frame : Frame) (count : ℕ) (old answers : List ℕ) → count ≤ 5 → BreaksFrame frame faults.Link
@@ -248,9 +264,10 @@ nothing_past_it fault units old new broke = grind arith
 
 -- Two orders: the unit of the first one has its byte, and that of the second is silent
 
-byte_told : (byte : ℕ) → Succeeds 1 (block 0x03 1) (byte ∷ []) (byte_read byte)
+byte_told : (byte : ℕ) → Succeeds (block_requests 1 (block 0x03 1)) (Some (byte ∷ [])) (byte_read byte)
 byte_told byte =
-    at_once ((_, search, (_, search, (_, search, (_, search, (_, search, (_, search, (_, search, refl))))))), refl)
+    at_once 1 (block 0x03 1) _ _
+    ((_, search, (_, search, (_, search, (_, search, (_, search, (_, search, (_, search, refl))))))), refl)
 
 near_ends : (byte : ℕ)
     → Ends 1 (order_course near_order.updates) (Some (0x77 ∷ byte ∷ [])) (byte_read byte ++ length_read)

@@ -1,14 +1,14 @@
 -- Readings of a unit over a link.
-use Rattle.std.specs.Prelude.{◌≡◌, ◌≤◌, ℕ, Bool, false, List, ◌∷◌, Option, drop, map}
+use Rattle.std.specs.Prelude.{◌≡◌, ◌≤◌, ℕ, Bool, false, List, Option, Some, map}
 use Rattle.dali_frame.specs.declared.forward.Frame.{Frame}
 use Rattle.dali_trace.specs.declared.happening.Happening.TheVariants.{Sent}
 use Rattle.dali_write.specs.Exchanges.{Exchange}
-use Rattle.dali_write.specs.Tries.{Trying, Missed, Misses}
-use Rattle.dali_write.specs.declared.request.Request.{Request}
 use Rattle.dali_write.specs.declared.block.Block.{Block}
+use Rattle.dali_write.specs.declared.session.Session.{Session}
+use Rattle.dali_write.specs.Blocks.{Fits, IsAmid}
 use Rattle.dali_write.specs.Requests.{block_requests}
-use Rattle.dali_write.specs.Blocks.{Fits, bytes_of, IsBlockRead}
-use Rattle.dali_read.specs.Blocks.{Succeeds, Fails, Stands}
+use Rattle.dali_write.specs.Told.{Told, IsReadingBlock}
+use Rattle.dali_write.specs.Tries.{most_tries, Misses, Succeeds}
 use Rattle.dali_read.specs.Readings.{Course, Done, InTurn, Ends, IsReading, bytes_in, told_in}
 use Rattle.dali_trace.specs.declared.fault.DriveFault.{DriveFault}
 use Rattle.dali_drive.specs.Transcript.{Streams, Transcript}
@@ -28,57 +28,29 @@ pub record BreaksAfter (told : List Exchange) (frame : Frame) (fault : DriveFaul
 abbrev pub CanRead : ℕ → Block → Bool → Bool → Type 0
 CanRead unit block link_out link_in = (unit ≤ 63) × Fits block × (link_out ≡ false) × (link_in ≡ false)
 
--- One try of a block
-
--- it told these bytes so far, and the requests from this number on are left
-pub record TriedTo (unit : ℕ) (block : Block) (bytes : List ℕ) (number : ℕ) (first last : Streams) : Type 0 where
-  pub told : List Exchange
-  pub try : Trying (block_requests unit block) told (drop number (block_requests unit block))
-  pub bytes_are : bytes_of told ≡ bytes
-  pub text : LinkText told first last
-
--- it came to its end and told these bytes
-pub record TryTold (unit : ℕ) (block : Block) (bytes : List ℕ) (first last : Streams) : Type 0 where
-  pub told : List Exchange
-  pub read : IsBlockRead unit block bytes told
-  pub text : LinkText told first last
-
--- it missed
-pub record TryMissed (unit : ℕ) (block : Block) (first last : Streams) : Type 0 where
-  pub told : List Exchange
-  pub missed : Missed (block_requests unit block) told
-  pub text : LinkText told first last
-
--- a fault broke it off
-pub record TryBroke (unit : ℕ) (block : Block) (fault : DriveFault) (first last : Streams) : Type 0 where
-  pub told : List Exchange
-  pub next : Request
-  pub left : List Request
-  pub try : Trying (block_requests unit block) told (next ∷ left)
-  pub broke : BreaksAfter told next.frame fault first last
-
 -- One block
 
--- so many tries missed
-pub record MissedSoOften (unit : ℕ) (block : Block) (misses : ℕ) (first last : Streams) : Type 0 where
+-- the session that reads it so far
+pub record BlockSoFar (unit : ℕ) (block : Block) (session : Session) (first last : Streams) : Type 0 where
   pub told : List Exchange
-  pub misses_are : Misses (block_requests unit block) misses told
+  pub was : Told told session
+  pub reads : IsReadingBlock unit block session
   pub text : LinkText told first last
 
 pub record BlockTold (unit : ℕ) (block : Block) (bytes : List ℕ) (first last : Streams) : Type 0 where
   pub told : List Exchange
-  pub succeeds : Succeeds unit block bytes told
+  pub succeeds : Succeeds (block_requests unit block) (Some bytes) told
   pub text : LinkText told first last
 
 pub record BlockFailed (unit : ℕ) (block : Block) (first last : Streams) : Type 0 where
   pub told : List Exchange
-  pub fails : Fails unit block told
+  pub fails : Misses (block_requests unit block) most_tries told
   pub text : LinkText told first last
 
 pub record BlockBroke (unit : ℕ) (block : Block) (fault : DriveFault) (first last : Streams) : Type 0 where
   pub told : List Exchange
   pub frame : Frame
-  pub stands : Stands unit block told frame
+  pub amid : IsAmid unit block told frame
   pub broke : BreaksAfter told frame fault first last
 
 -- A whole reading

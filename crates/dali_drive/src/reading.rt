@@ -1,34 +1,18 @@
 ghost use Rattle.std.specs.Prelude.{◌≡◌, ◌≤◌, ◌+◌, ◌++◌, Some, None, IfOk, IfErr, OnOk, IfSome, IsNone, length, false};
-ghost use Rattle.dali_write.specs.Blocks.{read_answer};
 ghost use Rattle.dali_read.specs.Places.{course_of};
 ghost use Rattle.dali_drive.specs.Transcript.{link_shown};
 ghost use Rattle.dali_drive.specs.Driven.{FailedAs, LinkEnds};
-ghost use Rattle.dali_drive.specs.UnitRead.{CanRead, TryTold, TryMissed, TryBroke, BlockTold, BlockFailed, BlockBroke};
-ghost use Rattle.dali_drive.specs.UnitRead.{IsUnitRead, UnitReadBroke};
+ghost use Rattle.dali_drive.specs.UnitRead.{CanRead, BlockTold, BlockFailed, BlockBroke, IsUnitRead, UnitReadBroke};
 
 use crate::link::exchange;
 use crate::streams::{Sink, Source};
 use arrayvec::ArrayVec;
-use dali_frame::Frame;
 use dali_read::{Block, Places};
 use dali_trace::DriveFault;
-use dali_write::MOST_TRIES;
-
-// The most bytes of a block.
-const MOST_OF_BLOCK: usize = 16;
+use dali_write::{Ask, Session, Verdict};
 
 // The most bytes of a bank that can be read.
 const MOST_OF_BANK: usize = 255;
-
-// Keeps what was answered to a read.
-fn keep_answer(bytes: &mut ArrayVec<u8, MOST_OF_BLOCK>, frame: &Frame, answer: Option<u8>)
-    requires { length bytes.old.items + length (read_answer frame.now answer) ≤ 16 }
-    ensures { bytes.new.items ≡ bytes.old.items ++ read_answer frame.now answer }
-{
-    if let (Frame::Read(_), Some(byte)) = (frame, answer) {
-        let _fits = bytes.try_push(byte);
-    }
-}
 
 // Keeps the bytes of a block.
 fn keep_block(bytes: &mut ArrayVec<u8, MOST_OF_BANK>, more: &[u8])
@@ -38,45 +22,13 @@ fn keep_block(bytes: &mut ArrayVec<u8, MOST_OF_BANK>, more: &[u8])
     let _fits = bytes.try_extend_from_slice(more);
 }
 
-// Tries to read a block once: its bytes, or none where a frame missed the answer that it wants.
-fn try_block<I: Source, L: Sink>(
-    unit: u8,
-    block: Block,
-    link_in: &mut I,
-    link_out: &mut L,
-) -> Result<Option<ArrayVec<u8, MOST_OF_BLOCK>>, DriveFault>
-    requires ready { CanRead unit block (L.failed link_out.old) (I.failed link_in.old) }
-    ensures read { IfOk result (λ outcome. IfSome outcome (λ bytes. TryTold unit block bytes.items
-        (link_shown (L.held link_out.old) (I.left link_in.old))
-        (link_shown (L.held link_out.new) (I.left link_in.new)))) }
-    ensures missed { IfOk result (λ outcome. IsNone outcome → TryMissed unit block
-        (link_shown (L.held link_out.old) (I.left link_in.old))
-        (link_shown (L.held link_out.new) (I.left link_in.new))) }
-    ensures broken { IfErr result (λ fault. TryBroke unit block fault
-        (link_shown (L.held link_out.old) (I.left link_in.old))
-        (link_shown (L.held link_out.new) (I.left link_in.new))) }
-    ensures ends { LinkEnds result (L.failed link_out.new) (I.failed link_in.new) false }
-{
-    let mut bytes = ArrayVec::new();
-    let mut number = 0;
-    while let Some(request) = block.request(unit, number) {
-        let answer = exchange(&request.frame, link_in, link_out)?;
-        if !request.wish.is_met(answer) {
-            return Ok(None);
-        }
-        keep_answer(&mut bytes, &request.frame, answer);
-        number += 1;
-    }
-    Ok(Some(bytes))
-}
-
 // Reads a block: its bytes, or none where all tries missed.
 fn read_block<I: Source, L: Sink>(
     unit: u8,
     block: Block,
     link_in: &mut I,
     link_out: &mut L,
-) -> Result<Option<ArrayVec<u8, MOST_OF_BLOCK>>, DriveFault>
+) -> Result<Option<ArrayVec<u8, MOST_OF_BANK>>, DriveFault>
     requires ready { CanRead unit block (L.failed link_out.old) (I.failed link_in.old) }
     ensures read { IfOk result (λ outcome. IfSome outcome (λ bytes. BlockTold unit block bytes.items
         (link_shown (L.held link_out.old) (I.left link_in.old))
@@ -89,12 +41,21 @@ fn read_block<I: Source, L: Sink>(
         (link_shown (L.held link_out.new) (I.left link_in.new))) }
     ensures ends { LinkEnds result (L.failed link_out.new) (I.failed link_in.new) false }
 {
-    for _ in 0..MOST_TRIES {
-        if let Some(bytes) = try_block(unit, block, link_in, link_out)? {
-            return Ok(Some(bytes));
+    let mut session = Session::reading_block(unit, block);
+    let verdict = loop {
+        match session.want() {
+            Ask::Send(frame) => session.heard(exchange(&frame, link_in, link_out)?),
+            Ask::Ended(verdict) => break verdict,
         }
+    };
+    match verdict {
+        Verdict::Read => {
+            let mut bytes = ArrayVec::new();
+            keep_block(&mut bytes, session.bytes());
+            Ok(Some(bytes))
+        }
+        _ => Ok(None),
     }
-    Ok(None)
 }
 
 /// Reads locations of memory bank 1 of the unit at a short address, at most 63, block by block (profile): gives their

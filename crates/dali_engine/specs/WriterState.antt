@@ -65,8 +65,7 @@ IsResumed (standings.Began order) phase =
     (s : Session) × (phase ≡ Checks order s) × IsFresh order s × Told [] s × AreUpdates order.updates
 IsResumed (standings.Opened order) phase =
     (s : Session) × (phase ≡ Writes order s) × IsOpened order s × Told [] s × AreUpdates order.updates
-IsResumed standings.Idle phase = phase ≡ Idle
-IsResumed (standings.Left unit) phase = phase ≡ Idle
+IsResumed other phase = phase ≡ Idle
 
 -- the writer is at rest: nothing is to be done, or it is as it was made from its journal
 abbrev pub IsAtRest : WriterState → Type 0

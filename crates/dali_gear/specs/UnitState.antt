@@ -89,12 +89,9 @@ after_other_frame refuses unit (Dtr1 byte) = record unit { dtr1 = byte }
 after_other_frame refuses unit (Dtr2 byte) = record unit { dtr2 = byte }
 after_other_frame refuses unit (Write byte) = after_write refuses unit byte
 after_other_frame refuses unit (WriteSilent byte) = after_write refuses unit byte
-after_other_frame refuses unit (Enable to) = unit
-after_other_frame refuses unit (AskDtr0 to) = unit
-after_other_frame refuses unit (AskDtr1 to) = unit
-after_other_frame refuses unit (AskDtr2 to) = unit
 after_other_frame refuses unit (Read to) = if to == unit.address then after_read unit else unit
 after_other_frame refuses unit (Other word) = record unit { enabled = false }
+after_other_frame refuses unit other = unit
 
 -- the frame is ENABLE WRITE MEMORY to this address
 abbrev pub enables : ℕ → Frame → Bool

@@ -5,7 +5,6 @@ use Rattle.std.proofs.lemmas.Bool.{eqb-true, eq-eqb}
 use Rattle.dali_bank.specs.Order.{Contents}
 use Rattle.dali_journal.specs.declared.record.Record.{Record}
 use Rattle.dali_journal.specs.declared.record.Record.TheVariants.{Began, Opened, Ended, Closed}
-use Rattle.dali_journal.specs.declared.kept.Kept.TheVariants as kepts
 use Rattle.dali_journal.specs.Sentence.{is_begun, IsSentence}
 use Rattle.dali_journal.specs.Orders.{kept_of, moment_of}
 use Rattle.dali_journal.specs.Law.{MomentsAreKept}

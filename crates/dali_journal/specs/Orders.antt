@@ -24,8 +24,7 @@ orders_of (Closed unit ∷ older) = orders_of older
 -- what is kept of an order that has come so far
 abbrev pub kept_at : Contents → Progress → Kept
 kept_at order (reached.Ended code) = kepts.Ended order code
-kept_at order reached.Begun = kepts.Unfinished order
-kept_at order reached.Open = kepts.Unfinished order
+kept_at order other = kepts.Unfinished order
 
 -- what is kept of the order of this number, of these orders
 abbrev pub kept_among : ℕ → List (Contents × Progress) → Kept

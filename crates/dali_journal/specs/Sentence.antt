@@ -25,9 +25,7 @@ abbrev pub next_standing : Standing → Record → Standing
 next_standing standing (Began order moment) = standings.Began order
 next_standing (standings.Began order) (Opened unit) = standings.Opened order
 next_standing (standings.Opened order) (Ended DoubtOpen) = standings.Left order.unit
-next_standing standing (Opened unit) = standings.Idle
-next_standing standing (Ended code) = standings.Idle
-next_standing standing (Closed unit) = standings.Idle
+next_standing standing other = standings.Idle
 
 -- the standing after these records
 abbrev pub standing_of : List Record → Standing
@@ -36,10 +34,9 @@ standing_of (newest ∷ older) = next_standing (standing_of older) newest
 
 -- the unit that a standing names: it may be write-enabled
 abbrev pub named_unit : Standing → Option ℕ
-named_unit standings.Idle = None
-named_unit (standings.Began order) = None
 named_unit (standings.Opened order) = Some order.unit
 named_unit (standings.Left unit) = Some unit
+named_unit other = None
 
 -- a unit that was left has a short address
 abbrev pub HasShortUnit : Standing → Type 0
@@ -57,9 +54,7 @@ is_begun id (other ∷ older) = is_begun id older
 -- an order begins under a number that no order before it has
 abbrev pub IsNew : Record → List Record → Type 0
 IsNew (Began order moment) older = is_begun order.id older ≡ false
-IsNew (Opened unit) older = ⊤
-IsNew (Ended code) older = ⊤
-IsNew (Closed unit) older = ⊤
+IsNew other older = ⊤
 
 -- each record was one that the table allowed, and each order began under a new number
 abbrev pub IsSentence : List Record → Type 0

@@ -22,7 +22,7 @@ use Rattle.dali_write.specs.Worlds.{IsAmong, OnlyEnabled}
 use Rattle.dali_write.specs.Touches.{Has}
 use Rattle.dali_write.proofs.GearLemmas.{StaysAt, carry_stays, same_byte, dtr1_in, IsOff}
 use Rattle.dali_write.proofs.PowerLemmas.{relock_then, after_power}
-use Rattle.dali_write.proofs.StillReadLemmas.{passive_quiet}
+use Rattle.dali_write.proofs.AskedLemmas.{passive_quiet}
 use Rattle.dali_write.proofs.PutLemmas.{NowOldOrNew, Puts, enable_safe, guarded_safe}
 use Rattle.dali_write.specs.Exchanges.{Exchange}
 use Rattle.dali_trace.specs.Legal.{MayPut}

@@ -6,7 +6,7 @@ use Rattle.std.proofs.lemmas.Bool.{ltb-true, ltb-false}
 use Rattle.dali_write.specs.Exchanges.{Exchange}
 use Rattle.dali_write.specs.declared.block.Block.{Block}
 use Rattle.dali_read.specs.Places.{first_block, last_course, bank_course}
-use Rattle.dali_read.specs.Readings.{Course, Done, bytes_in, told_in, InTurn, IsRead}
+use Rattle.dali_read.specs.Readings.{Course, Done, bytes_in, InTurn, IsRead}
 use Rattle.dali_read.specs.Counts.{block_frames, bank_frames, AreSoMany}
 use Rattle.dali_read.proofs.TurnLemmas.{frames_of, turn_frames, added, none_done}
 
@@ -14,14 +14,7 @@ use Rattle.dali_read.proofs.TurnLemmas.{frames_of, turn_frames, added, none_done
 pub first_frames : (unit : ℕ) (course : Course) (newest : Done) (done : List Done)
     → course [] ≡ Some first_block → InTurn unit course (newest ∷ done) → bytes_in done ≡ []
     → (frames_of (newest ∷ done) ≡ block_frames 1) × (length newest.bytes ≡ 1)
-first_frames unit course newest done first turn none =
-    let no_done = none_done unit course done turn.0 none in
-    let both : Some first_block ≡ Some newest.block = sym first ∙ (ap course (sym none) ∙ turn.2) in
-    let is : first_block ≡ newest.block = cc in
-    let one : 1 ≡ newest.block.count = ap (λ (b : Block). b.count) is in
-    let count = added unit course newest done turn in
-    let nothing : frames_of done ≡ 0 = ap frames_of no_done in
-    (omega arith, omega arith)
+first_frames unit course newest done first turn none = grind (arith, none_done, added, frames_of)
 
 -- 00h alone
 
@@ -37,17 +30,7 @@ last_so_far unit (newest ∷ done) turn = inr (by (bytes_in done) refl)
 
 pub last_took : (told : List Exchange) (unit : ℕ) (bytes : List ℕ) → IsRead unit last_course bytes told
     → AreSoMany (block_frames 1) told
-last_took told unit bytes read = by (last_so_far unit read.done read.in_turn)
-  where
-    by : (read.done ≡ []) ⊎ (frames_of read.done ≡ block_frames 1) → AreSoMany (block_frames 1) told
-    by (inl none) =
-        let no : Some first_block ≡ None =
-        ap (λ (d : List Done). last_course (bytes_in d)) (sym none) ∙ (ap last_course read.bytes_are ∙ read.over) in
-        cc
-    by (inr frames) =
-        subst (λ (t : List Exchange). AreSoMany (block_frames 1) t) read.told_are
-        (subst (λ (n : ℕ). AreSoMany n (told_in read.done)) frames
-        (turn_frames unit last_course read.done read.in_turn))
+last_took told unit bytes read = grind (arith, last_so_far, frames_of, turn_frames)
 
 -- a whole bank: so many of its locations behind 00h were read by blocks of sixteen, which took so many frames
 record BankSoFar (frames count end : ℕ) : Type 0 where
@@ -88,9 +71,7 @@ if_next false x y e = cc
 -- the next block of a bank, behind so many locations
 next_count : (last : ℕ) (more : List ℕ) (next : Block) → bank_course (last ∷ more) ≡ Some next
     → (length more < min last 0xFE) × (next.count ≡ min (min last 0xFE - length more) 16)
-next_count last more next is =
-    let so = if_next (nat_lt (length more) (min last 0xFE)) _ next is in
-    (ltb-true (length more) (min last 0xFE) so.0, sym (ap (λ (b : Block). b.count) so.1))
+next_count last more next is = grind (arith, if_next (nat_lt (length more) (min last 0xFE)) _ next is, ltb-true)
 
 bank_so_far : (unit : ℕ) (done : List Done) (last : ℕ) (more : List ℕ) → InTurn unit bank_course done
     → bytes_in done ≡ last ∷ more → BankSoFar (frames_of done) (length more) (min last 0xFE)
@@ -138,48 +119,31 @@ if_over false x e = refl
 
 bank_over : (frames count end : ℕ) → BankSoFar frames count end → end ≤ count
     → frames ≡ block_frames 1 + (end + 6 * ((end + 15) / 16))
-bank_over frames count end so over =
-    let frames_are = so.frames_are in
-    let within = so.within in
-    let least = so.least in
-    let most = so.most in
-    let blocks : so.blocks ≡ (end + 15) / 16 = omega arith in
-    omega arith
+bank_over frames count end so over = grind arith
 
 pub bank_took : (told : List Exchange) (unit last : ℕ) (more : List ℕ) → IsRead unit bank_course (last ∷ more) told
     → AreSoMany (bank_frames last) told
 bank_took told unit last more read =
-    let so = bank_so_far unit read.done last more read.in_turn read.bytes_are in
-    let over =
-    ltb-false (length more) (min last 0xFE) (if_over (nat_lt (length more) (min last 0xFE)) _ read.over) in
-    let frames : frames_of read.done ≡ bank_frames last =
-    bank_over (frames_of read.done) (length more) (min last 0xFE) so over in
-    subst (λ (t : List Exchange). AreSoMany (bank_frames last) t) read.told_are
-    (subst (λ (n : ℕ). AreSoMany n (told_in read.done)) frames
-    (turn_frames unit bank_course read.done read.in_turn))
+    grind (
+      arith,
+      bank_so_far unit read.done last more read.in_turn read.bytes_are,
+      ltb-false (length more) (min last
+          0xFE) (if_over (nat_lt (length more) (min last 0xFE)) _ read.over),
+      frames_of read.done,
+      bank_over,
+      turn_frames
+          unit bank_course read.done read.in_turn,
+    )
 
 -- the limit
 
 pub last_few : (unit : ℕ) (done : List Done) (next : Block) → InTurn unit last_course done
     → last_course (bytes_in done) ≡ Some next
     → block_frames next.count + frames_of done ≤ block_frames 1
-last_few unit done next turn is = by (bytes_in done) refl
-  where
-    by : (bytes : List ℕ) → bytes_in done ≡ bytes → block_frames next.count + frames_of done ≤ block_frames 1
-    by [] none =
-        let nothing : frames_of done ≡ 0 = ap frames_of (none_done unit last_course done turn none) in
-        let both : Some first_block ≡ Some next = ap last_course (sym none) ∙ is in
-        let first : first_block ≡ next = cc in
-        let one : 1 ≡ next.count = ap (λ (b : Block). b.count) first in
-        omega arith
-    by (last ∷ more) are = let over : None ≡ Some next = ap last_course (sym are) ∙ is in cc
+last_few unit done next turn is = grind (arith, frames_of, none_done)
 
 few_frames : (frames count end : ℕ) → BankSoFar frames count end → end ≤ 0xFE → frames ≤ bank_frames 0xFE
-few_frames frames count end so small =
-    let frames_are = so.frames_are in
-    let within = so.within in
-    let most = so.most in
-    omega arith
+few_frames frames count end so small = grind arith
 
 pub bank_few : (unit : ℕ) (done : List Done) (next : Block) → InTurn unit bank_course done
     → bank_course (bytes_in done) ≡ Some next

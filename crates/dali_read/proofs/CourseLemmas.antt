@@ -1,17 +1,16 @@
 -- Where the courses read, and how many bytes.
-use Rattle.std.proofs.Common.{◌≡◌, ◌⊎◌, inl, inr, refl, ap, subst, ◌∙◌, ℕ, zero, suc, ◌+◌, ◌-◌, ◌<◌, ◌≤◌, Bool}
+use Rattle.std.proofs.Common.{◌≡◌, ◌⊎◌, inl, inr, refl, ap, ◌∙◌, ℕ, zero, suc, ◌+◌, ◌<◌, ◌≤◌, Bool}
 use Rattle.std.proofs.Common.{true, false, if◌then◌else◌, nat_lt, ◌==◌, ◌&&◌, min, drop, map, List, [], ◌∷◌, ◌++◌}
 use Rattle.std.proofs.Common.{length, length-append, slice_get, Option, Some, None, arith}
 use Rattle.std.proofs.lemmas.Bool.{lt-ltb, le-ltb, ltb-true, ltb-false, eqb-true}
 use Rattle.dali_write.specs.Exchanges.{Exchange}
 use Rattle.dali_write.specs.Plans.{greatest}
 use Rattle.dali_write.specs.declared.block.Block.{Block}
-use Rattle.dali_write.specs.Blocks.{most_locations}
 use Rattle.dali_write.specs.Requests.{block}
 use Rattle.dali_read.specs.Places.{first_block, last_course, bank_course, in_a_row, row_of, order_course}
 use Rattle.dali_read.specs.Readings.{Done, bytes_in, InTurn, IsRead}
 use Rattle.dali_read.specs.Shown.{InBlock, ShowsBank}
-use Rattle.dali_read.proofs.InBlockLemmas.{Follows, done_count, read_tells}
+use Rattle.dali_read.proofs.InBlockLemmas.{Tells, Follows, done_count, read_tells}
 
 -- it holds of the places of this block
 abbrev At : (ℕ → Option ℕ) → ℕ → Block → Type 0
@@ -19,8 +18,7 @@ At place start this = (index : ℕ) → index < this.count → place (start + in
 
 at_block : (place : ℕ → Option ℕ) (start : ℕ) (mine this : Block) → Some mine ≡ Some this → At place start mine
     → At place start this
-at_block place start mine this next at =
-    let same : mine ≡ this = cc in subst (λ (b : Block). At place start b) same at
+at_block place start mine this next at = grind arith
 
 -- The last location alone
 
@@ -32,13 +30,7 @@ last_follows (last ∷ more) this next = cc
 
 pub bank_follows : Follows bank_course (λ index. Some index)
 bank_follows [] this next = at_block (λ index. Some index) 0 first_block this next (λ index below. refl)
-bank_follows (last ∷ more) this next = by (nat_lt (length more) (min last 0xFE)) next where
-  mine : Block
-  mine = block (suc (length more)) (min (min last 0xFE - length more) most_locations)
-
-  by : (b : Bool) → (if b then Some mine else None) ≡ Some this → At (λ index. Some index) (length (last ∷ more)) this
-  by true next = at_block (λ index. Some index) (length (last ∷ more)) mine this next (λ index below. refl)
-  by false next = cc
+bank_follows (last ∷ more) this next = grind (arith, at_block)
 
 -- The locations of an order
 
@@ -65,27 +57,13 @@ far_places updates far = rw (le-ltb (greatest updates) 0x13 far) refl
 in_row : (location : ℕ) (updates : List (ℕ × ℕ)) (index : ℕ) → index < in_a_row location updates
     → slice_get (own_places updates) index ≡ Some (location + index)
 in_row location [] index below = absurd (omega arith)
-in_row location (update ∷ updates) zero below = by (update.0 == location) refl below where
-  by : (b : Bool) → (update.0 == location) ≡ b → 0 < (if b then suc (in_a_row (suc location) updates) else 0)
-      → Some update.0 ≡ Some (location + 0)
-  by true e below = let same = eqb-true update.0 location e in ap Some (omega arith)
-  by false e below = absurd (omega arith)
-in_row location (update ∷ updates) (suc index) below =
-    by (update.0 == location) (in_row (suc location) updates index) below
-  where
-    by : (b : Bool)
-        → (index < in_a_row (suc location) updates
-        → slice_get (own_places updates) index ≡ Some (suc location + index))
-        → suc index < (if b then suc (in_a_row (suc location) updates) else 0)
-        → slice_get (own_places updates) index ≡ Some (location + suc index)
-    by true next below = next (omega arith) ∙ ap Some (omega arith)
-    by false next below = absurd (omega arith)
+in_row location (update ∷ updates) zero below = grind (arith, eqb-true)
+in_row location (update ∷ updates) (suc index) below = grind (arith, in_row (suc location) updates index)
 
 -- the places behind so many updates
 drop_get : (updates : List (ℕ × ℕ)) (before index number : ℕ) → number ≡ before + index
     → slice_get (own_places updates) number ≡ slice_get (own_places (drop before updates)) index
-drop_get updates zero index number is =
-    let same : number ≡ index = omega arith in ap (λ (n : ℕ). slice_get (own_places updates) n) same
+drop_get updates zero index number is = grind arith
 drop_get [] (suc before) index number is = refl
 drop_get (update ∷ updates) (suc before) index zero is = absurd (omega arith)
 drop_get (update ∷ updates) (suc before) index (suc number) is = drop_get updates before index number (omega arith)
@@ -97,11 +75,7 @@ RowAt updates this =
 
 row_here : (updates : List (ℕ × ℕ)) (this : Block) → row_of updates ≡ Some this → RowAt updates this
 row_here [] this next = cc
-row_here (update ∷ updates) this next =
-    let count = in_a_row update.0 (update ∷ updates) in
-    let same : block update.0 (min count most_locations) ≡ this = cc in
-    subst (λ (b : Block). RowAt (update ∷ updates) b) same
-    (λ index below. in_row update.0 (update ∷ updates) index (omega arith))
+row_here (update ∷ updates) this next = grind (arith, in_row)
 
 -- the row behind so many updates
 row_follows : (updates : List (ℕ × ℕ)) (before : ℕ) (this : Block) → row_of (drop before updates) ≡ Some this
@@ -114,32 +88,19 @@ pub picked : (row format : Option Block) (last greatest : ℕ) (this : Block)
     → (if nat_lt last greatest then None else (if nat_lt greatest 0x13 then row else format)) ≡ Some this
     → (greatest ≤ last)
     × (((greatest < 0x13) × (row ≡ Some this)) ⊎ ((0x13 ≤ greatest) × (format ≡ Some this)))
-picked row format last greatest this next = by (nat_lt last greatest) refl (nat_lt greatest 0x13) refl next where
-  by : (short : Bool) → nat_lt last greatest ≡ short → (near : Bool) → nat_lt greatest 0x13 ≡ near
-      → (if short then None else (if near then row else format)) ≡ Some this
-      → (greatest ≤ last)
-      × (((greatest < 0x13) × (row ≡ Some this)) ⊎ ((0x13 ≤ greatest) × (format ≡ Some this)))
-  by true e near f next = cc
-  by false e true f next = (ltb-false last greatest e, inl (ltb-true greatest 0x13 f, next))
-  by false e false f next = (ltb-false last greatest e, inr (ltb-false greatest 0x13 f, next))
+picked row format last greatest this next = grind (arith, ltb-false, ltb-true)
 
 -- behind the first byte of a short order, and behind the third of a long one
 near_follows : (updates : List (ℕ × ℕ)) (before number : ℕ) (this : Block) → greatest updates < 0x13
     → number ≡ suc before → row_of (drop before updates) ≡ Some this → At (order_place updates) number this
 near_follows updates before number this near is next index below =
-    let same : number + index ≡ suc (before + index) = omega arith in
-    ap (λ (n : ℕ). order_place updates n) same
-    ∙ (ap (λ (l : List ℕ). slice_get l (suc (before + index))) (near_places updates near)
-    ∙ row_follows updates before this next index below)
+    grind (arith, near_places updates near, row_follows updates before this next index below)
 
 far_follows : (updates : List (ℕ × ℕ)) (before number : ℕ) (this : Block) → 0x13 ≤ greatest updates
     → number ≡ suc (suc (suc before)) → row_of (drop before updates) ≡ Some this
     → At (order_place updates) number this
 far_follows updates before number this far is next index below =
-    let same : number + index ≡ suc (suc (suc (before + index))) = omega arith in
-    ap (λ (n : ℕ). order_place updates n) same
-    ∙ (ap (λ (l : List ℕ). slice_get l (suc (suc (suc (before + index))))) (far_places updates far)
-    ∙ row_follows updates before this next index below)
+    grind (arith, far_places updates far, row_follows updates before this next index below)
 
 -- of the format, both bytes or the second one
 format_follows : (updates : List (ℕ × ℕ)) → 0x13 ≤ greatest updates → At (order_place updates) 1 (block 0x11 2)
@@ -216,25 +177,8 @@ one_byte (byte ∷ next ∷ more) one = absurd (omega arith)
 -- one block more
 bank_next : (older newer : List ℕ) (this : Block) → BankLong older → bank_course older ≡ Some this
     → length newer ≡ this.count → BankLong (older ++ newer)
-bank_next [] newer this long next count =
-    let same : first_block ≡ this = cc in
-    let one : 1 ≡ this.count = ap (λ (b : Block). b.count) same in
-    let byte = one_byte newer (omega arith) in
-    inr (byte.0, [], byte.1, omega arith)
-bank_next (last ∷ more) newer this long next count = by (nat_lt (length more) (min last 0xFE)) refl next where
-  mine : Block
-  mine = block (suc (length more)) (min (min last 0xFE - length more) most_locations)
-
-  by : (b : Bool) → nat_lt (length more) (min last 0xFE) ≡ b → (if b then Some mine else None) ≡ Some this
-      → BankLong (last ∷ more ++ newer)
-  by true e next =
-      let below = ltb-true (length more) (min last 0xFE) e in
-      let same : mine ≡ this = cc in
-      let so : min (min last 0xFE - length more) most_locations ≡ this.count = ap (λ (b : Block). b.count) same in
-      let all = length-append more newer in
-      let here = count in
-      inr (last, more ++ newer, refl, omega arith)
-  by false e next = cc
+bank_next [] newer this long next count = grind (arith, one_byte)
+bank_next (last ∷ more) newer this long next count = grind (arith, ltb-true, length-append)
 
 bank_long : (unit : ℕ) (done : List Done) → InTurn unit bank_course done → BankLong (bytes_in done)
 bank_long unit [] in_turn = inl refl
@@ -244,51 +188,35 @@ bank_long unit (newest ∷ done) in_turn =
 
 -- What whole readings tell
 
-pub last_read : (told : List Exchange) (unit : ℕ) (bytes : List ℕ) → IsRead unit last_course bytes told
-    → (last : ℕ) × (bytes ≡ last ∷ []) × InBlock told unit 0x00 last
-last_read told unit [] read = let more = read.over in cc
-last_read told unit (last ∷ []) read =
-    let tells = read_tells (λ index. Some index) unit last_course (last ∷ []) told last_follows read in
-    (last, refl, tells 0 0x00 last refl refl)
-last_read told unit (last ∷ next ∷ more) read =
-    let few = last_long unit read.done read.in_turn in
-    let all = ap (λ (l : List ℕ). length l) read.bytes_are in
-    absurd (omega arith)
+pub last_shown : (shows : ℕ → ℕ → Type 0) (told : List Exchange) (unit : ℕ) (bytes : List ℕ)
+    → IsRead unit last_course bytes told → Tells shows (λ index. Some index) bytes
+    → (last : ℕ) × (bytes ≡ last ∷ []) × shows 0x00 last
+last_shown shows told unit [] read tells = let more = read.over in cc
+last_shown shows told unit (last ∷ []) read tells = (last, refl, tells 0 0x00 last refl refl)
+last_shown shows told unit (last ∷ next ∷ more) read tells = grind (arith, last_long unit read.done read.in_turn)
 
 -- it goes on until all are told
 bank_whole : (last : ℕ) (more : List ℕ) → bank_course (last ∷ more) ≡ None → min last 0xFE ≤ length more
-bank_whole last more over = by (nat_lt (length more) (min last 0xFE)) refl over where
-  mine : Block
-  mine = block (suc (length more)) (min (min last 0xFE - length more) most_locations)
-
-  by : (b : Bool) → nat_lt (length more) (min last 0xFE) ≡ b → (if b then Some mine else None) ≡ None
-      → min last 0xFE ≤ length more
-  by true e over = cc
-  by false e over = ltb-false (length more) (min last 0xFE) e
+bank_whole last more over = grind (arith, ltb-false)
 
 -- it tells a byte of each location up to the one that its first byte names
 pub bank_count : (told : List Exchange) (unit last : ℕ) (more : List ℕ) → IsRead unit bank_course (last ∷ more) told
     → length more ≡ min last 0xFE
-bank_count told unit last more read =
-    let whole = bank_whole last more read.over in
-    elim (subst BankLong read.bytes_are (bank_long unit read.done read.in_turn)) [
-      | inl none ↦ cc
-      | inr (first, rest, is, few) ↦
-          let last_is : last ≡ first = cc in
-          let more_is : more ≡ rest = cc in
-          let long : length more ≤ min last 0xFE = rw (last_is, more_is) few in
-          omega arith
-    ]
+bank_count told unit last more read = grind (arith, bank_whole, bank_long)
+
+pub bank_shown : (shows : ℕ → ℕ → Type 0) (told : List Exchange) (unit : ℕ) (bytes : List ℕ)
+    → IsRead unit bank_course bytes told → Tells shows (λ index. Some index) bytes → ShowsBank shows bytes
+bank_shown shows told unit [] read tells = let more = read.over in cc
+bank_shown shows told unit (last ∷ more) read tells = grind (arith, bank_count told unit last more read)
+
+pub last_read : (told : List Exchange) (unit : ℕ) (bytes : List ℕ) → IsRead unit last_course bytes told
+    → (last : ℕ) × (bytes ≡ last ∷ []) × InBlock told unit 0x00 last
+last_read told unit bytes read =
+    last_shown (InBlock told unit) told unit bytes read
+    (read_tells (λ index. Some index) unit last_course bytes told last_follows read)
 
 pub bank_read : (told : List Exchange) (unit : ℕ) (bytes : List ℕ) → IsRead unit bank_course bytes told
     → ShowsBank (InBlock told unit) bytes
-bank_read told unit [] read = let more = read.over in cc
-bank_read told unit (last ∷ more) read =
-    let tells = read_tells (λ index. Some index) unit bank_course (last ∷ more) told bank_follows read in
-    let count = bank_count told unit last more read in
-    record {
-      last = last;
-      names = refl;
-      count = omega arith;
-      bytes_are = λ location byte is. tells location location byte is refl;
-    }
+bank_read told unit bytes read =
+    bank_shown (InBlock told unit) told unit bytes read
+    (read_tells (λ index. Some index) unit bank_course bytes told bank_follows read)

@@ -96,12 +96,13 @@ near_suits shows updates bytes more last tells reach near is =
 far_suits : (shows : ℕ → ℕ → Type 0) (updates : List (ℕ × ℕ)) (bytes more : List ℕ) (last : ℕ)
     → Tells shows (order_place updates) bytes → greatest updates ≤ last → 0x13 ≤ greatest updates
     → bytes ≡ last ∷ 0x00 ∷ 0x03 ∷ more → Suits shows updates
-far_suits shows updates bytes more last tells reach far is = (
-  last,
-  first_shown shows updates bytes (0x00 ∷ 0x03 ∷ more) last tells is,
-  reach,
-  λ long. format_shown shows updates bytes more last 0x00 0x03 tells far is,
-)
+far_suits shows updates bytes more last tells reach far is =
+    grind (
+      arith,
+      first_shown shows updates bytes (0x00 ∷ 0x03 ∷ more) last tells is,
+      format_shown shows updates bytes
+          more last 0x00 0x03 tells far is,
+    )
 
 -- what is found is so
 pub found_so : (shows : ℕ → ℕ → Type 0) (updates : List (ℕ × ℕ)) (bytes : List ℕ) (finding : Finding)
@@ -109,24 +110,35 @@ pub found_so : (shows : ℕ → ℕ → Type 0) (updates : List (ℕ × ℕ)) (b
 found_so shows updates bytes Short tells (last, more, is, short) =
     (last, first_shown shows updates bytes more last tells is, short)
 found_so shows updates bytes Format tells (last, high, low, more, is, reach, far, other) =
-    let format = format_shown shows updates bytes more last high low tells far is in
-    (high, low, format.0, format.1, far, other)
-found_so shows updates bytes Same tells (last, reach, inl (more, is, near, first)) = (
-  near_suits shows updates bytes more last tells reach near is,
-  all_shown shows updates more (near_shown shows updates bytes more last tells near is) first,
-)
-found_so shows updates bytes Same tells (last, reach, inr (more, is, far, first)) = (
-  far_suits shows updates bytes more last tells reach far is,
-  all_shown shows updates more (far_shown shows updates bytes more last 0x00 0x03 tells far is) first,
-)
-found_so shows updates bytes (Other location byte) tells (last, reach, inl (more, is, near, first)) = (
-  near_suits shows updates bytes more last tells reach near is,
-  other_shown shows updates more location byte (near_shown shows updates bytes more last tells near is) first,
-)
-found_so shows updates bytes (Other location byte) tells (last, reach, inr (more, is, far, first)) = (
-  far_suits shows updates bytes more last tells reach far is,
-  other_shown shows updates more location byte (far_shown shows updates bytes more last 0x00 0x03 tells far is) first,
-)
+    grind (arith, format_shown shows updates bytes more last high low tells far is)
+found_so shows updates bytes Same tells (last, reach, inl (more, is, near, first)) =
+    grind (
+      arith,
+      near_suits shows updates bytes more last tells reach near is,
+      all_shown shows updates more
+          (near_shown shows updates bytes more last tells near is) first,
+    )
+found_so shows updates bytes Same tells (last, reach, inr (more, is, far, first)) =
+    grind (
+      arith,
+      far_suits shows updates bytes more last tells reach far is,
+      all_shown shows updates more (far_shown
+          shows updates bytes more last 0x00 0x03 tells far is) first,
+    )
+found_so shows updates bytes (Other location byte) tells (last, reach, inl (more, is, near, first)) =
+    grind (
+      arith,
+      near_suits shows updates bytes more last tells reach near is,
+      other_shown shows updates more
+          location byte (near_shown shows updates bytes more last tells near is) first,
+    )
+found_so shows updates bytes (Other location byte) tells (last, reach, inr (more, is, far, first)) =
+    grind (
+      arith,
+      far_suits shows updates bytes more last tells reach far is,
+      other_shown shows updates more location
+          byte (far_shown shows updates bytes more last 0x00 0x03 tells far is) first,
+    )
 
 -- of a whole reading
 pub order_read : (told : List Exchange) (unit : ℕ) (updates : List (ℕ × ℕ)) (bytes : List ℕ) (finding : Finding)

@@ -1,5 +1,5 @@
 -- How the bytes of an order are compared, from the first one on.
-use Rattle.std.proofs.Common.{◌≡◌, ◌≢◌, ◌≤◌, ◌<◌, ◌-◌, ◌∙◌, inl, inr, refl, sym, ap, subst, ℕ, zero, suc, List, []}
+use Rattle.std.proofs.Common.{◌≡◌, ◌≢◌, ◌≤◌, ◌<◌, ◌-◌, inl, inr, refl, ap, subst, ℕ, zero, suc, List, []}
 use Rattle.std.proofs.Common.{◌∷◌, ◌++◌, append_assoc, length, take, drop, None, slice_index_or, arith}
 use Rattle.std.proofs.lemmas.List.{take_all, length-drop}
 use Rattle.std.proofs.lemmas.Bool.{lt-ltb, le-ltb}
@@ -14,8 +14,7 @@ abbrev pub behind : {A : Type 0} → ℕ → List A → List A
 behind count xs = take (length xs - count) (drop count xs)
 
 behind_is : {A : Type 0} (count : ℕ) (xs : List A) → behind count xs ≡ drop count xs
-behind_is count xs = let long = length-drop count xs in
-    take_all (length xs - count) (drop count xs) (omega (arith, long))
+behind_is count xs = grind (arith, length-drop count xs, take_all)
 
 pub no_updates : (updates : List (ℕ × ℕ)) (bytes : List ℕ) → length updates < 1 → IsFirstOther updates bytes Same
 no_updates [] bytes none = (bytes, refl)
@@ -67,11 +66,14 @@ pub enough_plain : (updates : List (ℕ × ℕ)) (bytes : List ℕ) → order_co
     → greatest updates < 0x13 → length updates ≤ length (behind 1 bytes)
 enough_plain updates [] over some reaches plain = absurd (omega arith)
 enough_plain updates (last ∷ more) over some reaches plain =
-    let row : row_of (drop (length more) updates) ≡ None =
-    rw (le-ltb last (greatest updates) reaches, lt-ltb (greatest updates) 0x13 plain) at over in
-    let all = ap (λ (l : List ℕ). length l) (behind_is 1 (last ∷ more)) in
-    let count = row_over updates (length more) row in
-    omega arith
+    grind (
+      arith,
+      le-ltb last (greatest updates) reaches,
+      lt-ltb (greatest updates) 0x13 plain,
+      behind_is 1 (last ∷
+          more),
+      row_over,
+    )
 
 -- or behind the content format
 pub enough_formatted : (updates : List (ℕ × ℕ)) (bytes : List ℕ) → order_course updates bytes ≡ None
@@ -81,11 +83,14 @@ enough_formatted updates [] over some reaches late high low = absurd (omega arit
 enough_formatted updates (last ∷ []) over some reaches late high low = absurd (omega arith)
 enough_formatted updates (last ∷ first ∷ []) over some reaches late high low = absurd (omega arith)
 enough_formatted updates (last ∷ first ∷ second ∷ more) over some reaches late high low =
-    let row : row_of (drop (length more) updates) ≡ None =
-    rw (le-ltb last (greatest updates) reaches, le-ltb (greatest updates) 0x13 late, high, low) at over in
-    let all = ap (λ (l : List ℕ). length l) (behind_is 3 (last ∷ first ∷ second ∷ more)) in
-    let count = row_over updates (length more) row in
-    omega arith
+    grind (
+      arith,
+      le-ltb last (greatest updates) reaches,
+      le-ltb (greatest updates) 0x13 late,
+      behind_is 3 (last ∷
+          first ∷ second ∷ more),
+      row_over,
+    )
 
 pub found_plain : (updates : List (ℕ × ℕ)) (bytes : List ℕ) (finding : Finding) → 1 ≤ length bytes
     → greatest updates ≤ slice_index_or bytes 0 0 → greatest updates < 0x13
@@ -134,19 +139,13 @@ same_first : (updates : List (ℕ × ℕ)) (bytes : List ℕ) (finding : Finding
     → IsFirstOther updates bytes finding → finding ≡ Same
 same_first updates bytes Same same is = refl
 same_first updates bytes (Other location byte) same (before, own, behind, more, splits, is, other) =
-    let owns : own_bytes updates ≡ own_bytes before ++ own ∷ own_bytes behind =
-    ap own_bytes splits ∙ own_both before ((location, own) ∷ behind) in
-    let all : own_bytes before ++ byte ∷ more ≡ own_bytes before ++ own ∷ (own_bytes behind ++ same.0) =
-    sym is ∙ same.1 ∙ ap (λ (l : List ℕ). l ++ same.0) owns
-    ∙ append_assoc (own_bytes before) (own ∷ own_bytes behind) same.0 in
-    absurd (other (same_next (own_bytes before) more (own_bytes behind ++ same.0) byte own all))
+    grind (arith, own_both, append_assoc, same_next)
 same_first updates bytes Short same never = absurd never
 same_first updates bytes Format same never = absurd never
 
 same_behind : (updates : List (ℕ × ℕ)) (one two : List ℕ) (finding : Finding) → one ≡ two
     → IsFirstOther updates one Same → IsFirstOther updates two finding → finding ≡ Same
-same_behind updates one two finding same first second =
-    same_first updates two finding (subst (λ (l : List ℕ). IsFirstOther updates l Same) same first) second
+same_behind updates one two finding same first second = grind (arith, same_first)
 
 pub same_found : (updates : List (ℕ × ℕ)) (bytes : List ℕ) (finding : Finding) → IsFound updates bytes Same
     → IsFound updates bytes finding → finding ≡ Same
@@ -158,20 +157,12 @@ same_found updates bytes (Other location byte) (last, reaches, inr (one, is1, la
     (last2, r2, inr (two, is2, l2, other)) =
     let both : one ≡ two = cc in same_behind updates one two (Other location byte) both same other
 same_found updates bytes (Other location byte) (last, reaches, inl (one, is1, near, same))
-    (last2, r2, inr (two, is2, l2, other)) =
-    absurd (omega arith)
+    (last2, r2, inr (two, is2, l2, other)) = grind arith
 same_found updates bytes (Other location byte) (last, reaches, inr (one, is1, late, same))
-    (last2, r2, inl (two, is2, n2, other)) =
-    absurd (omega arith)
-same_found updates bytes Short (last, reaches, inl (one, is1, near, same)) (last2, more, is2, short) =
-    let both : last ≡ last2 = cc in absurd (omega arith)
-same_found updates bytes Short (last, reaches, inr (one, is1, late, same)) (last2, more, is2, short) =
-    let both : last ≡ last2 = cc in absurd (omega arith)
+    (last2, r2, inl (two, is2, n2, other)) = grind arith
+same_found updates bytes Short (last, reaches, inl (one, is1, near, same)) (last2, more, is2, short) = grind arith
+same_found updates bytes Short (last, reaches, inr (one, is1, late, same)) (last2, more, is2, short) = grind arith
 same_found updates bytes Format (last, reaches, inl (one, is1, near, same))
-    (last2, high, low, more, is2, r2, late, other) =
-    absurd (omega arith)
+    (last2, high, low, more, is2, r2, late, other) = grind arith
 same_found updates bytes Format (last, reaches, inr (one, is1, late, same))
-    (last2, high, low, more, is2, r2, l2, other) =
-    let first : high ≡ 0x00 = cc in
-    let second : low ≡ 0x03 = cc in
-    absurd (other (first, second))
+    (last2, high, low, more, is2, r2, l2, other) = grind arith

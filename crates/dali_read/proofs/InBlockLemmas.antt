@@ -2,14 +2,15 @@
 use Rattle.std.proofs.Common.{◌≡◌, ◌⊎◌, inl, inr, sym, ap, subst, ◌∙◌, ℕ, zero, suc, ◌+◌, ◌<◌, List, [], ◌∷◌, ◌++◌}
 use Rattle.std.proofs.Common.{length, append_assoc, Option, Some, slice_get, arith}
 use Rattle.std.proofs.lemmas.Option.{slice_get_within}
+use Rattle.std.specs.List.{AllByRecursion}
 use Rattle.dali_bus.specs.World.{World}
 use Rattle.dali_bus.specs.Carry.{WorldStep}
 use Rattle.dali_write.specs.Exchanges.{Exchange}
 use Rattle.dali_write.proofs.RunLemmas.{Leads}
 use Rattle.dali_write.specs.declared.block.Block.{Block}
-use Rattle.dali_write.specs.Requests.{moved_on}
+use Rattle.dali_write.specs.Requests.{block_requests, moved_on}
 use Rattle.dali_write.specs.Blocks.{Fits, IsBlockRead}
-use Rattle.dali_read.specs.Blocks.{Succeeds}
+use Rattle.dali_write.specs.Tries.{Succeeds}
 use Rattle.dali_read.specs.Readings.{Course, Done, bytes_in, told_in, InTurn, IsRead}
 use Rattle.dali_read.specs.Shown.{InBlock, WhenTold}
 use Rattle.dali_write.specs.WhenBlock.{WhenBlock}
@@ -34,92 +35,75 @@ pub get_joined : (older newer : List ℕ) (index byte : ℕ) → slice_get (olde
     ⊎ ((more : ℕ) × (index ≡ length older + more) × (slice_get newer more ≡ Some byte))
 get_joined [] newer index byte is = inr (index, omega arith, is)
 get_joined (first ∷ older) newer zero byte is = inl is
-get_joined (first ∷ older) newer (suc index) byte is = elim (get_joined older newer index byte is) [
-  | inl early ↦ inl early
-  | inr (more, at, late) ↦ inr (more, omega arith, late)
-]
+get_joined (first ∷ older) newer (suc index) byte is = grind (arith, get_joined older newer index byte is)
 
--- what is among the older exchanges is among all of them
-pub in_block_more : (newest told : List Exchange) (unit location byte : ℕ) → InBlock told unit location byte
-    → InBlock (newest ++ told) unit location byte
-in_block_more newest told unit location byte b =
-    record {
-      newer = newest ++ b.newer;
-      tried = b.tried;
-      older = b.older;
-      parts = ap (λ (t : List Exchange). newest ++ t) b.parts ∙ sym (append_assoc newest b.newer (b.tried ++ b.older));
-      block = b.block;
-      fits = b.fits;
-      bytes = b.bytes;
-      read = b.read;
-      index = b.index;
-      place = b.place;
-      there = b.there;
-    }
-
--- a byte of a block that was read
-pub in_block_now : (told older : List Exchange) (unit : ℕ) (this : Block) (bytes : List ℕ) (location index byte : ℕ)
-    → Fits this → Succeeds unit this bytes told → location ≡ this.location + index → slice_get bytes index ≡ Some byte
-    → InBlock (told ++ older) unit location byte
-in_block_now told older unit this bytes location index byte fits done place there =
-    record {
-      newer = [];
-      tried = done.tried;
-      older = done.missed ++ older;
-      parts = ap (λ (t : List Exchange). t ++ older) done.parts ∙ append_assoc done.tried done.missed older;
-      block = this;
-      fits = fits;
-      bytes = bytes;
-      read = done.read;
-      index = index;
-      place = place;
-      there = there;
-    }
+-- a read of a block told these bytes
+pub was_read : (unit : ℕ) (this : Block) (bytes : List ℕ) (told : List Exchange)
+    → (done : Succeeds (block_requests unit this) (Some bytes) told) → IsBlockRead unit this bytes done.0
+was_read unit this bytes told done = (done.4, let is = done.5 in cc)
 
 -- the place of each byte of a block that fits
 pub place_is : (unit : ℕ) (this : Block) (bytes : List ℕ) (tried : List Exchange) → Fits this
     → IsBlockRead unit this bytes tried → (index byte : ℕ) → slice_get bytes index ≡ Some byte
     → moved_on this.location index ≡ this.location + index
-place_is unit this bytes tried fits read index byte is =
-    let below = slice_get_within bytes index byte is in
-    let count = block_count unit this bytes tried read in
-    moved_is this.location index (omega (arith, fits.within, below, count))
+place_is unit this bytes tried fits read index byte is = grind (arith, slice_get_within, block_count, moved_is)
 
 -- so many bytes were told of a block that was read
-pub done_count : (unit : ℕ) (this : Block) (bytes : List ℕ) (told : List Exchange) → Succeeds unit this bytes told
-    → length bytes ≡ this.count
-done_count unit this bytes told done = block_count unit this bytes done.tried done.read
+pub done_count : (unit : ℕ) (this : Block) (bytes : List ℕ) (told : List Exchange)
+    → Succeeds (block_requests unit this) (Some bytes) told → length bytes ≡ this.count
+done_count unit this bytes told done = block_count unit this bytes done.0 (was_read unit this bytes told done)
 
--- of blocks that were read in turn each byte was told by a whole read of its location
-pub in_turn_tells : (place : ℕ → Option ℕ) (unit : ℕ) (course : Course) → Follows course place → (done : List Done)
-    → InTurn unit course done → Tells (InBlock (told_in done) unit) place (bytes_in done)
-in_turn_tells place unit course follows [] in_turn index location byte is at =
-    let below = slice_get_within [] index byte is in absurd (no below)
-  where
-    no : index < length {A = ℕ} [] → ⊥
-    no below = omega arith
-in_turn_tells place unit course follows (newest ∷ done) in_turn index location byte is at =
+-- each place of the block shows its byte
+abbrev pub BlockShows : (ℕ → ℕ → Type 0) → Done → Type 0
+BlockShows shows done =
+    (index byte : ℕ) → slice_get done.bytes index ≡ Some byte → shows (done.block.location + index) byte
+
+-- so all that was told is shown
+pub in_turn_tells : (shows : ℕ → ℕ → Type 0) (place : ℕ → Option ℕ) (unit : ℕ) (course : Course)
+    → Follows course place → (done : List Done)
+    → InTurn unit course done → AllByRecursion (BlockShows shows) done → Tells shows place (bytes_in done)
+in_turn_tells shows place unit course follows [] in_turn all index location byte is at = grind (arith, slice_get_within)
+in_turn_tells shows place unit course follows (newest ∷ done) in_turn all index location byte is at =
     elim (get_joined (bytes_in done) newest.bytes index byte is) [
-      | inl early ↦
-          in_block_more newest.told (told_in done) unit location byte
-          (in_turn_tells place unit course follows done in_turn.0 index location byte early at)
+      | inl early ↦ in_turn_tells shows place unit course follows done in_turn.0 all.1 index location byte early at
       | inr (more, same, late) ↦
           let within = slice_get_within newest.bytes more byte late in
           let count = done_count unit newest.block newest.bytes newest.told in_turn.3 in
           let here = follows (bytes_in done) newest.block in_turn.2 more (omega arith) in
           let both : Some location ≡ Some (newest.block.location + more) = sym at ∙ (ap place same ∙ here) in
           let location_is : location ≡ newest.block.location + more = cc in
-          in_block_now newest.told (told_in done) unit newest.block newest.bytes location more byte in_turn.1 in_turn.3
-          location_is late
+          rw location_is (all.0 more byte late)
     ]
+
+pub read_shows : (shows : ℕ → ℕ → Type 0) (place : ℕ → Option ℕ) (unit : ℕ) (course : Course) (bytes : List ℕ)
+    (told : List Exchange)
+    → Follows course place → (read : IsRead unit course bytes told) → AllByRecursion (BlockShows shows) read.done
+    → Tells shows place bytes
+read_shows shows place unit course bytes told follows read all =
+    grind (arith, in_turn_tells shows place unit course follows read.done read.in_turn all)
+
+-- each byte of a block that was read is in that block
+in_blocks : (unit : ℕ) (course : Course) (done : List Done) (newer : List Exchange) → InTurn unit course done
+    → AllByRecursion (BlockShows (InBlock (newer ++ told_in done) unit)) done
+in_blocks unit course [] newer in_turn = tt
+in_blocks unit course (newest ∷ done) newer in_turn =
+    grind (
+      arith,
+      append_assoc in_turn.3.0 in_turn.3.1 (told_in done),
+      was_read unit newest.block newest.bytes
+          newest.told in_turn.3,
+      append_assoc newer newest.told (told_in done),
+      in_blocks unit course done (newer ++
+          newest.told) in_turn.0,
+    )
 
 -- of a whole reading
 pub read_tells : (place : ℕ → Option ℕ) (unit : ℕ) (course : Course) (bytes : List ℕ) (told : List Exchange)
     → Follows course place → IsRead unit course bytes told → Tells (InBlock told unit) place bytes
 read_tells place unit course bytes told follows read =
-    subst (λ (t : List Exchange). Tells (InBlock t unit) place bytes) read.told_are
-    (subst (λ (l : List ℕ). Tells (InBlock (told_in read.done) unit) place l) read.bytes_are
-    (in_turn_tells place unit course follows read.done read.in_turn))
+    read_shows (InBlock told unit) place unit course bytes told follows read
+    (subst (λ (t : List Exchange). AllByRecursion (BlockShows (InBlock t unit)) read.done) read.told_are
+    (in_blocks unit course read.done [] read.in_turn))
 
 -- and when the byte was there
 pub when_told : {loses : ℕ → Type 0} (told : List Exchange) (first last : World) (unit location byte : ℕ)

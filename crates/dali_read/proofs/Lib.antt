@@ -8,7 +8,6 @@ pub mod TurnLemmas
 pub mod BankFramesLemmas
 pub mod RowLemmas
 pub mod OrderFramesLemmas
-pub mod BlockLossLemmas
 pub mod SparedLemmas
 pub mod StaysLemmas
 pub mod SparedCourseLemmas

@@ -11,9 +11,8 @@ use Rattle.dali_write.specs.Plans.{greatest}
 use Rattle.dali_write.specs.declared.block.Block.{Block}
 use Rattle.dali_read.specs.declared.finding.Finding.{Finding}
 use Rattle.dali_read.specs.declared.finding.Finding.TheVariants.{Same, Other, Short, Format}
-use Rattle.dali_write.specs.Requests.{block}
 use Rattle.dali_read.specs.Places.{first_block, row_of, order_course}
-use Rattle.dali_read.specs.Readings.{Done, bytes_in, told_in, InTurn, IsRead}
+use Rattle.dali_read.specs.Readings.{Done, bytes_in, InTurn, IsRead}
 use Rattle.dali_read.specs.Findings.{IsFound, IsFirstOther}
 use Rattle.dali_read.specs.Counts.{block_frames, blocks_behind, order_frames, found_frames, AreSoMany}
 use Rattle.dali_read.proofs.TurnLemmas.{frames_of, turn_frames, added, none_done}
@@ -127,35 +126,15 @@ first_step updates frames last bytes next true seven is count low_is =
       rows_are = no_rows updates;
     }) is count))
 first_step updates frames last bytes next false seven is count low_is =
-    let reaches = (if_not (nat_lt last (greatest updates)) _ next is).0 in
-    let format : Some (block 0x11 2) ≡ Some next = rw (reaches, low_is) at is in
-    let same : block 0x11 2 ≡ next = cc in
-    let two : 2 ≡ next.count = ap (λ (b : Block). b.count) same in
-    let read = two_bytes bytes (omega arith) in
-    inr (inr (record {
-      high = ltb-false (greatest updates) 0x13 low_is;
-      reaches = ltb-false last (greatest updates) reaches;
-      format_high = read.0;
-      format_low = read.1;
-      found = [];
-      parts = read.2;
-      rows = 0;
-      frames_are = omega arith;
-      rows_are = no_rows updates;
-      suits = inl refl;
-    }))
+    grind (arith, if_not, two_bytes, ltb-false, no_rows)
 
 order_step : (updates : List (ℕ × ℕ)) (frames last : ℕ) (more bytes : List ℕ) (next : Block)
     → OrderSoFar updates frames last more → order_course updates (last ∷ more) ≡ Some next
     → length bytes ≡ next.count
     → OrderSoFar updates (block_frames next.count + frames) last (more ++ bytes)
-order_step updates frames last more bytes next (inl none) is count =
-    rw none.0 (first_step updates frames last bytes next (nat_lt (greatest updates) 0x13) none.1
-    (subst (λ (m : List ℕ). order_course updates (last ∷ m) ≡ Some next) none.0 is) count refl)
-order_step updates frames last more bytes next (inr (inl so)) is count =
-    inr (inl (low_step updates frames last more bytes next so is count))
-order_step updates frames last more bytes next (inr (inr so)) is count =
-    inr (inr (high_step updates frames last more bytes next so is count))
+order_step updates frames last more bytes next (inl none) is count = grind (arith, first_step)
+order_step updates frames last more bytes next (inr (inl so)) is count = grind (arith, low_step)
+order_step updates frames last more bytes next (inr (inr so)) is count = grind (arith, high_step)
 
 order_so_far : (unit : ℕ) (updates : List (ℕ × ℕ)) (done : List Done) (last : ℕ) (more : List ℕ)
     → InTurn unit (order_course updates) done → bytes_in done ≡ last ∷ more
@@ -200,17 +179,8 @@ format_end : (updates : List (ℕ × ℕ)) (frames last high low : ℕ) (more : 
     → OrderSoFar updates frames last (high ∷ low ∷ more) → 0x13 ≤ greatest updates
     → ((high ≡ 0x00) × (low ≡ 0x03) → ⊥) → frames ≡ 15
 format_end updates frames last high low more (inl none) above differs = let no = none.0 in cc
-format_end updates frames last high low more (inr (inl so)) above differs =
-    let below = so.low in absurd (omega arith)
-format_end updates frames last high low more (inr (inr so)) above differs = by so.suits
-  where
-    by : (so.rows ≡ 0) ⊎ ((so.format_high ≡ 0x00) × (so.format_low ≡ 0x03)) → frames ≡ 15
-    by (inl none) = let frames_are = so.frames_are in omega arith
-    by (inr suits) =
-        let parts = so.parts in
-        let one : high ≡ so.format_high = cc in
-        let two : low ≡ so.format_low = cc in
-        absurd (differs (one ∙ suits.0, two ∙ suits.1))
+format_end updates frames last high low more (inr (inl so)) above differs = grind arith
+format_end updates frames last high low more (inr (inr so)) above differs = grind arith
 
 low_end : (updates : List (ℕ × ℕ)) (frames last : ℕ) (more : List ℕ) → OrderSoFar updates frames last more
     → order_course updates (last ∷ more) ≡ None → greatest updates ≤ last → greatest updates < 0x13
@@ -292,29 +262,19 @@ pub order_took : (told : List Exchange) (unit : ℕ) (updates : List (ℕ × ℕ
     → IsRead unit (order_course updates) bytes told → IsFound updates bytes finding
     → AreSoMany (found_frames updates finding) told
 order_took told unit updates bytes finding read found =
-    subst (λ (t : List Exchange). AreSoMany (found_frames updates finding) t) read.told_are
-    (subst (λ (n : ℕ). AreSoMany n (told_in read.done))
-    (order_end unit updates read.done bytes finding read.in_turn read.bytes_are read.over found)
-    (turn_frames unit (order_course updates) read.done read.in_turn))
+    grind (
+      arith,
+      order_end unit updates read.done bytes finding read.in_turn read.bytes_are read.over found,
+      turn_frames unit (order_course updates) read.done read.in_turn,
+    )
 
 -- the limit
 
 few_so_far : (updates : List (ℕ × ℕ)) (frames last : ℕ) (more : List ℕ) → OrderSoFar updates frames last more
     → frames ≤ order_frames updates
 few_so_far updates frames last more (inl none) = let seven = none.1 in omega arith
-few_so_far updates frames last more (inr (inl so)) =
-    let frames_are = so.frames_are in
-    let rows_are = so.rows_are.frames_are in
-    let few = so.rows_are.few in
-    let blocks_are = so.rows_are.blocks_are in
-    omega arith
-few_so_far updates frames last more (inr (inr so)) =
-    let high_is = le-ltb (greatest updates) 0x13 so.high in
-    let frames_are = so.frames_are in
-    let rows_are = so.rows_are.frames_are in
-    let few = so.rows_are.few in
-    let blocks_are = so.rows_are.blocks_are in
-    rw high_is (omega arith)
+few_so_far updates frames last more (inr (inl so)) = grind arith
+few_so_far updates frames last more (inr (inr so)) = grind (arith, le-ltb (greatest updates) 0x13 so.high)
 
 pub order_few : (unit : ℕ) (updates : List (ℕ × ℕ)) (done : List Done) (next : Block)
     → InTurn unit (order_course updates) done → order_course updates (bytes_in done) ≡ Some next

@@ -9,26 +9,13 @@ use Rattle.dali_read.specs.Counts.{block_frames, blocks_behind}
 
 pub row_within : (location : ℕ) (updates : List (ℕ × ℕ)) → in_a_row location updates ≤ length updates
 row_within location [] = omega arith
-row_within location (update ∷ updates) = by (update.0 == location) (row_within (suc location) updates)
-  where
-    by : (b : Bool) → in_a_row (suc location) updates ≤ length updates
-        → (if b then suc (in_a_row (suc location) updates) else 0) ≤ suc (length updates)
-    by true few = omega arith
-    by false few = omega arith
+row_within location (update ∷ updates) = grind (arith, row_within (suc location) updates)
 
 -- behind those that are in a row with a block, and have room in it, a new one begins
 blocks_on : (room next : ℕ) (updates : List (ℕ × ℕ))
     → blocks_behind room next updates ≡ blocks_behind 0 0 (drop (min (in_a_row next updates) room) updates)
-blocks_on room next [] = let none : min 0 room ≡ 0 = omega arith in rw none (no_blocks room)
-  where
-    no_blocks : (r : ℕ) → blocks_behind r next [] ≡ 0
-    no_blocks zero = refl
-    no_blocks (suc r) = refl
-blocks_on zero next (update ∷ updates) = by (in_a_row next (update ∷ updates))
-  where
-    by : (n : ℕ)
-        → blocks_behind 0 next (update ∷ updates) ≡ blocks_behind 0 0 (drop (min n 0) (update ∷ updates))
-    by n = let none : min n 0 ≡ 0 = omega arith in rw none refl
+blocks_on room next [] = grind arith
+blocks_on zero next (update ∷ updates) = grind arith
 blocks_on (suc room) next (update ∷ updates) = by (update.0 == next) (blocks_on room (suc next) updates)
   where
     by : (b : Bool)
@@ -51,8 +38,7 @@ pub record Rows (updates : List (ℕ × ℕ)) (frames count : ℕ) : Type 0 wher
   pub blocks_are : blocks_behind 0 0 updates ≡ blocks + blocks_behind 0 0 (drop count updates)
 
 pub no_rows : (updates : List (ℕ × ℕ)) → Rows updates 0 0
-no_rows updates =
-    record { blocks = 0; frames_are = omega arith; few = omega arith; blocks_are = omega arith }
+no_rows updates = grind arith
 
 -- one more row
 one_row : (updates : List (ℕ × ℕ)) (next : Block) → row_of updates ≡ Some next
@@ -100,13 +86,4 @@ no_row (update ∷ updates) is = cc
 pub all_rows : (updates : List (ℕ × ℕ)) (frames count : ℕ) → Rows updates frames count
     → row_of (drop count updates) ≡ None
     → frames ≡ length updates + 6 * blocks_behind 0 0 updates
-all_rows updates frames count rows over =
-    let none = no_row (drop count updates) over in
-    let left = length-drop count updates in
-    let nothing : length (drop count updates) ≡ 0 = ap (λ (l : List (ℕ × ℕ)). length l) none in
-    let no_more : blocks_behind 0 0 (drop count updates) ≡ 0 =
-    ap (λ (l : List (ℕ × ℕ)). blocks_behind 0 0 l) none in
-    let frames_are = rows.frames_are in
-    let few = rows.few in
-    let blocks_are = rows.blocks_are in
-    omega arith
+all_rows updates frames count rows over = grind (arith, no_row (drop count updates) over, length-drop count updates)

@@ -11,10 +11,9 @@ use Rattle.dali_read.specs.Findings.{IsFound}
 use Rattle.dali_read.specs.Places.{last_course, bank_course, order_course}
 use Rattle.dali_read.specs.Readings.{Ends}
 use Rattle.dali_read.specs.Shown.{Finds, Holds}
-use Rattle.dali_read.proofs.InBlockLemmas.{read_tells}
-use Rattle.dali_read.proofs.CourseLemmas.{order_place, order_follows, last_read, bank_read}
+use Rattle.dali_read.proofs.CourseLemmas.{last_shown, bank_shown}
 use Rattle.dali_read.proofs.FindLemmas.{found_so}
-use Rattle.dali_read.proofs.SparedLemmas.{ends_read, in_block_holds, has_bank}
+use Rattle.dali_read.proofs.SparedLemmas.{ends_read, has_bank}
 use Rattle.dali_read.proofs.StaysLemmas.{last_stays, bank_stays, order_stays, names_last, same_elements}
 
 pub last_succeeds : (loses : ℕ → Type 0) (at : ℕ) (unit : UnitState) (outcome : Option (List ℕ))
@@ -24,12 +23,9 @@ pub last_succeeds : (loses : ℕ → Type 0) (at : ℕ) (unit : UnitState) (outc
     × MissesAlong loses at unit told first last spared
 last_succeeds loses at unit outcome told first last spared ends =
     let bank = has_bank loses at last_course unit outcome told first last spared refl ends in
-    let all =
-    ends_read loses at last_course unit outcome told first last spared (last_stays unit.bank1.bytes bank) ends in
-    let read = last_read told at all.0 all.2 in
-    let there =
-    in_block_holds loses at last_course unit outcome told first last spared ends 0x00 read.0 read.2 in
-    ((read.0, all.1 ∙ ap (λ (l : List ℕ). Some l) read.1, there), all.3)
+    let all = ends_read loses at last_course _ unit outcome told first last spared (last_stays _ bank) ends in
+    let read = last_shown (Holds unit.bank1.bytes) told at all.0 all.2 all.3 in
+    ((read.0, all.1 ∙ ap (λ (l : List ℕ). Some l) read.1, read.2), all.4)
 
 pub bank_succeeds : (loses : ℕ → Type 0) (at : ℕ) (unit : UnitState) (outcome : Option (List ℕ))
     (told : List Exchange) (first last : SimState) (spared : SparedAlong loses at unit told first last)
@@ -37,19 +33,13 @@ pub bank_succeeds : (loses : ℕ → Type 0) (at : ℕ) (unit : UnitState) (outc
     → (outcome ≡ Some unit.bank1.bytes) × MissesAlong loses at unit told first last spared
 bank_succeeds loses at unit outcome told first last spared ends =
     let bank = has_bank loses at bank_course unit outcome told first last spared refl ends in
-    let all =
-    ends_read loses at bank_course unit outcome told first last spared (bank_stays unit.bank1.bytes bank) ends in
-    let shows = bank_read told at all.0 all.2 in
-    let holds : (location byte : ℕ) → slice_get all.0 location ≡ Some byte
-    → slice_get unit.bank1.bytes location ≡ Some byte =
-    λ location byte is.
-    in_block_holds loses at bank_course unit outcome told first last spared ends location byte
-    (shows.bytes_are location byte is) in
-    let long = names_last unit.bank1.bytes shows.last bank (holds 0 shows.last shows.names) in
+    let all = ends_read loses at bank_course _ unit outcome told first last spared (bank_stays _ bank) ends in
+    let shows = bank_shown (Holds unit.bank1.bytes) told at all.0 all.2 all.3 in
+    let long = names_last unit.bank1.bytes shows.last bank (shows.bytes_are 0 shows.last shows.names) in
     let most = bank.most in
     let count = shows.count in
-    let same = same_elements all.0 unit.bank1.bytes (omega arith) holds in
-    (all.1 ∙ ap (λ (l : List ℕ). Some l) same, all.3)
+    let same = same_elements all.0 unit.bank1.bytes (omega arith) shows.bytes_are in
+    (all.1 ∙ ap (λ (l : List ℕ). Some l) same, all.4)
 
 pub order_succeeds : (loses : ℕ → Type 0) (at : ℕ) (unit : UnitState) (updates : List (ℕ × ℕ))
     (outcome : Option (List ℕ)) (told : List Exchange) (first last : SimState)
@@ -59,20 +49,7 @@ pub order_succeeds : (loses : ℕ → Type 0) (at : ℕ) (unit : UnitState) (upd
     → Finds (Holds unit.bank1.bytes) updates finding))
     × MissesAlong loses at unit told first last spared
 order_succeeds loses at unit updates outcome told first last spared ends =
-    let course = order_course updates in
-    let bank = has_bank loses at course unit outcome told first last spared refl ends in
+    let bank = has_bank loses at (order_course updates) unit outcome told first last spared refl ends in
     let all =
-    ends_read loses at course unit outcome told first last spared (order_stays unit.bank1.bytes updates bank) ends in
-    let tells = read_tells (order_place updates) at course all.0 told (order_follows updates) all.2 in (
-      (
-        all.0,
-        all.1,
-        λ finding found.
-            found_so (Holds unit.bank1.bytes) updates all.0 finding
-            (λ index location byte is place.
-            in_block_holds loses at course unit outcome told first last spared ends location byte
-            (tells index location byte is place))
-            found,
-      ),
-      all.3,
-    )
+    ends_read loses at (order_course updates) _ unit outcome told first last spared (order_stays _ updates bank) ends in
+    ((all.0, all.1, λ finding found. found_so (Holds unit.bank1.bytes) updates all.0 finding all.3 found), all.4)

@@ -1,7 +1,7 @@
 -- No course leads past the end of a bank whose 00h names its last location.
 use Rattle.std.proofs.Common.{◌≡◌, refl, subst, ℕ, zero, suc, ◌+◌, ◌≤◌, ◌==◌, ◌&&◌, min, max, nat_lt}
 use Rattle.std.proofs.Common.{Bool, true, false, if◌then◌else◌, List, [], ◌∷◌, length, drop, Some, None, arith}
-use Rattle.std.specs.Prelude.{slice_get, slice_index}
+use Rattle.std.specs.Prelude.{slice_get}
 use Rattle.std.proofs.lemmas.Bool.{ltb-true, ltb-false, eqb-true}
 use Rattle.std.proofs.lemmas.Option.{get_or_from_slice_get}
 use Rattle.dali_gear.specs.Faults.{IsBank}
@@ -11,32 +11,22 @@ use Rattle.dali_write.specs.Requests.{block}
 use Rattle.dali_read.specs.Places.{first_block, last_course, bank_course, order_course, in_a_row, row_of}
 use Rattle.dali_read.proofs.BankFramesLemmas.{if_next}
 use Rattle.dali_read.proofs.OrderFramesLemmas.{if_not, if_so}
+use Rattle.dali_read.proofs.CourseLemmas.{last_follows, bank_follows, order_place, order_follows}
 use Rattle.dali_read.proofs.SparedLemmas.{HeadIs, Stays}
 
 first_within : (bank : List ℕ) (next : Block) → IsBank bank → Some first_block ≡ Some next
     → next.location + next.count ≤ length bank
-first_within bank next is begins =
-    let least = is.least in
-    let same : first_block ≡ next = cc in
-    subst (λ (b : Block). b.location + b.count ≤ length bank) same (omega arith)
+first_within bank next is begins = grind arith
 
-pub last_stays : (bank : List ℕ) → IsBank bank → Stays last_course bank
-last_stays bank is = record { begins = refl; within = by }
-  where
-    by : (bytes : List ℕ) (next : Block) → HeadIs bank bytes → last_course bytes ≡ Some next
-        → next.location + next.count ≤ length bank
-    by [] next head here = first_within bank next is here
-    by (last ∷ more) next head here = cc
+pub last_stays : (bank : List ℕ) → IsBank bank → Stays last_course (λ index. Some index) bank
+last_stays bank is = grind (arith, last_follows, first_within)
 
 -- the byte of 00h is one less than the locations
 pub names_last : (bank : List ℕ) (last : ℕ) → IsBank bank → slice_get bank 0 ≡ Some last → last + 1 ≡ length bank
-names_last bank last is here =
-    let value : slice_index bank 0 ≡ last = get_or_from_slice_get bank 0 last 0 here in
-    let names = is.last in
-    omega arith
+names_last bank last is here = grind (arith, get_or_from_slice_get bank 0 last 0 here)
 
-pub bank_stays : (bank : List ℕ) → IsBank bank → Stays bank_course bank
-bank_stays bank is = record { begins = refl; within = by }
+pub bank_stays : (bank : List ℕ) → IsBank bank → Stays bank_course (λ index. Some index) bank
+bank_stays bank is = record { begins = refl; first = refl; follows = bank_follows; within = by }
   where
     by : (bytes : List ℕ) (next : Block) → HeadIs bank bytes → bank_course bytes ≡ Some next
         → next.location + next.count ≤ length bank
@@ -69,23 +59,16 @@ greatest_left (suc count) (update ∷ updates) = let rest = greatest_left count 
 row_within : (updates : List (ℕ × ℕ)) (next : Block) → row_of updates ≡ Some next
     → next.location + next.count ≤ suc (greatest updates)
 row_within [] next is = cc
-row_within (update ∷ updates) next is =
-    let most = row_reaches update.0 (update ∷ updates) in
-    let row = in_a_row update.0 (update ∷ updates) in
-    let mine : Block = block update.0 (min row 16) in
-    let same : mine ≡ next = cc in
-    subst (λ (b : Block). b.location + b.count ≤ suc (max update.0 (greatest updates))) same (omega arith)
+row_within (update ∷ updates) next is = grind (arith, row_reaches update.0 (update ∷ updates))
 
 left_within : (bank : List ℕ) (updates : List (ℕ × ℕ)) (count last : ℕ) (next : Block)
     → greatest updates ≤ last → last + 1 ≡ length bank → row_of (drop count updates) ≡ Some next
     → next.location + next.count ≤ length bank
-left_within bank updates count last next reaches long row =
-    let within = row_within (drop count updates) next row in
-    let left = greatest_left count updates in
-    omega arith
+left_within bank updates count last next reaches long row = grind (arith, row_within, greatest_left)
 
-pub order_stays : (bank : List ℕ) (updates : List (ℕ × ℕ)) → IsBank bank → Stays (order_course updates) bank
-order_stays bank updates is = record { begins = refl; within = by }
+pub order_stays : (bank : List ℕ) (updates : List (ℕ × ℕ)) → IsBank bank
+    → Stays (order_course updates) (order_place updates) bank
+order_stays bank updates is = record { begins = refl; first = refl; follows = order_follows updates; within = by }
   where
     format : (last : ℕ) (next mine : Block) → 0x13 ≤ greatest updates → greatest updates ≤ last
         → last + 1 ≡ length bank → mine.location + mine.count ≡ 0x13 → Some mine ≡ Some next

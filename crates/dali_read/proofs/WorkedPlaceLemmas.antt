@@ -1,12 +1,11 @@
 -- Near the edges of what is read, of what is found, and of how many frames that takes.
-use Rattle.std.proofs.Common.{◌≡◌, ◌⊎◌, inl, inr, refl, sym, ap, subst, ◌∙◌, ℕ, ◌+◌, ◌≤◌, List, []}
+use Rattle.std.proofs.Common.{◌≡◌, ◌⊎◌, inl, inr, refl, ℕ, ◌+◌, ◌≤◌, List, []}
 use Rattle.std.proofs.Common.{◌∷◌, ◌++◌, drop, Some, None, arith}
-use Rattle.std.specs.List.{AllByRecursion}
 use Rattle.dali_write.specs.WorkedAccesses.{after_a_miss}
 use Rattle.dali_read.specs.declared.finding.Finding.TheVariants.{Same, Other, Short, Format}
 use Rattle.dali_write.specs.Requests.{block}
 use Rattle.dali_read.specs.Places.{last_course, bank_course, row_of, order_course}
-use Rattle.dali_read.specs.Findings.{own_bytes, IsFound}
+use Rattle.dali_read.specs.Findings.{IsFound}
 use Rattle.dali_read.specs.Shown.{ShowsBank, Finds, Holds}
 use Rattle.dali_read.specs.Counts.{block_frames, bank_frames, blocks_behind, order_frames, found_frames, AreSoMany}
 use Rattle.dali_read.specs.WorkedReads.{four_updates, five_updates, row, filled, three_updates, small_bank, other_bank}
@@ -97,9 +96,7 @@ found_numbers = (refl, refl, refl, refl)
 
 -- with one miss at most the frames of a whole block more
 pub so_many : (n : ℕ) → AreSoMany 12 (after_a_miss n) → (11 ≤ n) × (n ≤ 33)
-so_many n are =
-    let least = are.0 in
-    let most = are.1 in let all = miss_length n in let one = one_miss n in (omega arith, omega arith)
+so_many n are = grind (arith, miss_length n, one_miss n)
 
 pub many_enough : (n : ℕ) → (11 ≤ n) × (n ≤ 33) → AreSoMany 12 (after_a_miss n)
 many_enough n (least, most) = let all = miss_length n in let one = one_miss n in (omega arith, omega arith)
@@ -146,10 +143,7 @@ pub reaching_isnt_short : IsFound five_updates (0x13 ∷ []) Short → ⊥
 reaching_isnt_short (last, more, is, short) = let same : 0x13 ≡ last = cc in omega arith
 
 pub right_isnt_format : IsFound five_updates (0x13 ∷ 0x00 ∷ 0x03 ∷ []) Format → ⊥
-right_isnt_format (last, high, low, more, is, reaches, far, other) =
-    let zero_is : 0x00 ≡ high = cc in
-    let three_is : 0x03 ≡ low = cc in
-    other (sym zero_is, sym three_is)
+right_isnt_format (last, high, low, more, is, reaches, far, other) = grind arith
 
 pub low_isnt_format : IsFound four_updates (0x13 ∷ 0x01 ∷ 0x03 ∷ []) Format → ⊥
 low_isnt_format (last, high, low, more, is, reaches, far, other) = omega arith
@@ -181,15 +175,9 @@ splits : (before behind : List (ℕ × ℕ)) (location own : ℕ) → three_upda
     → Before before location own [] 0x03 7
     ⊎ (Before before location own ((0x03, 7) ∷ []) 0x04 8
     ⊎ Before before location own ((0x03, 7) ∷ (0x04, 8) ∷ []) 0x13 9)
-splits [] behind location own is =
-    let here : ◌≡◌ {A = ℕ × ℕ} (0x03, 7) (location, own) = cc in
-    inl (refl, sym (ap (λ (u : ℕ × ℕ). u.0) here), sym (ap (λ (u : ℕ × ℕ). u.1) here))
-splits (a ∷ []) behind location own is =
-    let here : ◌≡◌ {A = ℕ × ℕ} (0x04, 8) (location, own) = cc in
-    inr (inl (cc, sym (ap (λ (u : ℕ × ℕ). u.0) here), sym (ap (λ (u : ℕ × ℕ). u.1) here)))
-splits (a ∷ b ∷ []) behind location own is =
-    let here : ◌≡◌ {A = ℕ × ℕ} (0x13, 9) (location, own) = cc in
-    inr (inr (cc, sym (ap (λ (u : ℕ × ℕ). u.0) here), sym (ap (λ (u : ℕ × ℕ). u.1) here)))
+splits [] behind location own is = grind arith
+splits (a ∷ []) behind location own is = grind arith
+splits (a ∷ b ∷ []) behind location own is = grind arith
 splits (a ∷ b ∷ c ∷ []) behind location own is = cc
 splits (a ∷ b ∷ c ∷ d ∷ before) behind location own is = cc
 
@@ -197,34 +185,12 @@ splits (a ∷ b ∷ c ∷ d ∷ before) behind location own is = cc
 pub later_isnt_other : IsFound three_updates (0x13 ∷ 0x00 ∷ 0x03 ∷ 7 ∷ 6 ∷ 5 ∷ []) (Other 0x13 5) → ⊥
 later_isnt_other (last, reaches, inl (more, is, near, other)) = omega arith
 later_isnt_other (last, reaches, inr (more, is, far, (before, own, behind, rest, parts, bytes, differs))) =
-    by (splits before behind 0x13 own parts)
-  where
-    bytes_are : 7 ∷ 6 ∷ 5 ∷ [] ≡ own_bytes before ++ 5 ∷ rest
-    bytes_are = let here : 7 ∷ 6 ∷ 5 ∷ [] ≡ more = cc in here ∙ bytes
-
-    by : Before before 0x13 own [] 0x03 7
-        ⊎ (Before before 0x13 own ((0x03, 7) ∷ []) 0x04 8
-        ⊎ Before before 0x13 own ((0x03, 7) ∷ (0x04, 8) ∷ []) 0x13 9)
-        → ⊥
-    by (inl (none, place, byte)) = omega (arith, place)
-    by (inr (inl (one, place, byte))) = omega (arith, place)
-    by (inr (inr (two, place, byte))) =
-        let second : 7 ∷ 6 ∷ 5 ∷ [] ≡ 7 ∷ 8 ∷ 5 ∷ rest =
-        bytes_are ∙ ap (λ (l : List (ℕ × ℕ)). own_bytes l ++ 5 ∷ rest) two in
-        cc
+    grind (arith, splits before behind 0x13 own parts)
 
 pub own_isnt_other : IsFound three_updates (0x13 ∷ 0x00 ∷ 0x03 ∷ 7 ∷ 8 ∷ 9 ∷ []) (Other 0x04 8) → ⊥
 own_isnt_other (last, reaches, inl (more, is, near, other)) = omega arith
 own_isnt_other (last, reaches, inr (more, is, far, (before, own, behind, rest, parts, bytes, differs))) =
-    by (splits before behind 0x04 own parts)
-  where
-    by : Before before 0x04 own [] 0x03 7
-        ⊎ (Before before 0x04 own ((0x03, 7) ∷ []) 0x04 8
-        ⊎ Before before 0x04 own ((0x03, 7) ∷ (0x04, 8) ∷ []) 0x13 9)
-        → ⊥
-    by (inl (none, place, byte)) = omega (arith, place)
-    by (inr (inl (one, place, byte))) = differs (sym byte)
-    by (inr (inr (two, place, byte))) = omega (arith, place)
+    grind (arith, splits before behind 0x04 own parts)
 
 -- What a bank holds
 
@@ -238,41 +204,17 @@ pub bank_isnt_same : Finds (Holds other_bank) three_updates Same → ⊥
 bank_isnt_same (suits, each) = omega (arith, same_byte 6 8 each.1.0)
 
 pub bank_has_other_first : Finds (Holds other_bank) three_updates (Other 0x13 5) → ⊥
-bank_has_other_first (suits, (before, own, behind, parts, each, here, differs)) =
-    by (splits before behind 0x13 own parts)
-  where
-    by : Before before 0x13 own [] 0x03 7
-        ⊎ (Before before 0x13 own ((0x03, 7) ∷ []) 0x04 8
-        ⊎ Before before 0x13 own ((0x03, 7) ∷ (0x04, 8) ∷ []) 0x13 9)
-        → ⊥
-    by (inl (none, place, byte)) = omega (arith, place)
-    by (inr (inl (one, place, byte))) = omega (arith, place)
-    by (inr (inr (two, place, byte))) =
-        let all =
-        subst (λ (l : List (ℕ × ℕ)). AllByRecursion (λ update. Holds other_bank update.0 update.1) l) two each in
-        omega (arith, same_byte 6 8 all.1.0)
+bank_has_other_first (suits, (before, own, behind, parts, each, here, differs)) = grind (arith, splits, same_byte)
 
 pub bank_has_no_such_byte : Finds (Holds other_bank) three_updates (Other 0x04 5) → ⊥
 bank_has_no_such_byte (suits, (before, own, behind, parts, each, here, differs)) = omega (arith, same_byte 6 5 here)
 
 pub own_byte_isnt_other : Finds (Holds other_bank) three_updates (Other 0x03 7) → ⊥
-own_byte_isnt_other (suits, (before, own, behind, parts, each, here, differs)) =
-    by (splits before behind 0x03 own parts)
-  where
-    by : Before before 0x03 own [] 0x03 7
-        ⊎ (Before before 0x03 own ((0x03, 7) ∷ []) 0x04 8
-        ⊎ Before before 0x03 own ((0x03, 7) ∷ (0x04, 8) ∷ []) 0x13 9)
-        → ⊥
-    by (inl (none, place, byte)) = differs (sym byte)
-    by (inr (inl (one, place, byte))) = omega (arith, place)
-    by (inr (inr (two, place, byte))) = omega (arith, place)
+own_byte_isnt_other (suits, (before, own, behind, parts, each, here, differs)) = grind (arith, splits)
 
 -- a bank that names 03h as its last location doesn't suit, whatever stands behind it
 pub named_too_short : Finds (Holds (0x03 ∷ 1 ∷ 0xFF ∷ 7 ∷ 8 ∷ [])) ((0x03, 7) ∷ (0x04, 8) ∷ []) Same → ⊥
-named_too_short (suits, each) =
-    let last = same_byte 0x03 suits.0 suits.1 in
-    let reaches = suits.2 in
-    omega arith
+named_too_short (suits, each) = grind (arith, same_byte 0x03 suits.0 suits.1)
 
 pub bank_is_short : Finds (Holds small_bank) three_updates Short
 bank_is_short = (0x04, refl, omega arith)
@@ -282,16 +224,10 @@ whole_bank =
     record { last = 0x04; names = refl; count = refl; bytes_are = λ location byte there. there }
 
 pub fewer_arent_bank : ShowsBank (Holds small_bank) (0x04 ∷ 1 ∷ 0xFF ∷ 7 ∷ []) → ⊥
-fewer_arent_bank shows =
-    let last = same_byte 0x04 shows.last shows.names in
-    let count = shows.count in
-    omega arith
+fewer_arent_bank shows = grind (arith, same_byte 0x04 shows.last shows.names)
 
 pub more_arent_bank : ShowsBank (Holds (0x04 ∷ 1 ∷ 0xFF ∷ 7 ∷ 8 ∷ 9 ∷ [])) (0x04 ∷ 1 ∷ 0xFF ∷ 7 ∷ 8 ∷ 9 ∷ []) → ⊥
-more_arent_bank shows =
-    let last = same_byte 0x04 shows.last shows.names in
-    let count = shows.count in
-    omega arith
+more_arent_bank shows = grind (arith, same_byte 0x04 shows.last shows.names)
 
 pub others_arent_bank : ShowsBank (Holds small_bank) (0x04 ∷ 1 ∷ 0xFF ∷ 7 ∷ 9 ∷ []) → ⊥
 others_arent_bank shows = omega (arith, same_byte 8 9 (shows.bytes_are 4 9 refl))

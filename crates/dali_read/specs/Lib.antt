@@ -1,4 +1,3 @@
-pub mod Blocks
 pub mod Readings
 pub mod Places
 pub mod Findings

@@ -20,9 +20,8 @@ IsSettled (Some bytes) outcomes = (c : List ℕ) → outcomes c → c ≡ bytes
 
 -- these bytes begin with the first ones, and the second ones with them
 abbrev pub IsBetween : Option (List ℕ) → Option (List ℕ) → List ℕ → Type 0
-IsBetween None long c = ⊤
-IsBetween (Some short) None c = ⊤
 IsBetween (Some short) (Some long) c = (more : List ℕ) × (rest : List ℕ) × (c ≡ short ++ more) × (long ≡ c ++ rest)
+IsBetween short long c = ⊤
 
 -- these bytes are a first part of the known ones, and so many or more
 abbrev pub IsBehind : ℕ → Option (List ℕ) → List ℕ → Type 0

@@ -1,11 +1,12 @@
 ghost use Rattle.std.specs.Prelude.{◌≤◌};
+ghost use Rattle.dali_write.specs.Blocks.{Fits};
 
 use crate::gtin::GTIN;
 use dali_bank::{BLANK, Order};
 use dali_frame::word_of;
 use dali_gear::{Bus, Fate, SimBus, Unit};
 use dali_shared_tests::expect_that;
-use dali_write::{Ask, Session, Verdict, laws};
+use dali_write::{Ask, Block, Session, Verdict, laws};
 use std::alloc::Global;
 use std::test::Fail;
 
@@ -184,13 +185,37 @@ fn judge_reading(
     expect_that(is_right, "the bytes of a reading session")
 }
 
+// The same of a session that reads a block.
+fn judge_block(
+    bus: &mut SimBus,
+    unit: u8,
+    block: Block,
+    frames: u32,
+    verdict: Verdict,
+    bytes: &[u8],
+) -> Result<(), Fail>
+    requires unit { unit ≤ 63 }
+    requires block { Fits block }
+{
+    let mut session = Session::reading_block(unit, block);
+    let is_right = ends_so(bus, &mut session, frames, verdict) && session.bytes() == bytes;
+    expect_that(is_right, "the bytes of a block")
+}
+
+// All locations of the short bank but the first.
+const SIXTEEN: Block = Block {
+    location: 0x01,
+    count: 16,
+};
+
 #[test]
 fn sessions_with_no_unit(rt: HostRuntime) -> Result<(), Fail> {
     let mut bus = blank_bus(rt.alloc(), Vec::new(rt.alloc()))?;
     judge_fresh(&mut bus, 9, &GTIN, 16, Verdict::Silent)?;
     judge_opened(&mut bus, 9, 80, Verdict::DoubtOpen)?;
     judge_closing(&mut bus, 9, 48, Verdict::NotClosed)?;
-    judge_reading(&mut bus, 9, 16, Verdict::Silent, &[])
+    judge_reading(&mut bus, 9, 16, Verdict::Silent, &[])?;
+    judge_block(&mut bus, 9, SIXTEEN, 16, Verdict::Silent, &[])
 }
 
 #[test]
@@ -213,7 +238,36 @@ fn another_content_format(rt: HostRuntime) -> Result<(), Fail> {
 fn a_short_bank(rt: HostRuntime) -> Result<(), Fail> {
     let mut bus = bus_with(rt.alloc(), &SHORT_BANK, &[])?;
     judge_fresh(&mut bus, 5, &YEAR, 7, Verdict::Short)?;
-    judge_reading(&mut bus, 5, 119, Verdict::Read, &SHORT_BANK)
+    judge_reading(&mut bus, 5, 119, Verdict::Read, &SHORT_BANK)?;
+    judge_block(&mut bus, 5, SIXTEEN, 22, Verdict::Read, &[0xFF; 16])
+}
+
+#[test]
+fn a_block_past_the_end_of_a_bank(rt: HostRuntime) -> Result<(), Fail> {
+    let mut bus = bus_with(rt.alloc(), &SHORT_BANK, &[])?;
+    let two = Block {
+        location: 0x10,
+        count: 2,
+    };
+    judge_block(&mut bus, 5, two, 48, Verdict::Silent, &[])
+}
+
+#[test]
+fn a_block_with_one_loss_at_each_frame(rt: HostRuntime) -> Result<(), Fail> {
+    for number in 0..22u32 {
+        let mut units = Vec::new(rt.alloc());
+        units.push(Unit::with_bank1(rt.alloc(), 5, &SHORT_BANK, &[])?)?;
+        let loss = Fate {
+            lost: 1 << 5,
+            ..Fate::default()
+        };
+        let mut bus = SimBus::new(units, then(rt.alloc(), number as usize, loss)?)?;
+        let mut session = Session::reading_block(5, SIXTEEN);
+        let (frames, verdict) = finish(&mut bus, &mut session);
+        let is_read = frames <= 44 && verdict == Some(Verdict::Read);
+        expect_that(is_read && session.bytes() == [0xFF; 16], "a block in 44 frames")?;
+    }
+    Ok(())
 }
 
 #[test]

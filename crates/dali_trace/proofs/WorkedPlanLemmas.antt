@@ -1,5 +1,5 @@
 -- The worked traces near the edges of the plans: which keep to them, and which are legal and don't.
-use Rattle.std.proofs.Common.{◌≡◌, refl, sym, ap, subst, ℕ, List, [], ◌∷◌, ◌++◌, None, arith}
+use Rattle.std.proofs.Common.{◌≡◌, refl, sym, ap, subst, ℕ, List, [], ◌∷◌, ◌++◌, arith}
 use Rattle.std.specs.Prelude.{⊤}
 use Rattle.dali_frame.specs.declared.forward.Frame.TheVariants.{Dtr0, Dtr1, Enable, AskDtr1}
 use Rattle.dali_journal.specs.declared.record.Code.TheVariants as codes
@@ -11,10 +11,8 @@ use Rattle.dali_write.specs.declared.ask.Ask.TheVariants as asks
 use Rattle.dali_write.specs.declared.ask.Verdict.{Verdict}
 use Rattle.dali_write.specs.declared.ask.Verdict.TheVariants as verdicts
 use Rattle.dali_write.specs.Plans.{Plan, read_length, unlock, close}
-use Rattle.dali_write.specs.Tries.{plan_requests, Wants}
-use Rattle.dali_write.proofs.StandingLemmas.{stands_at_first}
-use Rattle.dali_write.proofs.NextLemmas.{next_wanted}
-use Rattle.dali_write.proofs.AskLemmas.{ask_shown}
+use Rattle.dali_write.specs.Tries.{Wants}
+use Rattle.dali_write.proofs.NextLemmas.{first_wanted, next_wanted}
 use Rattle.dali_write.proofs.DeterminedLemmas.{plan_state_after, ask_from, ask_is}
 use Rattle.dali_trace.specs.declared.happening.Happening.{Happening}
 use Rattle.dali_trace.specs.declared.happening.Happening.TheVariants.{Sent}
@@ -58,14 +56,9 @@ keeps_all unit plan (x ∷ told) same =
 
 keeps_wants : (unit : ℕ) (plan : Plan) (told : List Exchange) → Keeps unit plan told
     → Wants unit plan told (ask_from (plan_state_after unit plan told))
-keeps_wants unit plan [] keeps = record {
-  now = plan;
-  misses = 0;
-  left = plan_requests unit plan;
-  byte = None;
-  stands = stands_at_first unit plan;
-  ask_is = sym (ask_shown plan (plan_requests unit plan) (stands_at_first unit plan).going);
-}
+keeps_wants unit plan [] keeps =
+    let first = first_wanted unit plan in
+    subst (λ (a : Ask). Wants unit plan [] a) (sym (ask_is unit plan [] first.0 first.1)) first.1
 keeps_wants unit plan (x ∷ told) keeps =
     let before = subst (λ (a : Ask). Wants unit plan told a) keeps.1 (keeps_wants unit plan told keeps.0) in
     let next = next_wanted unit plan told x.frame x.answer before in

@@ -17,7 +17,7 @@ use Rattle.dali_write.specs.Reads.{StillRead, HasRead}
 use Rattle.dali_trace.specs.declared.happening.Reply.{Reply}
 use Rattle.dali_trace.specs.declared.happening.Reply.TheVariants as replies
 use Rattle.dali_trace.specs.declared.happening.Happening.{Happening}
-use Rattle.dali_trace.specs.declared.happening.Happening.TheVariants.{Asked, Answered, Sent, Kept, Stopped, Powered}
+use Rattle.dali_trace.specs.declared.happening.Happening.TheVariants.{Asked, Answered, Sent, Kept}
 use Rattle.dali_trace.specs.Trace.{Start, records_of, standing_at, sent_of, sent_since_taken, waiting}
 use Rattle.dali_trace.specs.Trace.{waiting_since, has_ended}
 use Rattle.dali_trace.specs.Replies.{IsReply}
@@ -102,12 +102,10 @@ MaySay start past id other = ⊥
 
 -- this may happen where no reply is due
 abbrev pub MayHappen : Start → List Happening → Happening → Type 0
-MayHappen start past (Asked order moment) = ⊤
 MayHappen start past (Answered id reply) = MaySay start past id reply
 MayHappen start past (Sent frame answer) = MaySend past (standing_at start past) frame
 MayHappen start past (Kept entry) = MayKeep start past entry
-MayHappen start past Stopped = ⊤
-MayHappen start past (Powered address) = ⊤
+MayHappen start past other = ⊤
 
 -- an order is followed at once by its reply
 abbrev pub Replies : Start → List Happening → Contents → Happening → Type 0

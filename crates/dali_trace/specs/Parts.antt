@@ -1,5 +1,5 @@
 -- A trace is the joined parts of its events, in their order. Events, as happenings, are listed newest first.
-use Rattle.std.specs.Prelude.{◌≡◌, ◌<◌, ◌≤◌, ◌⊎◌, true, false, List, [], ◌∷◌, length, Option, Some, ℕ, ⊤}
+use Rattle.std.specs.Prelude.{◌≡◌, ◌<◌, ◌≤◌, ◌⊎◌, true, false, List, [], ◌∷◌, length, Option, Some, None, ℕ, ⊤}
 use Rattle.dali_bank.specs.Order.{Contents}
 use Rattle.dali_journal.specs.declared.record.Record.{Record}
 use Rattle.dali_journal.specs.declared.record.Record.TheVariants.{Began}
@@ -30,16 +30,10 @@ IsWork other = ⊥
 -- is to be kept next: the order is begun, or the session has ended, and it is the one that follows its end
 abbrev pub NextRecord : Standing → Option Contents → ℕ → List Exchange → Record → Type 0
 NextRecord standings.Idle (Some order) since told entry = entry ≡ Began order since
-NextRecord (standings.Left unit) (Some order) since told entry =
-    (verdict : Verdict) × Asks (standings.Left unit) told (asks.Ended verdict)
-    × EndsIn (standings.Left unit) verdict entry
-NextRecord (standings.Began order) waits since told entry =
-    (verdict : Verdict) × Asks (standings.Began order) told (asks.Ended verdict)
-    × EndsIn (standings.Began order) verdict entry
-NextRecord (standings.Opened order) waits since told entry =
-    (verdict : Verdict) × Asks (standings.Opened order) told (asks.Ended verdict)
-    × EndsIn (standings.Opened order) verdict entry
-NextRecord stands waits since told entry = ⊥
+NextRecord standings.Idle None since told entry = ⊥
+NextRecord (standings.Left unit) None since told entry = ⊥
+NextRecord stands waits since told entry =
+    (verdict : Verdict) × Asks stands told (asks.Ended verdict) × EndsIn stands verdict entry
 
 abbrev pub IsKeptNext : Start → List Happening → Record → Type 0
 IsKeptNext start past entry =

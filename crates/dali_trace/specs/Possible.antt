@@ -1,7 +1,7 @@
 -- Which bytes the units may hold, by what a journal says of each order. The newest order comes first.
 use Rattle.std.specs.Prelude.{◌≡◌, ◌⊎◌, ◌==◌, ◌&&◌, ℕ, List, [], ◌∷◌, Option, Some, None, if◌then◌else◌, ⊤}
 use Rattle.dali_bank.specs.Order.{Contents, update_at}
-use Rattle.dali_journal.specs.declared.record.Code.TheVariants.{Done, Short, Format, Silent, Doubt, DoubtOpen}
+use Rattle.dali_journal.specs.declared.record.Code.TheVariants.{Done, Doubt, DoubtOpen}
 use Rattle.dali_journal.specs.declared.kept.Progress.{Progress}
 use Rattle.dali_journal.specs.declared.kept.Progress.TheVariants as reached
 
@@ -13,14 +13,11 @@ pub data Mark : Type 0 where
 
 -- how far an order has come tells what is known of its bytes
 abbrev pub mark_of : Progress → Mark
-mark_of reached.Begun = Untouched
 mark_of reached.Open = InDoubt
 mark_of (reached.Ended Done) = Applied
-mark_of (reached.Ended Short) = Untouched
-mark_of (reached.Ended Format) = Untouched
-mark_of (reached.Ended Silent) = Untouched
 mark_of (reached.Ended Doubt) = InDoubt
 mark_of (reached.Ended DoubtOpen) = InDoubt
+mark_of other = Untouched
 
 -- the byte that an order has for a place, if it has one: in bank 1 of its unit
 abbrev pub byte_for : Contents → ℕ → ℕ → ℕ → Option ℕ

@@ -43,10 +43,9 @@ led_from past last states = last
 
 -- the frames among them, each with the state that it was sent in
 abbrev pub sent_among : List Happening → List SimState → List (Frame × SimState)
-sent_among [] states = []
 sent_among (Sent frame answer ∷ past) (state ∷ states) = (frame, state) ∷ sent_among past states
 sent_among (other ∷ past) (state ∷ states) = sent_among past states
-sent_among (other ∷ past) [] = []
+sent_among past states = []
 
 -- the state at the last start: when an order was taken, or the program stopped
 abbrev pub state_at_start : List Happening → SimState → List SimState → SimState

@@ -38,11 +38,10 @@ look_frames updates = if nat_lt (greatest updates) 0x13 then read_frames else 3 
 
 -- the frames of an order that is done, from its start on, where no try misses
 abbrev pub frames_from : Standing → List (ℕ × ℕ) → ℕ
-frames_from standings.Idle updates = done_frames (length updates) + look_frames updates
-frames_from (standings.Began order) updates = done_frames (length updates) + look_frames updates
 frames_from (standings.Left unit) updates =
     done_frames (length updates) + look_frames updates + (write_frames + read_frames)
 frames_from (standings.Opened order) updates = done_frames (length updates)
+frames_from other updates = done_frames (length updates) + look_frames updates
 
 -- a checked read of the lock byte or of an update's location found another byte than must be there
 abbrev pub FindsAnother : Contents → List Exchange → Type 0
@@ -56,11 +55,10 @@ FindsAnother order sent =
 -- (What Done, Short, Format and Doubt besides rest on, checked reads, is a rule of legal traces.)
 abbrev pub IsEarned : Standing → Contents → Code → List Exchange → Type 0
 IsEarned first order codes.Done sent = IsLong (frames_from first order.updates) sent
-IsEarned first order codes.Short sent = ⊤
-IsEarned first order codes.Format sent = ⊤
 IsEarned first order codes.Silent sent = EndsUnlooked order.unit sent
 IsEarned first order codes.Doubt sent = HasFailed order.unit sent ⊎ FindsAnother order sent
 IsEarned first order codes.DoubtOpen sent = EndsUnread order.unit 0x02 sent
+IsEarned first order other sent = ⊤
 
 -- the order at hand: the one at work, the one that waits, or the one that has ended and isn't said yet
 abbrev pub order_at : Standing → Option Contents → Bool → List (Contents × Progress) → Option Contents

@@ -2,17 +2,18 @@
 use Rattle.std.proofs.Common.{◌≡◌, ◌⊎◌, inl, inr, refl, sym, ap, ◌∙◌, ℕ, List, [], ◌∷◌, ◌++◌, length, length-append}
 use Rattle.std.proofs.Common.{append-nil, append_assoc, get_or, Option, Some, None, arith}
 use Rattle.std.specs.Prelude.{IsSome, slice_get}
-use Rattle.std.specs.Option.{option_to_list}
 use Rattle.std.proofs.lemmas.Option.{slice_get-get_or, slice_get_within, get_or_from_slice_get}
 use Rattle.std.proofs.lemmas.List.{get_or_append_left}
 use Rattle.std.proofs.Math.Seq.{get_or-append_seam}
 use Rattle.std.proofs.Math.Nat.{eq-or-lt_of_le}
 use Rattle.dali_frame.specs.declared.forward.Frame.{Frame}
-use Rattle.dali_frame.specs.declared.forward.Frame.TheVariants.{Dtr0, Dtr1, AskDtr0, AskDtr1, Read}
+use Rattle.dali_frame.specs.declared.forward.Frame.TheVariants.{AskDtr0, AskDtr1, Read}
 use Rattle.dali_write.specs.Exchanges.{Exchange}
 use Rattle.dali_write.proofs.ShapeLemmas.{Selected, selected}
 use Rattle.dali_write.specs.declared.block.Block.{Block}
-use Rattle.dali_write.specs.Blocks.{read_answer, bytes_of, IsBlockRead}
+use Rattle.dali_write.specs.Requests.{read_answer}
+use Rattle.dali_write.specs.Tries.{bytes_of}
+use Rattle.dali_write.specs.Blocks.{IsBlockRead}
 use Rattle.dali_write.proofs.BlockShapeLemmas.{AllReads, WasBlock, was_block}
 
 -- a byte that is there
@@ -23,33 +24,23 @@ some_byte (Some byte) some = (byte, refl)
 -- a read that was answered tells one more byte
 pub bytes_next : (unit : ℕ) (x : Exchange) (each : List Exchange) (byte : ℕ) → x.frame ≡ Read unit
     → x.answer ≡ Some byte → bytes_of (x ∷ each) ≡ bytes_of each ++ byte ∷ []
-bytes_next unit x each byte is answer =
-    ap (λ (l : List ℕ). bytes_of each ++ l)
-    (ap (λ (f : Frame). read_answer f x.answer) is ∙ ap (λ (o : Option ℕ). option_to_list o) answer)
+bytes_next unit x each byte is answer = grind arith
 
 -- so many reads tell so many bytes
 pub bytes_count : (unit : ℕ) (each : List Exchange) → AllReads unit each → length (bytes_of each) ≡ length each
 bytes_count unit [] all = refl
 bytes_count unit (x ∷ each) all =
-    let byte = some_byte x.answer all.1 in
-    let rest = bytes_count unit each all.2 in
-    let more = ap (λ (l : List ℕ). length l) (bytes_next unit x each byte.0 all.0 byte.1) in
-    let long = length-append (bytes_of each) (byte.0 ∷ []) in
-    omega arith
+    grind (arith, some_byte x.answer all.1, bytes_count unit each all.2, bytes_next, length-append)
 
 -- frames that read nothing tell no bytes
 pub bytes_skip : (x : Exchange) (frame : Frame) (told : List Exchange) → x.frame ≡ frame
     → read_answer frame x.answer ≡ [] → bytes_of (x ∷ told) ≡ bytes_of told
-bytes_skip x frame told is none =
-    ap (λ (l : List ℕ). bytes_of told ++ l) (ap (λ (f : Frame). read_answer f x.answer) is ∙ none)
-    ∙ append-nil (bytes_of told)
+bytes_skip x frame told is none = grind (arith, append-nil (bytes_of told))
 
 -- the bytes of older exchanges come first
 pub bytes_both : (newer older : List Exchange) → bytes_of (newer ++ older) ≡ bytes_of older ++ bytes_of newer
 bytes_both [] older = sym (append-nil (bytes_of older))
-bytes_both (x ∷ newer) older =
-    let more = read_answer x.frame x.answer in
-    ap (λ (l : List ℕ). l ++ more) (bytes_both newer older) ∙ append_assoc (bytes_of older) (bytes_of newer) more
+bytes_both (x ∷ newer) older = grind (arith, bytes_both newer older, append_assoc)
 
 -- one more byte, or one of those before it
 pub one_of : (bytes : List ℕ) (new index byte : ℕ) → slice_get (bytes ++ new ∷ []) index ≡ Some byte
@@ -77,13 +68,7 @@ front_of four = four.x4 ∷ four.x3 ∷ four.x2 ∷ four.x1 ∷ []
 pub front_silent : (unit location : ℕ) {tried : List Exchange} (four : Selected unit location tried)
     (each : List Exchange)
     → bytes_of (each ++ front_of four) ≡ bytes_of each
-front_silent unit location four each =
-    bytes_both each (front_of four)
-    ∙ ap (λ (l : List ℕ). l ++ bytes_of each)
-    (bytes_skip four.x4 (AskDtr0 unit) (four.x3 ∷ four.x2 ∷ four.x1 ∷ []) four.got4.frame_is refl
-    ∙ (bytes_skip four.x3 (Dtr0 location) (four.x2 ∷ four.x1 ∷ []) four.got3.frame_is refl
-    ∙ (bytes_skip four.x2 (AskDtr1 unit) (four.x1 ∷ []) four.got2.frame_is refl
-    ∙ bytes_skip four.x1 (Dtr1 1) [] four.got1.frame_is refl)))
+front_silent unit location four each = grind (arith, bytes_both, bytes_skip)
 
 -- a block read that came to its end: its two last frames, its reads, which told the bytes, and its four first frames
 pub record ToldBlock (unit : ℕ) (block : Block) (bytes : List ℕ) (tried : List Exchange) : Type 0 where
@@ -114,6 +99,4 @@ told_block unit block bytes tried read =
 -- it tells a byte of each of its places
 pub block_count : (unit : ℕ) (block : Block) (bytes : List ℕ) (tried : List Exchange)
     → IsBlockRead unit block bytes tried → length bytes ≡ block.count
-block_count unit block bytes tried read =
-    let t = told_block unit block bytes tried read in
-    ap (λ (l : List ℕ). length l) (sym t.bytes_are) ∙ (bytes_count unit t.was.each t.was.all ∙ t.was.count_is)
+block_count unit block bytes tried read = grind (arith, told_block unit block bytes tried read, bytes_count)

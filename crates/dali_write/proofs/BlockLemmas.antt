@@ -1,11 +1,11 @@
 -- A block read tells each byte at its place, and its unit kept its power from the second frame to the last.
-use Rattle.std.proofs.Common.{◌≡◌, inl, inr, refl, sym, ap, subst, ◌∙◌, ℕ, suc, ◌<◌, List, []}
-use Rattle.std.proofs.Common.{◌∷◌, ◌++◌, length, append_assoc, Option, Some, None, arith}
+use Rattle.std.proofs.Common.{◌≡◌, inl, inr, refl, sym, ap, subst, ◌∙◌, ℕ, List, []}
+use Rattle.std.proofs.Common.{◌∷◌, ◌++◌, length, append_assoc, Option, Some, arith}
 use Rattle.std.specs.Prelude.{slice_get}
 use Rattle.std.proofs.lemmas.Option.{slice_get_within}
 use Rattle.dali_frame.specs.declared.forward.Frame.TheVariants.{Dtr0, AskDtr0, AskDtr1, Read}
 use Rattle.dali_bus.specs.World.{World, Gear, byte_in, byte_at}
-use Rattle.dali_bus.specs.Hears.{Hears, Obeys, up}
+use Rattle.dali_bus.specs.Hears.{Hears, up}
 use Rattle.dali_bus.specs.Carry.{Carry, WorldStep}
 use Rattle.dali_write.specs.Exchanges.{Exchange}
 use Rattle.dali_write.specs.Requests.{select_requests}
@@ -13,12 +13,14 @@ use Rattle.dali_write.specs.Tries.{Trying}
 use Rattle.dali_write.specs.Worlds.{Shows}
 use Rattle.dali_write.proofs.GearLemmas.{IsQuiet, carry_stays, carry_dtr1, dtr0_in, dtr1_in, asked1, end_steady}
 use Rattle.dali_write.proofs.PowerLemmas.{shows_kept, stays_keeps, drifts_keep}
-use Rattle.dali_write.proofs.TruthLemmas.{split, carried, selects_run, held_then, shown, shows_now, run_keeps, AllQuiet}
+use Rattle.dali_write.proofs.TruthLemmas.{split, carried, selects_run, held_then, shown, shows_now, run_keeps}
+use Rattle.dali_write.proofs.AskedLemmas.{Sent}
 use Rattle.dali_write.proofs.WhenReadLemmas.{AllLeave, kept_on, leaves}
 use Rattle.dali_write.proofs.RunLemmas.{leads_of, run_of, Leads, Drifts, Stays, Loses}
 use Rattle.dali_write.specs.declared.block.Block.{Block}
 use Rattle.dali_write.specs.Requests.{moved_on}
-use Rattle.dali_write.specs.Blocks.{bytes_of, IsBlockRead}
+use Rattle.dali_write.specs.Tries.{bytes_of}
+use Rattle.dali_write.specs.Blocks.{IsBlockRead}
 use Rattle.dali_write.specs.WhenBlock.{AllBut, HeldAt, WhenBlock}
 use Rattle.dali_write.proofs.BlockShapeLemmas.{AllReads}
 use Rattle.dali_write.proofs.BlockBytesLemmas.{some_byte, bytes_next, bytes_count, one_of, front_of, told_block}
@@ -33,27 +35,12 @@ drifts_same unit first last (Loses {mid = mid} at of_these drifts lost) =
 -- a unit that answers a read of bank 1 moves DTR0 on
 answers_moves : (at : ℕ) (old : Gear) (to v : ℕ) (new : Gear) → Hears at old (Read to) (Some v) new
     → (to ≡ at) × (old.dtr1 ≡ 1 → new.dtr0 ≡ up old.dtr0)
-answers_moves at old to v new h = told h.obeys where
-  told : Obeys at old (Read to) (Some v) h.obeyed → (to ≡ at) × (old.dtr1 ≡ 1 → new.dtr0 ≡ up old.dtr0)
-  told (inl (is, inl read)) =
-      let e = end_steady h.obeyed new h.ends in (is, λ one. e.dtr0 ∙ ap (λ (g : Gear). g.dtr0) read.2)
-  told (inl (is, inr (inl nothing))) = let never : Some v ≡ None = nothing.1.3 in cc
-  told (inl (is, inr (inr aside))) = (is, λ one. absurd (omega (arith, aside.0, one)))
-  told (inr (isnt, ignores)) = let never = ignores.1 in cc
+answers_moves at old to v new h = grind (arith, end_steady h.obeyed new h.ends)
 
 -- so the unit that answered has moved on
 moves_on : (old : World) (unit location byte : ℕ) (new : World) → Carry old (Read unit) (Some byte) new
     → dtr1_in (old unit) ≡ Some 1 → dtr0_in (old unit) ≡ Some location → dtr0_in (new unit) ≡ Some (up location)
-moves_on old unit location byte new carry bank place =
-    let a = carry.answers in
-    let told = answers_moves a.address a.before unit byte a.after a.hears in
-    let was : old unit ≡ Some a.before = rw told.0 a.was in
-    let is : new unit ≡ Some a.after = rw told.0 a.is in
-    let at : Some a.before.dtr0 ≡ Some location = sym (ap dtr0_in was) ∙ place in
-    let at_is : a.before.dtr0 ≡ location = cc in
-    let one : Some a.before.dtr1 ≡ Some 1 = sym (ap dtr1_in was) ∙ bank in
-    let one_is : a.before.dtr1 ≡ 1 = cc in
-    ap dtr0_in is ∙ ap Some (told.1 one_is ∙ ap up at_is)
+moves_on old unit location byte new carry bank place = grind (arith, answers_moves, dtr0_in, dtr1_in)
 
 -- the place where a unit stands that has bank 1 selected
 abbrev pub StandsAt : Option Gear → ℕ → Type 0
@@ -63,29 +50,24 @@ StandsAt gear location = (dtr1_in gear ≡ Some 1) × (dtr0_in gear ≡ Some loc
 reads_stand : (loses : ℕ → Type 0) (unit location : ℕ) (each : List Exchange) (first last : World)
     → Leads WorldStep (AllBut unit loses) each first last → AllReads unit each
     → StandsAt (first unit) location → StandsAt (last unit) (moved_on location (length each))
-reads_stand loses unit location [] first last run all at =
-    let still = drifts_same {loses = loses} unit first last run in
-    subst (λ (g : Option Gear). StandsAt g location) (sym still) at
+reads_stand loses unit location [] first last run all at = grind (arith, drifts_same)
 reads_stand loses unit location (x ∷ each) first last run all at =
-    let place = moved_on location (length each) in
-    let before = reads_stand loses unit location each first run.0 run.2 all.2 at in
-    let byte = some_byte x.answer all.1 in
-    let carry = carried run.0 run.1 x (Read unit) (Some byte.0) all.0 byte.1 run.3 in
-    let bank = carry_dtr1 run.0 (Read unit) (Some byte.0) run.1 tt carry unit ∙ before.0 in
-    let moved = moves_on run.0 unit place byte.0 run.1 carry before.0 before.1 in
-    subst (λ (g : Option Gear). StandsAt g (moved_on location (suc (length each))))
-    (sym (drifts_same {loses = loses} unit run.1 last run.4)) (bank, moved)
+    grind (
+      arith,
+      reads_stand loses unit location each first run.0 run.2 all.2,
+      some_byte x.answer all.1,
+      carried,
+      carry_dtr1,
+      moves_on,
+      drifts_same {loses = loses} unit run.1 last run.4,
+    )
 
 -- each byte that they told was at its place when its read reached the unit
 reads_held : (loses : ℕ → Type 0) (unit location : ℕ) (each : List Exchange) (first last : World)
     → Leads WorldStep (AllBut unit loses) each first last → AllReads unit each
     → StandsAt (first unit) location → (index byte : ℕ) → slice_get (bytes_of each) index ≡ Some byte
     → HeldAt (AllBut unit loses) each first last unit (moved_on location index) index byte
-reads_held loses unit location [] first last run all at index byte is =
-    let below = slice_get_within [] index byte is in absurd (no below)
-  where
-    no : index < length {A = ℕ} [] → ⊥
-    no below = omega arith
+reads_held loses unit location [] first last run all at index byte is = grind (arith, slice_get_within)
 reads_held loses unit location (x ∷ each) first last run all at index byte is =
     let before = reads_stand loses unit location each first run.0 run.2 all.2 at in
     let new = some_byte x.answer all.1 in
@@ -132,11 +114,7 @@ ShowsEach loses world unit location bytes =
 reads_show : (loses : ℕ → Type 0) (unit location : ℕ) (each : List Exchange) (first last : World)
     → Leads WorldStep (AllBut unit loses) each first last → AllReads unit each
     → StandsAt (first unit) location → ShowsEach (AllBut unit loses) last unit location (bytes_of each)
-reads_show loses unit location [] first last run all at index byte is =
-    let below = slice_get_within [] index byte is in absurd (no below)
-  where
-    no : index < length {A = ℕ} [] → ⊥
-    no below = omega arith
+reads_show loses unit location [] first last run all at index byte is = grind (arith, slice_get_within)
 reads_show loses unit location (x ∷ each) first last run all at index byte is =
     let before = reads_stand loses unit location each first run.0 run.2 all.2 at in
     let new = some_byte x.answer all.1 in
@@ -193,8 +171,7 @@ pub run_joined : (loses : ℕ → Type 0) (newer older : List Exchange) (first m
     → Leads WorldStep loses older first mid
     → Leads WorldStep loses newer mid last → Leads WorldStep loses (newer ++ older) first last
 run_joined loses [] [] first mid last one two = drifts_then first mid last one two
-run_joined loses [] (x ∷ older) first mid last one two =
-    (one.0, one.1, one.2, one.3, drifts_then one.1 mid last one.4 two)
+run_joined loses [] (x ∷ older) first mid last one two = grind (arith, drifts_then one.1 mid last one.4 two)
 run_joined loses (x ∷ newer) older first mid last one two =
     (two.0, two.1, run_joined loses newer older first mid two.0 one two.2, two.3, two.4)
 
@@ -246,7 +223,7 @@ when_just_block loses tried older first begun last unit block bytes before run r
     let asking_back : Leads WorldStep (AllBut unit loses) back k1.0 r2.1 =
     (k2.0, k2.1, (k1.0, k1.1, Stays, k1.3, k1.4), k2.3, k2.4) in
     let behind : Leads WorldStep loses [] r2.1 last = r2.4 in
-    let quiet : AllQuiet unit back = (
+    let quiet : Sent (IsQuiet unit) back = (
       subst (IsQuiet unit) (sym s.got2.frame_is) tt,
       (subst (IsQuiet unit) (sym s.got1.frame_is) tt, tt),
     ) in

@@ -1,47 +1,32 @@
 -- A checked read is the read of a block of one location.
-use Rattle.std.proofs.Common.{◌≡◌, refl, ap, ◌∙◌, ℕ, List, [], ◌∷◌, ◌++◌}
-use Rattle.dali_frame.specs.declared.forward.Frame.TheVariants.{AskDtr0, AskDtr1}
+use Rattle.std.proofs.Common.{◌≡◌, ◌⊎◌, inl, inr, refl, ℕ, List, [], ◌∷◌, length, get_or, Some, arith}
 use Rattle.dali_write.specs.Exchanges.{Exchange}
 use Rattle.dali_write.specs.Worlds.{IsCheckedRead}
-use Rattle.dali_write.specs.Requests.{block}
-use Rattle.dali_write.specs.Blocks.{bytes_of, Tells}
-use Rattle.dali_write.proofs.ShapeLemmas.{selected, was_read}
-use Rattle.dali_write.proofs.TruthLemmas.{last_answer}
-use Rattle.dali_write.proofs.BlockLemmas.{block_true}
-use Rattle.dali_write.proofs.RunLemmas.{Leads}
-use Rattle.dali_write.specs.Worlds.{Shows}
-use Rattle.dali_bus.specs.World.{World}
-use Rattle.dali_bus.specs.Carry.{WorldStep}
-use Rattle.dali_write.proofs.BlockBytesLemmas.{bytes_next, bytes_skip, front_silent}
+use Rattle.dali_write.specs.Requests.{block, read_requests}
+use Rattle.dali_write.specs.Tries.{Trying, Succeeds, Fails, bytes_of}
+use Rattle.dali_write.specs.Blocks.{Tells}
+use Rattle.dali_write.proofs.BlockBytesLemmas.{block_count}
 
-read_bytes : (unit location byte : ℕ) (tried : List Exchange) → IsCheckedRead unit location byte tried
-    → bytes_of tried ≡ byte ∷ []
-read_bytes unit location byte tried reads =
-    let s = was_read unit location tried reads.0 in
-    let four = selected unit location s.older s.selects in
-    let none : bytes_of s.older ≡ [] = ap bytes_of four.is ∙ front_silent unit location four [] in
-    ap bytes_of s.is
-    ∙ (bytes_skip s.x7 (AskDtr1 unit) (s.x6 ∷ s.x5 ∷ s.older) s.got7.frame_is refl
-    ∙ (bytes_skip s.x6 (AskDtr0 unit) (s.x5 ∷ s.older) s.got6.frame_is refl
-    ∙ (bytes_next unit s.x5 s.older byte s.got5.frame_is (last_answer unit location byte tried s reads.1)
-    ∙ ap (λ (l : List ℕ). l ++ byte ∷ []) none)))
+-- it tells one byte
+pub one_byte : (bytes : List ℕ) → length bytes ≡ 1 → bytes ≡ get_or bytes 0 0 ∷ []
+one_byte [] one = absurd (omega arith)
+one_byte (byte ∷ []) one = refl
+one_byte (byte ∷ next ∷ more) one = absurd (omega arith)
+
+pub tells_one : (unit location : ℕ) (tried : List Exchange) → Trying (read_requests unit location) tried []
+    → IsCheckedRead unit location (get_or (bytes_of tried) 0 0) tried
+tells_one unit location tried try =
+    (try, one_byte (bytes_of tried) (block_count unit (block location 1) (bytes_of tried) tried (try, refl)))
 
 pub one_tells : (unit location byte : ℕ) (tried : List Exchange) → IsCheckedRead unit location byte tried
     → Tells unit location byte tried
 one_tells unit location byte tried reads =
-    record {
-      block = block location 1;
-      bytes = byte ∷ [];
-      read = (reads.0, read_bytes unit location byte tried reads);
-      index = 0;
-      place = refl;
-      there = refl;
-    }
+    record { block = block location 1; bytes = byte ∷ []; read = reads; index = 0; place = refl; there = refl }
 
--- so what it told is there, and its unit isn't enabled
-pub read_true : {loses : ℕ → Type 0} (tried : List Exchange) (first last : World) (unit location byte : ℕ)
-    → Leads WorldStep loses tried first last → IsCheckedRead unit location byte tried
-    → Shows loses last unit location byte
-read_true tried first last unit location byte run reads =
-    block_true tried first last unit (block location 1) (byte ∷ []) run
-    (reads.0, read_bytes unit location byte tried reads) 0 byte refl
+-- and so does an access that didn't fail
+pub access_tells_one : (unit location : ℕ) (bytes : List ℕ) (told : List Exchange)
+    → Succeeds (read_requests unit location) (Some bytes) told
+    ⊎ Fails (read_requests unit location) (Some bytes) told
+    → bytes ≡ get_or bytes 0 0 ∷ []
+access_tells_one unit location bytes told (inl done) = grind (arith, tells_one unit location done.0 done.4)
+access_tells_one unit location bytes told (inr failed) = let never = failed.0 in cc

@@ -1,5 +1,5 @@
 -- The exchanges of whole block reads, part by part.
-use Rattle.std.proofs.Common.{◌≡◌, inl, inr, refl, sym, ap, subst, ◌∙◌, ℕ, zero, suc, ◌+◌, ◌≤◌, List, []}
+use Rattle.std.proofs.Common.{◌≡◌, inl, inr, refl, ap, subst, ◌∙◌, ℕ, zero, suc, ◌+◌, ◌≤◌, List, []}
 use Rattle.std.proofs.Common.{◌∷◌, ◌++◌, length, length-append, drop, IsSome, arith}
 use Rattle.std.specs.Prelude.{⊤}
 use Rattle.std.proofs.lemmas.List.{nil_from_length, length-replicate}
@@ -8,9 +8,8 @@ use Rattle.std.proofs.Math.Nat.{eq-or-lt_of_le}
 use Rattle.dali_frame.specs.declared.forward.Frame.TheVariants.{AskDtr0, AskDtr1, Read}
 use Rattle.dali_write.specs.Exchanges.{Exchange}
 use Rattle.dali_write.specs.declared.request.Request.{Request}
-use Rattle.dali_write.specs.declared.request.Wish.{Wish}
 use Rattle.dali_write.specs.declared.request.Wish.TheVariants.{Exactly, Anything}
-use Rattle.dali_write.specs.Requests.{Meets, request, select_requests}
+use Rattle.dali_write.specs.Requests.{request, select_requests}
 use Rattle.dali_write.specs.Tries.{Trying}
 use Rattle.dali_write.proofs.ShapeLemmas.{Got, got, cut, left_is, left_all, AllOf, trying_length, head_is, tail_is}
 use Rattle.dali_write.specs.declared.block.Block.{Block}
@@ -26,17 +25,7 @@ pub record Parts (front back : List Request) (tried : List Exchange) (left : Lis
 
 pub in_parts : (front back : List Request) (tried : List Exchange) (left : List Request)
     → Trying (front ++ back) tried left → length left ≤ length back → Parts front back tried left
-in_parts front back [] left try few =
-    let long = length-append front back in
-    let all = ap (λ (l : List Request). length l) try in
-    let none : front ≡ [] = nil_from_length front (omega arith) in
-    record {
-      newer = [];
-      older = [];
-      is = refl;
-      older_is = sym none;
-      newer_is = try ∙ ap (λ (l : List Request). l ++ back) none;
-    }
+in_parts front back [] left try few = grind (arith, length-append front back, nil_from_length)
 in_parts front back (x ∷ tried) left try few = elim (eq-or-lt_of_le {n = length left} {m = length back} few) [
   | inl same ↦
       let all = trying_length (front ++ back) (x ∷ tried) left try in
@@ -75,18 +64,8 @@ pub record Both (one two : Request) (tried : List Exchange) : Type 0 where
 pub both : (one two : Request) (tried : List Exchange) → Trying (one ∷ two ∷ []) tried [] → Both one two tried
 both one two [] try = cc
 both one two (x1 ∷ []) try = let same = try.2 in cc
-both one two (x2 ∷ x1 ∷ []) try =
-    let e1 = try.2.2 in
-    let e2 = tail_is _ _ _ _ e1 in
-    record {
-      x1 = x1;
-      x2 = x2;
-      is = refl;
-      got1 = got x1 try.2.0 one (head_is _ _ _ _ e1) try.2.1;
-      got2 = got x2 try.0 two (head_is _ _ _ _ e2) try.1;
-    }
-both one two (x3 ∷ x2 ∷ x1 ∷ rest) try =
-    let long = trying_length (one ∷ two ∷ []) (x3 ∷ x2 ∷ x1 ∷ rest) [] try in let no : ⊥ = omega arith in absurd no
+both one two (x2 ∷ x1 ∷ []) try = grind (arith, tail_is, got, head_is)
+both one two (x3 ∷ x2 ∷ x1 ∷ rest) try = grind (arith, trying_length (one ∷ two ∷ []) (x3 ∷ x2 ∷ x1 ∷ rest) [] try)
 
 -- each exchange is a read of the unit that was answered
 abbrev pub AllReads : ℕ → List Exchange → Type 0
@@ -104,10 +83,10 @@ pub all_reads : (unit count : ℕ) (tried : List Exchange) (left : List Request)
     → AllReads unit tried
 all_reads unit count [] left try = tt
 all_reads unit count (x ∷ tried) left try =
-    let is =
-    (left_all (IsRead unit) (reads unit count) tried (request x.frame try.0 ∷ left) (reads_all unit count) try.2).0 in (
-      is.0,
-      subst (λ (w : Wish). Meets w x.answer) is.1 try.1,
+    grind (
+      arith,
+      left_all (IsRead unit) (reads unit count) tried (request x.frame try.0 ∷ left) (reads_all unit
+          count) try.2,
       all_reads unit count tried (request x.frame try.0 ∷ left) try.2,
     )
 
@@ -163,8 +142,4 @@ was_block unit block tried try =
 
 -- the frames of a block read
 pub block_frames_are : (unit : ℕ) (block : Block) → length (block_requests unit block) ≡ block.count + 6
-block_frames_are unit block =
-    let place = moved_on block.location block.count in
-    let n = reads_length unit block.count in
-    let all = length-append (reads unit block.count) (back_requests unit place) in
-    omega arith
+block_frames_are unit block = grind (arith, reads_length unit block.count, length-append)

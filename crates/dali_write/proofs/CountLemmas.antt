@@ -1,6 +1,6 @@
 -- How many frames a session sends at most.
-use Rattle.std.proofs.Common.{◌≡◌, ◌⊎◌, inl, inr, refl, ap, subst, ℕ, zero, suc, ◌+◌, ◌-◌, ◌*◌, ◌<◌, ◌≤◌, min, ◌==◌}
-use Rattle.std.proofs.Common.{nat_lt, if◌then◌else◌, List, [], ◌∷◌, ◌++◌, length, length-append, Option, arith}
+use Rattle.std.proofs.Common.{◌≡◌, ◌⊎◌, inl, inr, refl, ap, ℕ, zero, suc, ◌+◌, ◌-◌, ◌*◌, ◌<◌, ◌≤◌}
+use Rattle.std.proofs.Common.{List, [], ◌∷◌, length, length-append, Option, arith}
 use Rattle.std.proofs.lemmas.Nat.{mul-le}
 use Rattle.dali_write.specs.Exchanges.{Exchange}
 use Rattle.dali_write.specs.declared.request.Request.{Request}
@@ -8,12 +8,14 @@ use Rattle.dali_write.specs.declared.access.Access.{Access}
 use Rattle.dali_write.specs.declared.access.Access.TheVariants.{ReadFrom, WriteTo}
 use Rattle.dali_write.specs.declared.ask.Verdict.{Verdict}
 use Rattle.dali_write.specs.declared.stage.Task.{Task}
-use Rattle.dali_write.specs.declared.stage.Task.TheVariants.{Fresh, Opened, Closing, Reading}
+use Rattle.dali_write.specs.declared.stage.Task.TheVariants.{Fresh, Opened, Closing, Reading, ReadingBlock}
 use Rattle.dali_write.specs.declared.session.Session.{Session}
-use Rattle.dali_write.specs.Requests.{request, access_requests}
+use Rattle.dali_write.specs.declared.block.Block.{Block}
+use Rattle.dali_write.specs.Requests.{block_requests, access_requests}
 use Rattle.dali_write.specs.Frames.{read_frames, write_frames}
-use Rattle.dali_write.specs.Plans.{Plan, Finish, Make, next_plan, plan_after, greatest, read_format, judge_length}
+use Rattle.dali_write.specs.Plans.{Plan, Finish, Make, next_plan, plan_after, read_format}
 use Rattle.dali_write.specs.Plans.{read_length, close, give_up, expect, read_back, read_lock, write_on, unlock, read_on}
+use Rattle.dali_write.specs.Plans.{read_block}
 use Rattle.dali_write.specs.Tries.{most_tries, Trying, Missed, Misses, Succeeds, Fails, AccessEnds, AccessesEnd}
 use Rattle.dali_write.specs.Tries.{plan_requests}
 use Rattle.dali_write.specs.Tries.{Stands}
@@ -21,13 +23,13 @@ use Rattle.dali_write.specs.Counts.{access_limit, TakesAtMost, frame_limit}
 use Rattle.dali_write.specs.Stages.{plan_of}
 use Rattle.dali_write.specs.Told.{Told}
 use Rattle.dali_write.proofs.ShapeLemmas.{trying_length}
+use Rattle.dali_write.proofs.BlockShapeLemmas.{block_frames_are}
 use Rattle.dali_write.proofs.PlanLemmas.{either_all, if_all}
 
 pub missed_length : (requests : List Request) (tried : List Exchange) → Missed requests tried
     → length tried ≤ length requests
 missed_length requests [] missed = absurd missed
-missed_length requests (x ∷ tried) missed =
-    let all = trying_length requests tried (request x.frame missed.0 ∷ missed.1) missed.3 in omega arith
+missed_length requests (x ∷ tried) missed = grind (arith, trying_length)
 
 suc_times : (n k : ℕ) → (suc n) * k ≡ k + n * k
 suc_times n k = omega arith
@@ -36,26 +38,24 @@ pub misses_length : (requests : List Request) (misses : ℕ) (told : List Exchan
     → length told ≤ misses * length requests
 misses_length requests zero told is = let none = ap (λ (t : List Exchange). length t) is in omega arith
 misses_length requests (suc misses) told is =
-    let newer = missed_length requests is.0 is.3 in
-    let older = misses_length requests misses is.1 is.4 in
-    let both = ap (λ (t : List Exchange). length t) is.2 in
-    let joined = length-append is.0 is.1 in
-    let times = suc_times misses (length requests) in
-    omega arith
+    grind (
+      arith,
+      missed_length requests is.0 is.3,
+      misses_length requests misses is.1 is.4,
+      length-append is.0 is.1,
+      suc_times misses (length requests),
+    )
 
 -- an access takes no more than its most tries of its requests
 pub times_most : (misses requests few more : ℕ) → misses < most_tries → more ≤ misses * requests → few ≤ requests
     → few + more ≤ most_tries * requests
-times_most misses requests few more below older newer =
-    let most : misses * requests ≤ (most_tries - 1) * requests =
-    mul-le misses requests (most_tries - 1) requests (omega arith) (omega arith) in
-    omega arith
+times_most misses requests few more below older newer = grind (arith, mul-le)
 
 limit_requests : (unit : ℕ) (access : Access) → access_limit access ≡ most_tries * length (access_requests unit access)
-limit_requests unit (ReadFrom location) = refl
+limit_requests unit (ReadFrom block) = omega (arith, block_frames_are 0 block, block_frames_are unit block)
 limit_requests unit (WriteTo location byte) = refl
 
-access_length : (unit : ℕ) (access : Access) (outcome : Option ℕ) (told : List Exchange)
+access_length : (unit : ℕ) (access : Access) (outcome : Option (List ℕ)) (told : List Exchange)
     → Succeeds (access_requests unit access) outcome told ⊎ Fails (access_requests unit access) outcome told
     → length told ≤ access_limit access
 access_length unit access outcome told (inl done) =
@@ -69,11 +69,16 @@ access_length unit access outcome told (inl done) =
     let most = times_most done.2 requests (length done.0) (length done.1) done.6 older newer in
     omega arith
 access_length unit access outcome told (inr failed) =
-    let all = misses_length (access_requests unit access) most_tries told failed.1 in
-    let limit = limit_requests unit access in
-    omega arith
+    grind (arith, misses_length (access_requests unit access) most_tries told failed.1, limit_requests unit access)
 
-one_takes : (unit : ℕ) (plan : Plan) (outcome : Option ℕ) (newer : List Exchange) (limit : ℕ)
+-- a read of a block takes no more
+pub block_length : (unit : ℕ) (block : Block) (outcome : Option (List ℕ)) (told : List Exchange)
+    → Succeeds (block_requests unit block) outcome told ⊎ Fails (block_requests unit block) outcome told
+    → length told ≤ most_tries * (block.count + 6)
+block_length unit block outcome told ends =
+    omega (arith, block_frames_are 0 block, access_length unit (ReadFrom block) outcome told ends)
+
+one_takes : (unit : ℕ) (plan : Plan) (outcome : Option (List ℕ)) (newer : List Exchange) (limit : ℕ)
     → AccessEnds unit plan outcome newer → TakesAtMost limit plan
     → (rest : ℕ) × TakesAtMost rest (next_plan plan outcome) × (length newer + rest ≤ limit)
 one_takes unit (Finish verdict) outcome newer limit ends takes = absurd ends
@@ -82,28 +87,19 @@ one_takes unit (Make access after) outcome newer limit ends takes =
     let le = takes.0 in
     (limit - access_limit access, takes.1 outcome, omega arith)
 
-accesses_take : (unit : ℕ) (plan : Plan) (outcomes : List (Option ℕ)) (told : List Exchange) (limit : ℕ)
+accesses_take : (unit : ℕ) (plan : Plan) (outcomes : List (Option (List ℕ))) (told : List Exchange) (limit : ℕ)
     → AccessesEnd unit plan outcomes told → TakesAtMost limit plan
     → (rest : ℕ) × TakesAtMost rest (plan_after plan outcomes) × (length told + rest ≤ limit)
-accesses_take unit plan [] told limit ends takes =
-    let none = ap (λ (t : List Exchange). length t) ends in (limit, takes, omega arith)
+accesses_take unit plan [] told limit ends takes = grind arith
 accesses_take unit plan (outcome ∷ outcomes) told limit ends takes =
-    let before = accesses_take unit plan outcomes ends.1 limit ends.4 takes in
-    let now = one_takes unit (plan_after plan outcomes) outcome ends.0 before.0 ends.3 before.1 in
-    let both = ap (λ (t : List Exchange). length t) ends.2 in
-    let joined = length-append ends.0 ends.1 in
-    let le1 = before.2 in
-    let le2 = now.2 in
-    (now.0, now.1, omega arith)
+    grind (arith, accesses_take unit plan outcomes ends.1 limit ends.4 takes, one_takes, length-append ends.0 ends.1)
 
 at_hand_takes : (unit : ℕ) (now : Plan) (misses : ℕ) (missed tried : List Exchange) (left : List Request) (rest : ℕ)
     → misses < most_tries
     → Misses (plan_requests unit now) misses missed → Trying (plan_requests unit now) tried left → TakesAtMost rest now
     → length tried + length missed ≤ rest
 at_hand_takes unit (Finish verdict) misses missed tried left rest few are try takes =
-    let newer = trying_length [] tried left try in
-    let older = misses_length [] misses missed are in
-    omega arith
+    grind (arith, trying_length [] tried left try, misses_length [] misses missed are)
 at_hand_takes unit (Make access after) misses missed tried left rest few are try takes =
     let requests = length (access_requests unit access) in
     let newer : length tried ≤ requests =
@@ -114,20 +110,12 @@ at_hand_takes unit (Make access after) misses missed tried left rest few are try
     let le = takes.0 in
     omega arith
 
-pub stands_takes : (unit : ℕ) (plan : Plan) (told : List Exchange) (now : Plan) (misses : ℕ) (left : List Request)
-    (byte : Option ℕ) (limit : ℕ)
-    → Stands unit plan told now misses left byte → TakesAtMost limit plan → length told ≤ limit
-stands_takes unit plan told now misses left byte limit s takes =
-    let before = accesses_take unit plan s.outcomes s.ended limit s.accesses takes in
-    let rest = before.0 in
-    let here =
-    at_hand_takes unit now misses s.missed s.tried left rest s.few s.misses_are s.try
-    (subst (λ (p : Plan). TakesAtMost rest p) s.now_is before.1) in
-    let all = ap (λ (t : List Exchange). length t) s.parts in
-    let one = length-append s.tried (s.missed ++ s.ended) in
-    let two = length-append s.missed s.ended in
-    let le = before.2 in
-    omega arith
+pub stands_takes : (unit : ℕ) (plan : Plan) (outcomes : List (Option (List ℕ))) (told : List Exchange) (now : Plan)
+    (misses : ℕ) (left : List Request)
+    (bytes : List ℕ) (limit : ℕ)
+    → Stands unit plan outcomes told now misses left bytes → TakesAtMost limit plan → length told ≤ limit
+stands_takes unit plan outcomes told now misses left bytes limit s takes =
+    grind (arith, accesses_take, at_hand_takes, length-append)
 
 -- the most frames of a checked read, of a checked write, and of a write and a read that lock the unit
 abbrev most_read : ℕ
@@ -141,24 +129,12 @@ most_close = most_write + most_read
 
 pub close_takes : (limit : ℕ) (answered unanswered : Verdict) → most_close ≤ limit
     → TakesAtMost limit (close answered unanswered)
-close_takes limit answered unanswered le = (
-  omega arith,
-  λ outcome. (
-    omega arith,
-    either_all (TakesAtMost (limit - most_write - most_read)) (Finish unanswered) (λ byte. Finish answered) tt
-        (λ byte. tt),
-  ),
-)
+close_takes limit answered unanswered le = grind (arith, either_all)
 
 expect_takes : (limit location byte : ℕ) (after : Plan) → most_read + most_close ≤ limit
     → TakesAtMost (limit - most_read) after
     → TakesAtMost limit (expect location byte after)
-expect_takes limit location byte after le takes =
-    let closes = close_takes (limit - most_read) _ _ (omega arith) in (
-      omega arith,
-      either_all (TakesAtMost (limit - most_read)) give_up (λ found. if found == byte then after else give_up) closes
-          (λ found. if_all (TakesAtMost (limit - most_read)) (found == byte) after give_up takes closes),
-    )
+expect_takes limit location byte after le takes = grind (arith, close_takes, either_all, if_all)
 
 read_back_takes : (limit : ℕ) (updates : List (ℕ × ℕ)) → length updates * most_read + most_close ≤ limit
     → TakesAtMost limit (read_back updates)
@@ -169,9 +145,7 @@ read_back_takes limit (update ∷ updates) le =
 
 read_lock_takes : (limit : ℕ) (updates : List (ℕ × ℕ)) → (length updates + 1) * most_read + most_close ≤ limit
     → TakesAtMost limit (read_lock updates)
-read_lock_takes limit updates le =
-    expect_takes limit 2 0xFF (read_back updates) (omega arith)
-    (read_back_takes (limit - most_read) updates (omega arith))
+read_lock_takes limit updates le = grind (arith, expect_takes, read_back_takes)
 
 write_on_takes : (limit : ℕ) (updates left : List (ℕ × ℕ))
     → (length left + 1) * most_write + (length updates + 1) * most_read + most_close ≤ limit
@@ -192,46 +166,33 @@ write_on_takes limit updates (update ∷ left) le = (
 pub unlock_takes : (limit : ℕ) (updates : List (ℕ × ℕ))
     → (length updates + 2) * most_write + (length updates + 1) * most_read + most_close ≤ limit
     → TakesAtMost limit (unlock updates)
-unlock_takes limit updates le = (
-  omega arith,
-  either_all (TakesAtMost (limit - most_write)) give_up (λ byte. write_on updates updates)
-      (close_takes (limit - most_write) _ _ (omega arith))
-      (λ byte. write_on_takes (limit - most_write) updates updates (omega arith)),
-)
+unlock_takes limit updates le = grind (arith, either_all, close_takes, write_on_takes)
 
 read_format_takes : TakesAtMost (2 * most_read) read_format
-read_format_takes = (
-  omega arith,
-  either_all (TakesAtMost most_read) _ _ tt (λ high. (omega arith, either_all (TakesAtMost 0) _ _ tt (λ low. tt))),
-)
+read_format_takes = grind (arith, either_all)
 
 pub read_length_takes : (updates : List (ℕ × ℕ)) → TakesAtMost (3 * most_read) (read_length updates)
-read_length_takes updates = (
-  omega arith,
-  either_all (TakesAtMost (2 * most_read)) _ (judge_length updates) tt
-      (λ last. if_all (TakesAtMost (2 * most_read)) (nat_lt last (greatest updates)) _ _ tt
-      (if_all (TakesAtMost (2 * most_read)) (nat_lt (greatest updates) 0x13) _ _ tt read_format_takes)),
-)
+read_length_takes updates = grind (arith, either_all, if_all, read_format_takes)
 
 read_on_takes : (limit location left : ℕ) → left * most_read ≤ limit → TakesAtMost limit (read_on location left)
 read_on_takes limit location zero le = tt
 read_on_takes limit location (suc left) le = (
   omega arith,
-  either_all (TakesAtMost (limit - most_read)) _ (λ byte. read_on (suc location) left) tt
-      (λ byte. read_on_takes (limit - most_read) (suc location) left (omega arith)),
+  either_all (TakesAtMost (limit - most_read)) _ _ tt
+      (λ bytes. read_on_takes (limit - most_read) (suc location) left (omega arith)),
 )
+
+pub block_takes : (block : Block) → TakesAtMost (access_limit (ReadFrom block)) (read_block block)
+block_takes block = (omega arith, either_all (TakesAtMost _) _ _ tt (λ bytes. tt))
 
 plan_takes : (task : Task) → TakesAtMost (frame_limit task) (plan_of task)
 plan_takes (Fresh order) = read_length_takes order.updates
 plan_takes (Opened order) = unlock_takes (frame_limit (Opened order)) order.updates (omega arith)
 plan_takes Closing = close_takes most_close _ _ (omega arith)
-plan_takes Reading = (
-  omega arith,
-  either_all (TakesAtMost (254 * most_read)) _ (λ last. read_on 1 (min last 0xFE)) tt
-      (λ last. read_on_takes (254 * most_read) 1 (min last 0xFE) (omega arith)),
-)
+plan_takes Reading = grind (arith, either_all, read_on_takes)
+plan_takes (ReadingBlock block) = block_takes block
 
 pub told_length : (told : List Exchange) (s : Session) → Told told s → length told ≤ frame_limit s.task
 unfolding Told
-told_length told s was = stands_takes _ (plan_of s.task) told _ _ _ _ (frame_limit s.task) was.stands
+told_length told s was = stands_takes _ (plan_of s.task) _ told _ _ _ _ (frame_limit s.task) was.stands
     (plan_takes s.task)

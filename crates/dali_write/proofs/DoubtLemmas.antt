@@ -1,6 +1,6 @@
 -- A session ends in doubt only because an access failed, or because a read found another byte.
 use Rattle.std.proofs.Common.{◌≡◌, ◌≢◌, ◌⊎◌, inl, inr, refl, sym, ap, ◌∙◌, ℕ, suc, Bool, true, false, ◌==◌}
-use Rattle.std.proofs.Common.{if◌then◌else◌, List, [], ◌∷◌, ◌++◌, append_assoc, append-nil, Option, Some, None, arith}
+use Rattle.std.proofs.Common.{if◌then◌else◌, List, [], ◌∷◌, ◌++◌, append_assoc, append-nil, get_or, Option, Some, None, arith}
 use Rattle.std.specs.List.{Contains}
 use Rattle.std.proofs.lemmas.Bool.{eq-eqb}
 use Rattle.dali_write.specs.Exchanges.{Exchange}
@@ -8,13 +8,14 @@ use Rattle.dali_write.specs.declared.access.Access.{Access}
 use Rattle.dali_write.specs.declared.access.Access.TheVariants.{ReadFrom, WriteTo}
 use Rattle.dali_write.specs.declared.ask.Verdict.TheVariants.{Doubt}
 use Rattle.dali_write.specs.declared.ask.Ask.TheVariants.{Ended}
-use Rattle.dali_write.specs.Requests.{read_requests}
+use Rattle.dali_write.specs.Requests.{block, read_requests}
 use Rattle.dali_write.specs.Plans.{Plan, Finish, Make, either_way, give_up, expect, read_back, read_lock, write_on}
 use Rattle.dali_write.specs.Plans.{unlock}
-use Rattle.dali_write.specs.Tries.{Succeeds, AccessEnds, Wants}
+use Rattle.dali_write.specs.Tries.{Succeeds, Fails, Wants}
 use Rattle.dali_write.specs.Walks.{Walk}
 use Rattle.dali_write.specs.Doubts.{HasFailed, read_backs, FoundAnother}
 use Rattle.dali_write.proofs.WalkLemmas.{ended_walk}
+use Rattle.dali_write.proofs.BlockOneLemmas.{access_tells_one}
 use Rattle.dali_write.proofs.GiveUpLemmas.{all_missed, failed_joined}
 
 -- why a session ended in doubt
@@ -24,12 +25,12 @@ Cause unit plan expected told = HasFailed unit told ⊎ FoundAnother unit plan e
 -- each walk of the plan that ended in doubt has a cause
 abbrev HasCause : ℕ → Plan → List (ℕ × ℕ) → Type 0
 HasCause unit plan expected =
-    (outcomes : List (Option ℕ)) (told : List Exchange) → Walk unit plan outcomes told (Finish Doubt)
+    (outcomes : List (Option (List ℕ))) (told : List Exchange) → Walk unit plan outcomes told (Finish Doubt)
     → Cause unit plan expected told
 
 -- the first access failed
-failed_first : (unit : ℕ) (access : Access) (after : Option ℕ → Plan) (expected : List (ℕ × ℕ))
-    (outcomes : List (Option ℕ))
+failed_first : (unit : ℕ) (access : Access) (after : Option (List ℕ) → Plan) (expected : List (ℕ × ℕ))
+    (outcomes : List (Option (List ℕ)))
     (told : List Exchange)
     → Walk unit (Make access after) (None ∷ outcomes) told (Finish Doubt) → Cause unit (Make access after) expected told
 failed_first unit access after expected outcomes told walk =
@@ -50,12 +51,12 @@ append_twice : (a b c d : List Exchange) → (a ++ (b ++ c)) ++ d ≡ a ++ (b ++
 append_twice a b c d = append_assoc a (b ++ c) d ∙ ap (λ (t : List Exchange). a ++ t) (append_assoc b c d)
 
 -- the cause came after the first access
-cause_later : (unit : ℕ) (access : Access) (after : Option ℕ → Plan) (expected : List (ℕ × ℕ)) (outcome : Option ℕ)
-    (outcomes : List (Option ℕ)) (told : List Exchange)
+cause_later : (unit : ℕ) (access : Access) (after : Option (List ℕ) → Plan) (expected : List (ℕ × ℕ))
+    (outcome : Option (List ℕ))
+    (outcomes : List (Option (List ℕ))) (told : List Exchange)
     (walk : Walk unit (Make access after) (outcome ∷ outcomes) told (Finish Doubt))
     → Cause unit (after outcome) expected walk.0 → Cause unit (Make access after) expected told
-cause_later unit access after expected outcome outcomes told walk (inl f) =
-    inl (failed_joined unit told walk.0 walk.1 walk.2 f)
+cause_later unit access after expected outcome outcomes told walk (inl f) = grind (arith, failed_joined)
 cause_later unit access after expected outcome outcomes told walk (inr f) =
     inr record {
       newer = f.newer;
@@ -75,12 +76,13 @@ cause_later unit access after expected outcome outcomes told walk (inr f) =
       gave_up = f.gave_up;
     }
 
--- an access with an outcome succeeded
-was_answered : (unit location found : ℕ) (after : Option ℕ → Plan) (told : List Exchange)
-    → AccessEnds unit (Make (ReadFrom location) after) (Some found) told
-    → Succeeds (read_requests unit location) (Some found) told
-was_answered unit location found after told (inl done) = done
-was_answered unit location found after told (inr failed) = let never = failed.0 in cc
+-- a read with an outcome succeeded, and told one byte
+was_answered : (unit location : ℕ) (bytes : List ℕ) (told : List Exchange)
+    → Succeeds (read_requests unit location) (Some bytes) told
+    ⊎ Fails (read_requests unit location) (Some bytes) told
+    → Succeeds (read_requests unit location) (Some (get_or bytes 0 0 ∷ [])) told
+was_answered unit location bytes told (inl done) = grind (arith, access_tells_one unit location bytes told (inl done))
+was_answered unit location bytes told (inr failed) = let never = failed.0 in cc
 
 -- a read of a location that must hold the byte
 expect_cause : (unit location byte : ℕ) (after : Plan) (expected : List (ℕ × ℕ)) → Contains expected (location, byte)
@@ -88,12 +90,12 @@ expect_cause : (unit location byte : ℕ) (after : Plan) (expected : List (ℕ �
     → HasCause unit (expect location byte after) expected
 expect_cause unit location byte after expected is rest [] told walk = let differs = walk.1 in cc
 expect_cause unit location byte after expected is rest (None ∷ outcomes) told walk =
-    failed_first unit (ReadFrom location) _ expected outcomes told walk
-expect_cause unit location byte after expected is rest (Some found ∷ outcomes) told walk =
+    failed_first unit (ReadFrom (block location 1)) _ expected outcomes told walk
+expect_cause unit location byte after expected is rest (Some bytes ∷ outcomes) told walk =
     finish (by (found == byte) refl walk.4)
   where
-    reads : Option ℕ → Plan
-    reads = either_way give_up (λ f. if f == byte then after else give_up)
+    found : ℕ
+    found = get_or bytes 0 0
 
     -- it went on, or gave up because the byte was another
     by : (t : Bool) → (found == byte) ≡ t
@@ -106,7 +108,10 @@ expect_cause unit location byte after expected is rest (Some found ∷ outcomes)
     finish : Cause unit (if found == byte then after else give_up) expected walk.0
         ⊎ ((found ≢ byte) × Walk unit give_up outcomes walk.0 (Finish Doubt))
         → Cause unit (expect location byte after) expected told
-    finish (inl cause) = cause_later unit (ReadFrom location) reads expected (Some found) outcomes told walk cause
+    finish (inl cause) =
+        cause_later unit (ReadFrom (block location 1))
+        (either_way give_up (λ l. if get_or l 0 0 == byte then after else give_up)) expected
+        (Some bytes) outcomes told walk cause
     finish (inr differs) =
         inr record {
           newer = walk.0;
@@ -120,7 +125,7 @@ expect_cause unit location byte after expected is rest (Some found ∷ outcomes)
           after = after;
           came = (refl, refl);
           found = found;
-          answered = was_answered unit location found reads walk.1 walk.3;
+          answered = was_answered unit location bytes walk.1 walk.3;
           another = differs.0;
           later = outcomes;
           gave_up = differs.1;
@@ -142,9 +147,7 @@ read_back_cause unit expected (update ∷ updates) all outcomes told walk =
     (read_back_cause unit expected updates (λ u is. all u (tail_in update u updates is))) outcomes told walk
 
 read_lock_cause : (unit : ℕ) (updates : List (ℕ × ℕ)) → HasCause unit (read_lock updates) (read_backs updates)
-read_lock_cause unit updates =
-    expect_cause unit 2 0xFF (read_back updates) (read_backs updates) (head_in (2, 0xFF) updates)
-    (read_back_cause unit (read_backs updates) updates (λ u is. tail_in (2, 0xFF) u updates is))
+read_lock_cause unit updates = search (arith, expect_cause, head_in (2, 0xFF) updates, read_back_cause, tail_in)
 
 -- a write, after which the session goes on or gives up
 write_cause : (unit location byte : ℕ) (after : Plan) (expected : List (ℕ × ℕ)) → HasCause unit after expected
@@ -168,5 +171,4 @@ unlock_cause unit updates =
 pub doubt_cause : (told : List Exchange) (unit : ℕ) (updates : List (ℕ × ℕ))
     → Wants unit (unlock updates) told (Ended Doubt)
     → HasFailed unit told ⊎ FoundAnother unit (unlock updates) (read_backs updates) told
-doubt_cause told unit updates wants =
-    let walk = ended_walk unit (unlock updates) told Doubt wants in unlock_cause unit updates walk.0 told walk.1
+doubt_cause told unit updates wants = search (arith, ended_walk unit (unlock updates) told Doubt wants, unlock_cause)

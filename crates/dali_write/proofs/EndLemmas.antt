@@ -9,7 +9,9 @@ use Rattle.dali_write.specs.declared.request.Wish.TheVariants.{Nothing, Exactly,
 use Rattle.dali_write.specs.Worlds.{Selects}
 use Rattle.dali_write.specs.Reads.{EndsInRead}
 use Rattle.dali_write.specs.Requests.{block, moved_on}
-use Rattle.dali_write.specs.Blocks.{read_answer, bytes_of, Tells}
+use Rattle.dali_write.specs.Requests.{read_answer}
+use Rattle.dali_write.specs.Tries.{bytes_of}
+use Rattle.dali_write.specs.Blocks.{Tells}
 use Rattle.dali_write.proofs.ShapeLemmas.{Got, selected}
 use Rattle.dali_write.proofs.BlockShapeLemmas.{AllReads, WasBlock}
 use Rattle.dali_write.proofs.BlockBytesLemmas.{ToldBlock, told_block}

@@ -1,7 +1,7 @@
 -- How many frames a session takes that looks at a bank, closes it or reads it.
 use Rattle.std.proofs.Common.{◌≡◌, ◌≢◌, inl, inr, refl, ap, ℕ, zero, suc, ◌+◌, ◌-◌, ◌*◌, ◌<◌, ◌≤◌, min, Bool, true}
 use Rattle.std.proofs.Common.{false, ◌==◌, ◌&&◌, nat_lt, if◌then◌else◌, List, [], ◌∷◌, length, length-append, Option}
-use Rattle.std.proofs.Common.{Some, None, arith}
+use Rattle.std.proofs.Common.{Some, None, get_or, arith}
 use Rattle.std.proofs.lemmas.Bool.{lt-ltb, le-ltb}
 use Rattle.dali_write.specs.Exchanges.{Exchange}
 use Rattle.dali_write.specs.declared.request.Request.{Request}
@@ -10,29 +10,29 @@ use Rattle.dali_write.specs.declared.access.Access.TheVariants.{ReadFrom, WriteT
 use Rattle.dali_write.specs.declared.ask.Verdict.{Verdict}
 use Rattle.dali_write.specs.declared.ask.Verdict.TheVariants.{MayOpen, Short, Format, Silent, Closed, NotClosed, Read}
 use Rattle.dali_write.specs.declared.ask.Ask.TheVariants.{Ended}
-use Rattle.dali_write.specs.Requests.{access_requests}
+use Rattle.dali_write.specs.Requests.{block, access_requests}
 use Rattle.dali_write.specs.Frames.{read_frames, write_frames, try_frames}
 use Rattle.dali_write.specs.Counts.{read_all_frames}
-use Rattle.dali_write.specs.Plans.{Plan, Finish, Make, either_way, greatest, read_format_low, read_format}
-use Rattle.dali_write.specs.Plans.{judge_length, read_length, read_closed, close, read_on, read_all}
-use Rattle.dali_write.specs.Tries.{most_tries, Missed, Misses, AccessEnds, Wants}
+use Rattle.dali_write.specs.Plans.{Plan, Finish, Make, either_way, greatest, read_at, read_format_low, read_format}
+use Rattle.dali_write.specs.Plans.{read_length, read_closed, close, read_on, read_all}
+use Rattle.dali_write.specs.Tries.{most_tries, Misses, AccessEnds, Wants}
 use Rattle.dali_write.specs.Walks.{Walk, access_misses, Took, TookAll}
 use Rattle.dali_write.proofs.WalkLemmas.{ended_walk}
 use Rattle.dali_write.proofs.CountLemmas.{misses_length}
-use Rattle.dali_write.proofs.ExactLemmas.{Frames, at_most, and_rest, access_first}
-use Rattle.dali_write.proofs.GiveUpLemmas.{has_byte}
+use Rattle.dali_write.proofs.ExactLemmas.{Frames, IsShort, and_rest, access_first}
+use Rattle.dali_write.proofs.BlockOneLemmas.{access_tells_one}
 use Rattle.dali_write.proofs.VerdictLemmas.{finish_walk}
 
 -- each walk of the plan to the verdict takes so many frames, and more only for misses
 abbrev Takes : ℕ → Plan → Verdict → ℕ → Type 0
 Takes unit plan verdict frames =
-    (outcomes : List (Option ℕ)) (told : List Exchange) (walk : Walk unit plan outcomes told (Finish verdict))
+    (outcomes : List (Option (List ℕ))) (told : List Exchange) (walk : Walk unit plan outcomes told (Finish verdict))
     → Frames unit plan outcomes told (Finish verdict) walk frames
 
 -- no walk of the plan leads to the verdict
 abbrev Never : ℕ → Plan → Verdict → Type 0
 Never unit plan verdict =
-    (outcomes : List (Option ℕ)) (told : List Exchange) → Walk unit plan outcomes told (Finish verdict) → ⊥
+    (outcomes : List (Option (List ℕ))) (told : List Exchange) → Walk unit plan outcomes told (Finish verdict) → ⊥
 
 takes_none : (unit : ℕ) (end verdict : Verdict) → Takes unit (Finish end) verdict 0
 takes_none unit end verdict [] told walk =
@@ -45,37 +45,33 @@ takes_any : (unit : ℕ) (plan : Plan) (verdict : Verdict) (frames : ℕ) → Ne
 takes_any unit plan verdict frames never outcomes told walk = absurd (never outcomes told walk)
 
 ends_not : (unit : ℕ) (end verdict : Verdict) → end ≢ verdict → Never unit (Finish end) verdict
-ends_not unit end verdict differs outcomes told walk =
-    let over = finish_walk unit end outcomes told (Finish verdict) walk in
-    let same = over.1 in
-    differs (let is : end ≡ verdict = cc in is)
+ends_not unit end verdict differs outcomes told walk = grind (arith, finish_walk)
 
 -- a read, after which the session goes on with the byte or is silent
 read_takes : (unit location : ℕ) (found : ℕ → Plan) (failed verdict : Verdict) (frames : ℕ) → failed ≢ verdict
     → ((byte : ℕ) → Takes unit (found byte) verdict frames)
-    → Takes unit (Make (ReadFrom location) (either_way (Finish failed) found)) verdict (read_frames + frames)
+    → Takes unit (read_at location (Finish failed) found) verdict (read_frames + frames)
 read_takes unit location found failed verdict frames differs rest [] told walk = let no = walk.1 in cc
-read_takes unit location found failed verdict frames differs rest (None ∷ outcomes) told walk =
-    absurd (ends_not unit failed verdict differs outcomes walk.0 walk.4)
-read_takes unit location found failed verdict frames differs rest (Some byte ∷ outcomes) told walk =
-    access_first unit (ReadFrom location) _ byte outcomes told (Finish verdict) walk frames (read_frames + frames) refl
-    (rest byte outcomes walk.0 walk.4)
+read_takes unit location found failed verdict frames differs rest (None ∷ outcomes) told walk = grind (arith, ends_not)
+read_takes unit location found failed verdict frames differs rest (Some bytes ∷ outcomes) told walk =
+    access_first unit (ReadFrom (block location 1)) _ bytes outcomes told (Finish verdict) walk frames
+    (read_frames + frames) (λ unit. omega arith) refl (rest _ outcomes walk.0 walk.4)
 
 read_never : (unit location : ℕ) (found : ℕ → Plan) (failed verdict : Verdict) → failed ≢ verdict
     → ((byte : ℕ) → Never unit (found byte) verdict)
-    → Never unit (Make (ReadFrom location) (either_way (Finish failed) found)) verdict
+    → Never unit (read_at location (Finish failed) found) verdict
 read_never unit location found failed verdict differs rest [] told walk = let no = walk.1 in cc
-read_never unit location found failed verdict differs rest (None ∷ outcomes) told walk =
-    ends_not unit failed verdict differs outcomes walk.0 walk.4
-read_never unit location found failed verdict differs rest (Some byte ∷ outcomes) told walk =
-    rest byte outcomes walk.0 walk.4
+read_never unit location found failed verdict differs rest (None ∷ outcomes) told walk = grind (arith, ends_not)
+read_never unit location found failed verdict differs rest (Some bytes ∷ outcomes) told walk = grind arith
 
 -- a fresh session
 
 format_takes : (unit : ℕ) (verdict : Verdict) → Silent ≢ verdict → Takes unit read_format verdict (2 * read_frames)
 format_takes unit verdict differs =
     read_takes unit 0x11 read_format_low Silent verdict read_frames differs
-    (λ high. read_takes unit 0x12 _ Silent verdict 0 differs (λ low. takes_none unit _ verdict))
+    (λ high. read_takes unit 0x12 (λ low. Finish (if (high == 0) && (low == 3) then MayOpen else Format)) Silent
+    verdict 0
+    differs (λ low. takes_none unit _ verdict))
 
 not_short : (b : Bool) → (if b then MayOpen else Format) ≢ Short
 not_short true = λ e. cc
@@ -104,8 +100,7 @@ judged_low unit false false is = cc
 
 judged_high : (unit : ℕ) (verdict : Verdict) (short below : Bool) → below ≡ false → Short ≢ verdict → Silent ≢ verdict
     → Takes unit (judged short below) verdict (2 * read_frames)
-judged_high unit verdict true below is one two =
-    takes_any unit (Finish Short) verdict _ (ends_not unit Short verdict one)
+judged_high unit verdict true below is one two = grind (arith, takes_any, ends_not)
 judged_high unit verdict false true is one two = cc
 judged_high unit verdict false false is one two = format_takes unit verdict two
 
@@ -117,9 +112,7 @@ judged_format unit false false = format_takes unit Format (λ e. cc)
 length_takes : (unit : ℕ) (updates : List (ℕ × ℕ)) (verdict : Verdict) (frames : ℕ) → Silent ≢ verdict
     → ((short : Bool) → Takes unit (judged short (nat_lt (greatest updates) 0x13)) verdict frames)
     → Takes unit (read_length updates) verdict (read_frames + frames)
-length_takes unit updates verdict frames differs rest =
-    read_takes unit 0 (judge_length updates) Silent verdict frames differs
-    (λ last. rest (nat_lt last (greatest updates)))
+length_takes unit updates verdict frames differs rest = search (arith, read_takes)
 
 took : (unit : ℕ) (plan : Plan) (told : List Exchange) (verdict : Verdict) (frames : ℕ) → Takes unit plan verdict frames
     → Wants unit plan told (Ended verdict)
@@ -168,26 +161,18 @@ misses_take : (requests : List Request) (misses : ℕ) (told : List Exchange) �
     → misses ≤ length told
 misses_take requests zero told is = omega arith
 misses_take requests (suc misses) told is =
-    let older = misses_take requests misses is.1 is.4 in
-    let both = ap (λ (t : List Exchange). length t) is.2 in
-    let joined = length-append is.0 is.1 in
-    let newer = one is.0 is.3 in
-    omega arith
-  where
-    one : (tried : List Exchange) → Missed requests tried → 1 ≤ length tried
-    one [] missed = absurd missed
-    one (x ∷ tried) missed = omega arith
+    grind (arith, misses_take requests misses is.1 is.4, length-append is.0 is.1)
 
 -- an access that failed took no fewer frames than a write that succeeds, and no more than its misses allow
-failed_frames : (unit : ℕ) (access : Access) (after : Option ℕ → Plan) (told : List Exchange)
-    (ends : AccessEnds unit (Make access after) None told)
+failed_frames : (unit : ℕ) (access : Access) (after : Option (List ℕ) → Plan) (told : List Exchange)
+    → IsShort access → (ends : AccessEnds unit (Make access after) None told)
     → (more : ℕ) × (length told ≡ write_frames + more)
     × (more ≤ try_frames * access_misses unit (Make access after) None told ends)
-failed_frames unit access after told (inl done) = absurd (has_byte unit access told done)
-failed_frames unit access after told (inr failed) =
+failed_frames unit access after told short (inl done) = let never = done.5 in cc
+failed_frames unit access after told short (inr failed) =
     let least = misses_take (access_requests unit access) most_tries told failed.1 in
     let most = misses_length (access_requests unit access) most_tries told failed.1 in
-    let requests = at_most unit access in
+    let requests = short unit in
     (length told - write_frames, omega arith, omega arith)
 
 close_takes : (unit : ℕ) → Takes unit (close Closed NotClosed) Closed (write_frames + read_frames)
@@ -195,19 +180,19 @@ close_takes unit [] told walk = let no = walk.1 in cc
 close_takes unit (None ∷ outcomes) told walk =
     and_rest unit (WriteTo 2 0xFF) _ None outcomes told (Finish Closed) walk write_frames read_frames
     (write_frames + read_frames)
-    (failed_frames unit (WriteTo 2 0xFF) (λ outcome. read_closed Closed NotClosed) walk.1 walk.3) refl
+    (failed_frames unit (WriteTo 2 0xFF) (λ outcome. read_closed Closed NotClosed) walk.1 (λ unit. omega arith) walk.3)
+    refl
     (read_takes unit 2 (λ byte. Finish Closed) NotClosed Closed 0 (λ e. cc) (λ byte. takes_none unit Closed Closed)
     outcomes walk.0 walk.4)
 close_takes unit (Some byte ∷ outcomes) told walk =
     access_first unit (WriteTo 2 0xFF) _ byte outcomes told (Finish Closed) walk read_frames
-    (write_frames + read_frames) refl
+    (write_frames + read_frames) (λ unit. omega arith) refl
     (read_takes unit 2 (λ byte. Finish Closed) NotClosed Closed 0 (λ e. cc) (λ byte. takes_none unit Closed Closed)
     outcomes walk.0 walk.4)
 
 pub closed_took : (told : List Exchange) (unit : ℕ) → Wants unit (close Closed NotClosed) told (Ended Closed)
     → Took unit (close Closed NotClosed) told Closed (write_frames + read_frames)
-closed_took told unit wants =
-    took unit (close Closed NotClosed) told Closed (write_frames + read_frames) (close_takes unit) wants
+closed_took told unit wants = grind (arith, took, close_takes)
 
 -- a reading session
 
@@ -222,19 +207,20 @@ read_on_takes unit location (suc left) outcomes told walk =
 pub read_took : (told : List Exchange) (unit : ℕ) → Wants unit read_all told (Ended Read) → TookAll unit told
 read_took told unit wants = let walk = ended_walk unit read_all told Read wants in by walk.0 walk.1
   where
-    by : (outcomes : List (Option ℕ)) → Walk unit read_all outcomes told (Finish Read) → TookAll unit told
+    by : (outcomes : List (Option (List ℕ))) → Walk unit read_all outcomes told (Finish Read) → TookAll unit told
     by [] walk = let no = walk.1 in cc
     by (None ∷ outcomes) walk = absurd (ends_not unit Silent Read (λ e. cc) outcomes walk.0 walk.4)
-    by (Some last ∷ outcomes) walk =
+    by (Some bytes ∷ outcomes) walk =
+        let last = get_or bytes 0 0 in
         let on = read_on_takes unit 1 (min last 0xFE) outcomes walk.0 walk.4 in
-        let reads = either_way (Finish Silent) (λ byte. read_on 1 (min byte 0xFE)) in
+        let reads = either_way (Finish Silent) (λ l. read_on 1 (min (get_or l 0 0) 0xFE)) in
         let all =
-        access_first unit (ReadFrom 0) reads last outcomes told (Finish Read) walk (min last 0xFE * read_frames)
-        (read_all_frames last) (omega arith) on in
+        access_first unit (ReadFrom (block 0 1)) reads bytes outcomes told (Finish Read) walk
+        (min last 0xFE * read_frames) (read_all_frames last) (λ unit. omega arith) (omega arith) on in
         record {
           last = last;
           rest = outcomes;
           took =
-              record { outcomes = Some last ∷ outcomes; walk = walk; more = all.more; took = all.took; few = all.few };
-          first = refl;
+              record { outcomes = Some bytes ∷ outcomes; walk = walk; more = all.more; took = all.took; few = all.few };
+          first = ap (λ (l : List ℕ). Some l ∷ outcomes) (access_tells_one unit 0 bytes walk.1 walk.3);
         }

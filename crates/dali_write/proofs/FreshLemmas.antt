@@ -1,99 +1,63 @@
--- What the verdict of a fresh session says of the world, and that reading is quiet.
-use Rattle.std.proofs.Common.{sym, subst, ℕ, zero, suc, min, nat_lt, List, [], ◌∷◌, ◌++◌, Option}
-use Rattle.std.specs.Prelude.{⊤}
+-- The sessions that read alone: each of their frames is calm.
+use Rattle.std.proofs.Common.{ℕ, zero, suc, min, nat_lt, ◌==◌, ◌&&◌, if◌then◌else◌, List, []}
+use Rattle.dali_frame.specs.declared.forward.Frame.{Frame}
 use Rattle.dali_bus.specs.World.{World}
+use Rattle.dali_bus.specs.Carry.{WorldStep}
 use Rattle.dali_write.specs.Exchanges.{Exchange}
-use Rattle.dali_write.specs.declared.access.Access.TheVariants.{ReadFrom, WriteTo}
 use Rattle.dali_write.specs.declared.ask.Ask.{Ask}
-use Rattle.dali_write.specs.declared.ask.Verdict.TheVariants.{MayOpen, Short, Silent}
-use Rattle.dali_write.specs.Plans.{Plan, Finish, Make, next_plan, plan_after, greatest, judge_length, read_format}
-use Rattle.dali_write.specs.Plans.{read_format_low, read_length, read_on, read_all}
-use Rattle.dali_write.specs.Tries.{AccessEnds, AccessesEnd, Wants, plan_requests}
+use Rattle.dali_write.specs.declared.ask.Ask.TheVariants.{Send}
+use Rattle.dali_write.specs.declared.ask.Verdict.TheVariants.{MayOpen, Short, Silent, Format, Read}
+use Rattle.dali_write.specs.declared.block.Block.{Block}
+use Rattle.dali_write.specs.Requests.{block}
+use Rattle.dali_write.specs.Plans.{Plan, Finish, greatest, judge_length, read_format, read_format_low, read_at}
+use Rattle.dali_write.specs.Plans.{read_length, read_on, read_all, read_block}
+use Rattle.dali_write.specs.Tries.{Wants}
+use Rattle.dali_write.specs.Guards.{IsGuarded}
 use Rattle.dali_write.specs.Worlds.{KeepsAt}
-use Rattle.dali_write.proofs.TruthLemmas.{AllQuiet, run_keeps}
-use Rattle.dali_write.proofs.VerdictLemmas.{read_access_quiet, both_quiet, misses_quiet, trying_quiet}
-use Rattle.dali_write.proofs.VerdictLemmas.{read_quiet_requests}
-use Rattle.dali_write.proofs.VerdictLemmas.{RequestsQuiet}
+use Rattle.dali_write.proofs.AskedLemmas.{IsCalm, PlanAsks, block_calm, calm_passive, wants_sent, wanted_asked}
 use Rattle.dali_write.proofs.PlanLemmas.{either_all, if_all}
 use Rattle.dali_write.proofs.RunLemmas.{Leads}
-use Rattle.dali_bus.specs.Carry.{WorldStep}
+use Rattle.dali_write.proofs.VerdictLemmas.{passive_keeps}
 
--- all accesses of the plan are reads
-OnlyReads : Plan → Type 0
-OnlyReads (Finish verdict) = ⊤
-OnlyReads (Make (ReadFrom location) after) = (outcome : Option ℕ) → OnlyReads (after outcome)
-OnlyReads (Make (WriteTo location byte) after) = ⊥
+abbrev pub Calm : ℕ → Plan → Type 0
+Calm unit plan = PlanAsks (IsCalm unit) unit plan
 
-access_quiet : (address unit : ℕ) (plan : Plan) (outcome : Option ℕ) (told : List Exchange) → OnlyReads plan
-    → AccessEnds unit plan outcome told
-    → AllQuiet address told × OnlyReads (next_plan plan outcome)
-unfolding OnlyReads
-access_quiet address unit (Finish verdict) outcome told reads ends = absurd ends
-access_quiet address unit (Make (ReadFrom location) after) outcome told reads ends =
-    (read_access_quiet address unit location after outcome told ends, reads outcome)
-access_quiet address unit (Make (WriteTo location byte) after) outcome told reads ends = absurd reads
+read_calm : (unit location : ℕ) (failed : Plan) (found : ℕ → Plan) → Calm unit failed
+    → ((byte : ℕ) → Calm unit (found byte)) → Calm unit (read_at location failed found)
+read_calm unit location failed found one two =
+    (block_calm unit (block location 1), either_all (Calm unit) failed _ one (λ bytes. two _))
 
-accesses_quiet : (address unit : ℕ) (plan : Plan) (outcomes : List (Option ℕ)) (told : List Exchange) → OnlyReads plan
-    → AccessesEnd unit plan outcomes told
-    → AllQuiet address told × OnlyReads (plan_after plan outcomes)
-accesses_quiet address unit plan [] told reads ends =
-    (subst (λ (t : List Exchange). AllQuiet address t) (sym ends) tt, reads)
-accesses_quiet address unit plan (outcome ∷ outcomes) told reads ends =
-    let before = accesses_quiet address unit plan outcomes ends.1 reads ends.4 in
-    let now = access_quiet address unit (plan_after plan outcomes) outcome ends.0 before.1 ends.3 in (
-      subst (λ (t : List Exchange). AllQuiet address t) (sym ends.2) (both_quiet address ends.0 ends.1 now.0 before.0),
-      now.1,
-    )
+pub length_calm : (unit : ℕ) (updates : List (ℕ × ℕ)) → Calm unit (read_length updates)
+length_calm unit updates =
+    read_calm unit 0 (Finish Silent) (judge_length updates) tt
+    (λ last. if_all (Calm unit) (nat_lt last (greatest updates)) (Finish Short) _ tt
+    (if_all (Calm unit) (nat_lt (greatest updates) 0x13) (Finish MayOpen) read_format tt
+    (read_calm unit 0x11 (Finish Silent) read_format_low tt
+    (λ high. read_calm unit 0x12 (Finish Silent)
+    (λ low. Finish (if (high == 0) && (low == 3) then MayOpen else Format)) tt (λ low. tt)))))
 
-requests_quiet : (address unit : ℕ) (plan : Plan) → OnlyReads plan → RequestsQuiet address (plan_requests unit plan)
-unfolding OnlyReads
-requests_quiet address unit (Finish verdict) reads = tt
-requests_quiet address unit (Make (ReadFrom location) after) reads = read_quiet_requests address unit location
-requests_quiet address unit (Make (WriteTo location byte) after) reads = absurd reads
+on_calm : (unit location left : ℕ) → Calm unit (read_on location left)
+on_calm unit location zero = tt
+on_calm unit location (suc left) =
+    read_calm unit location (Finish Silent) (λ byte. read_on (suc location) left) tt
+    (λ byte. on_calm unit (suc location) left)
 
-quiet_wants : {loses : ℕ → Type 0} (unit : ℕ) (plan : Plan) (told : List Exchange) (ask : Ask) (first last : World)
-    → OnlyReads plan
-    → Leads WorldStep loses told first last → Wants unit plan told ask
+pub all_calm : (unit : ℕ) → Calm unit read_all
+all_calm unit = read_calm unit 0 (Finish Silent) (λ last. read_on 1 (min last 0xFE)) tt
+    (λ last. on_calm unit 1 (min last 0xFE))
+
+pub one_calm : (unit : ℕ) (block : Block) → Calm unit (read_block block)
+one_calm unit block =
+    (block_calm unit block, either_all (Calm unit) (Finish Silent) (λ bytes. Finish Read) tt (λ bytes. tt))
+
+-- so they change no memory
+pub calm_quiet : {loses : ℕ → Type 0} (unit : ℕ) (plan : Plan) (told : List Exchange) (ask : Ask) (first last : World)
+    → Calm unit plan → Leads WorldStep loses told first last → Wants unit plan told ask
     → (address : ℕ) → KeepsAt loses first last address
-quiet_wants unit plan told ask first last reads run wants address =
-    let s = wants.stands in
-    let before = accesses_quiet address unit plan s.outcomes s.ended reads s.accesses in
-    let requests = requests_quiet address unit wants.now (subst (λ (p : Plan). OnlyReads p) s.now_is before.1) in
-    let missed = misses_quiet address (plan_requests unit wants.now) wants.misses s.missed requests s.misses_are in
-    let tried = (trying_quiet address (plan_requests unit wants.now) s.tried wants.left requests s.try).0 in
-    run_keeps told first last address
-    (subst (λ (t : List Exchange). AllQuiet address t) (sym s.parts)
-    (both_quiet address s.tried (s.missed ++ s.ended) tried (both_quiet address s.missed s.ended missed before.0)))
-    run
+calm_quiet unit plan told ask first last calm run wants =
+    passive_keeps told first last (calm_passive unit told (wants_sent (IsCalm unit) unit plan told ask calm wants)) run
 
-length_reads : (updates : List (ℕ × ℕ)) → OnlyReads (read_length updates)
-unfolding OnlyReads
-length_reads updates =
-    either_all OnlyReads (Finish Silent) (judge_length updates) tt
-    (λ last. if_all OnlyReads (nat_lt last (greatest updates)) (Finish Short) _ tt
-    (if_all OnlyReads (nat_lt (greatest updates) 0x13) (Finish MayOpen) read_format tt (either_all OnlyReads
-    (Finish Silent) read_format_low tt (λ high. either_all OnlyReads (Finish Silent) _ tt (λ low. tt)))))
-
-on_reads : (location left : ℕ) → OnlyReads (read_on location left)
-unfolding OnlyReads
-on_reads location zero = tt
-on_reads location (suc left) =
-    either_all OnlyReads (Finish Silent) (λ byte. read_on (suc location) left) tt (λ byte. on_reads (suc location) left)
-
-all_reads : OnlyReads read_all
-unfolding OnlyReads
-all_reads =
-    either_all OnlyReads (Finish Silent) (λ last. read_on 1 (min last 0xFE)) tt (λ last. on_reads 1 (min last 0xFE))
-
-pub fresh_quiet : {loses : ℕ → Type 0} (told : List Exchange) (first last : World) (unit : ℕ) (updates : List (ℕ × ℕ))
-    (ask : Ask)
-    → Leads WorldStep loses told first last → Wants unit (read_length updates) told ask
-    → (address : ℕ) → KeepsAt loses first last address
-fresh_quiet told first last unit updates ask run wants =
-    quiet_wants unit (read_length updates) told ask first last (length_reads updates) run wants
-
-pub reading_quiet : {loses : ℕ → Type 0} (told : List Exchange) (first last : World) (unit : ℕ) (ask : Ask)
-    → Leads WorldStep loses told first last
-    → Wants unit read_all told ask
-    → (address : ℕ) → KeepsAt loses first last address
-reading_quiet told first last unit ask run wants = quiet_wants unit read_all told ask first last all_reads run wants
+-- and what they want is guarded
+pub calm_guarded : (unit : ℕ) (plan : Plan) (told : List Exchange) (frame : Frame) → Calm unit plan
+    → Wants unit plan told (Send frame) → IsGuarded [] unit told frame
+calm_guarded unit plan told frame calm wants = (wanted_asked (IsCalm unit) unit plan told frame calm wants).1 [] told

@@ -1,6 +1,6 @@
 -- What the verdict of a fresh session rests on.
 use Rattle.std.proofs.Common.{◌≡◌, refl, sym, subst, ℕ, ◌≤◌, Bool, true, false, ◌==◌, ◌&&◌, nat_lt, if◌then◌else◌, List}
-use Rattle.std.proofs.Common.{[], ◌∷◌, Option, Some, None, arith}
+use Rattle.std.proofs.Common.{[], ◌∷◌, get_or, Option, Some, None, arith}
 use Rattle.std.proofs.lemmas.Bool.{eqb-true, ltb-true, ltb-false}
 use Rattle.std.proofs.lemmas.List.{append-nil}
 use Rattle.std.specs.Cmp.{first_so, second_so}
@@ -9,8 +9,9 @@ use Rattle.dali_write.specs.declared.ask.Ask.TheVariants.{Ended}
 use Rattle.dali_write.specs.declared.ask.Verdict.{Verdict}
 use Rattle.dali_write.specs.declared.ask.Verdict.TheVariants.{MayOpen, Short, Format, Silent}
 use Rattle.dali_write.specs.Findings.{Rests}
-use Rattle.dali_write.specs.Plans.{Finish, either_way, greatest, judge_length, read_format, read_format_low}
+use Rattle.dali_write.specs.Plans.{Finish, greatest, read_format, read_format_low}
 use Rattle.dali_write.specs.Plans.{read_length}
+use Rattle.dali_write.specs.Requests.{block}
 use Rattle.dali_write.specs.Tries.{Wants}
 use Rattle.dali_write.specs.Reads.{StillRead}
 use Rattle.dali_write.specs.Walks.{Walk}
@@ -19,45 +20,39 @@ use Rattle.dali_write.proofs.VerdictLemmas.{finish_walk}
 use Rattle.dali_write.proofs.RestLemmas.{After, split, read_access_shows, read_access_keeps, shows_kept}
 
 no_match : (high low : ℕ) → ((high == 0) && (low == 3)) ≡ false → (high ≡ 0) × (low ≡ 3) → ⊥
-no_match high low differs both =
-    let e = subst (λ (h : ℕ). ((h == 0) && (low == 3)) ≡ false) both.0 differs in
-    let f = subst (λ (l : ℕ). ((0 == 0) && (l == 3)) ≡ false) both.1 e in cc
+no_match high low differs both = grind arith
 
 ends_silent : (unit : ℕ) (updates : List (ℕ × ℕ)) (verdict : Verdict) (last : List Exchange)
-    (outcomes : List (Option ℕ)) (told : List Exchange)
+    (outcomes : List (Option (List ℕ))) (told : List Exchange)
     → Walk unit (Finish Silent) outcomes told (Finish verdict) → Rests (StillRead last unit) updates verdict
-ends_silent unit updates verdict last outcomes told walk =
-    let end = finish_walk unit Silent outcomes told (Finish verdict) walk in
-    let same = end.1 in
-    let is : Silent ≡ verdict = cc in
-    subst (λ (v : Verdict). Rests (StillRead last unit) updates v) is tt
+ends_silent unit updates verdict last outcomes told walk = grind (arith, finish_walk)
 
 -- it ended at once, in the same world
-ends_here : (unit : ℕ) (end verdict : Verdict) (first last : List Exchange) (outcomes : List (Option ℕ))
+ends_here : (unit : ℕ) (end verdict : Verdict) (first last : List Exchange) (outcomes : List (Option (List ℕ)))
     (told : List Exchange)
     → Walk unit (Finish end) outcomes told (Finish verdict) → After told first last → (end ≡ verdict) × (last ≡ first)
-ends_here unit end verdict first last outcomes told walk run =
-    let over = finish_walk unit end outcomes told (Finish verdict) walk in
-    let same = over.1 in
-    (cc, subst (λ (t : List Exchange). After t first last) over.0 run)
+ends_here unit end verdict first last outcomes told walk run = grind (arith, finish_walk)
 
 format_low_rests : (unit : ℕ) (updates : List (ℕ × ℕ)) (length high : ℕ) (verdict : Verdict)
-    (outcomes : List (Option ℕ)) (told : List Exchange) (first last : List Exchange)
+    (outcomes : List (Option (List ℕ))) (told : List Exchange) (first last : List Exchange)
     → StillRead first unit 0 length → greatest updates ≤ length → 0x13 ≤ greatest updates
     → StillRead first unit 0x11 high
     → Walk unit (read_format_low high) outcomes told (Finish verdict) → After told first last
     → Rests (StillRead last unit) updates verdict
-format_low_rests unit updates length high verdict [] told first last size fits long shows walk run =
-    let no = walk.1 in cc
+format_low_rests unit updates length high verdict [] told first last size fits long shows walk run = grind arith
 format_low_rests unit updates length high verdict (None ∷ outcomes) told first last size fits long shows walk run =
     ends_silent unit updates verdict last outcomes walk.0 walk.4
-format_low_rests unit updates length high verdict (Some low ∷ outcomes) told first last size fits long shows walk run =
+format_low_rests unit updates length high verdict
+    (Some bytes ∷ outcomes) told first last size fits long shows walk run =
     let parts = split walk.0 walk.1 first last (subst (λ (t : List Exchange). After t first last) walk.2 run) in
-    let after = either_way (Finish Silent) (λ l. Finish (if (high == 0) && (l == 3) then MayOpen else Format)) in
-    let low_is = read_access_shows unit 0x12 low after walk.1 first parts.0 walk.3 parts.1 in
-    let keeps = read_access_keeps unit 0x12 after (Some low) walk.1 first parts.0 walk.3 parts.1 in
+    let low_is = read_access_shows unit 0x12 bytes walk.1 first parts.0 walk.3 parts.1 in
+    let keeps = read_access_keeps unit (block 0x12 1) (Some bytes) walk.1 first parts.0 walk.3 parts.1 in
     by parts.0 parts.2 (shows_kept first parts.0 unit 0 length size keeps)
-    (shows_kept first parts.0 unit 0x11 high shows keeps) low_is ((high == 0) && (low == 3)) refl walk.4 where
+    (shows_kept first parts.0 unit 0x11 high shows keeps) low_is
+    ((high == 0) && (get_or bytes 0 0 == 3)) refl walk.4 where
+      low : ℕ
+      low = get_or bytes 0 0
+
       by : (mid : List Exchange) → After walk.0 mid last → StillRead mid unit 0 length → StillRead mid unit 0x11 high
           → StillRead mid unit 0x12 low
           → (t : Bool) → ((high == 0) && (low == 3)) ≡ t
@@ -83,7 +78,7 @@ format_low_rests unit updates length high verdict (Some low ∷ outcomes) told f
           (subst (λ (w : List Exchange). Rests (StillRead w unit) updates Format) (sym over.1)
           (high, low, high_is, low_is, long, no_match high low differs))
 
-format_rests : (unit : ℕ) (updates : List (ℕ × ℕ)) (length : ℕ) (verdict : Verdict) (outcomes : List (Option ℕ))
+format_rests : (unit : ℕ) (updates : List (ℕ × ℕ)) (length : ℕ) (verdict : Verdict) (outcomes : List (Option (List ℕ)))
     (told : List Exchange) (first last : List Exchange)
     → StillRead first unit 0 length → greatest updates ≤ length → 0x13 ≤ greatest updates
     → Walk unit read_format outcomes told (Finish verdict) → After told first last
@@ -91,28 +86,27 @@ format_rests : (unit : ℕ) (updates : List (ℕ × ℕ)) (length : ℕ) (verdic
 format_rests unit updates length verdict [] told first last size fits long walk run = let no = walk.1 in cc
 format_rests unit updates length verdict (None ∷ outcomes) told first last size fits long walk run =
     ends_silent unit updates verdict last outcomes walk.0 walk.4
-format_rests unit updates length verdict (Some high ∷ outcomes) told first last size fits long walk run =
+format_rests unit updates length verdict (Some bytes ∷ outcomes) told first last size fits long walk run =
     let parts = split walk.0 walk.1 first last (subst (λ (t : List Exchange). After t first last) walk.2 run) in
-    let after = either_way (Finish Silent) read_format_low in
-    let high_is = read_access_shows unit 0x11 high after walk.1 first parts.0 walk.3 parts.1 in
-    let keeps = read_access_keeps unit 0x11 after (Some high) walk.1 first parts.0 walk.3 parts.1 in
-    format_low_rests unit updates length high verdict outcomes walk.0 parts.0 last
+    let high_is = read_access_shows unit 0x11 bytes walk.1 first parts.0 walk.3 parts.1 in
+    let keeps = read_access_keeps unit (block 0x11 1) (Some bytes) walk.1 first parts.0 walk.3 parts.1 in
+    format_low_rests unit updates length (get_or bytes 0 0) verdict outcomes walk.0 parts.0 last
     (shows_kept first parts.0 unit 0 length size keeps) fits long high_is walk.4 parts.2
 
-length_rests : (unit : ℕ) (updates : List (ℕ × ℕ)) (verdict : Verdict) (outcomes : List (Option ℕ))
+length_rests : (unit : ℕ) (updates : List (ℕ × ℕ)) (verdict : Verdict) (outcomes : List (Option (List ℕ)))
     (told : List Exchange) (first last : List Exchange)
     → Walk unit (read_length updates) outcomes told (Finish verdict) → After told first last
     → Rests (StillRead last unit) updates verdict
 length_rests unit updates verdict [] told first last walk run = let no = walk.1 in cc
-length_rests unit updates verdict (None ∷ outcomes) told first last walk run =
-    ends_silent unit updates verdict last outcomes walk.0 walk.4
-length_rests unit updates verdict (Some length ∷ outcomes) told first last walk run =
+length_rests unit updates verdict (None ∷ outcomes) told first last walk run = grind (arith, ends_silent)
+length_rests unit updates verdict (Some bytes ∷ outcomes) told first last walk run =
     let parts = split walk.0 walk.1 first last (subst (λ (t : List Exchange). After t first last) walk.2 run) in
-    let size_is =
-    read_access_shows unit 0 length (either_way (Finish Silent) (judge_length updates)) walk.1 first parts.0
-    walk.3 parts.1 in
-    by parts.0 parts.2 size_is (nat_lt length (greatest updates)) refl (nat_lt (greatest updates) 0x13)
+    let size_is = read_access_shows unit 0 bytes walk.1 first parts.0 walk.3 parts.1 in
+    by parts.0 parts.2 size_is (nat_lt (get_or bytes 0 0) (greatest updates)) refl (nat_lt (greatest updates) 0x13)
     refl walk.4 where
+      length : ℕ
+      length = get_or bytes 0 0
+
       by : (mid : List Exchange) → After walk.0 mid last → StillRead mid unit 0 length → (s : Bool)
           → nat_lt length (greatest updates) ≡ s → (t : Bool) → nat_lt (greatest updates) 0x13 ≡ t
           → Walk unit (if s then Finish Short else (if t then Finish MayOpen else read_format)) outcomes walk.0
@@ -136,5 +130,4 @@ length_rests unit updates verdict (Some length ∷ outcomes) told first last wal
 pub fresh_rests : (told : List Exchange) (unit : ℕ) (updates : List (ℕ × ℕ)) (verdict : Verdict)
     → Wants unit (read_length updates) told (Ended verdict) → Rests (StillRead told unit) updates verdict
 fresh_rests told unit updates verdict wants =
-    let ended = ended_walk unit (read_length updates) told verdict wants in
-    length_rests unit updates verdict ended.0 told [] told ended.1 (sym (append-nil told))
+    grind (arith, ended_walk unit (read_length updates) told verdict wants, length_rests, append-nil told)

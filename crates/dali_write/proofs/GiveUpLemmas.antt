@@ -2,7 +2,7 @@
 use Rattle.std.proofs.Common.{◌≡◌, ◌⊎◌, inl, inr, refl, sym, ap, subst, ◌∙◌, ℕ, zero, suc, min, Bool, true, false, ◌==◌}
 use Rattle.std.specs.Prelude.{⊤}
 use Rattle.std.proofs.Common.{◌&&◌, nat_lt, if◌then◌else◌, List, [], ◌∷◌, ◌++◌, append_assoc, append-nil, Option, Some}
-use Rattle.std.proofs.Common.{None, IsSome}
+use Rattle.std.proofs.Common.{None, get_or}
 use Rattle.dali_write.specs.Exchanges.{Exchange}
 use Rattle.dali_write.specs.declared.access.Access.{Access}
 use Rattle.dali_write.specs.declared.ask.Verdict.{Verdict}
@@ -12,45 +12,17 @@ use Rattle.dali_write.specs.declared.ask.Ask.TheVariants.{Ended}
 use Rattle.dali_write.specs.Plans.{Plan, Finish, Make, greatest, read_format, read_length, close, give_up, expect}
 use Rattle.dali_write.specs.Plans.{read_back, write_on, unlock, read_on, read_all}
 use Rattle.dali_write.specs.declared.access.Access.TheVariants.{ReadFrom, WriteTo}
-use Rattle.dali_write.specs.declared.request.Request.{Request}
-use Rattle.dali_write.specs.Requests.{Meets, request, access_requests, byte_after}
-use Rattle.dali_write.specs.Tries.{most_tries, Trying, Misses, byte_of, Succeeds, AccessEnds, Wants}
+use Rattle.dali_write.specs.Requests.{block, access_requests}
+use Rattle.dali_write.specs.Tries.{most_tries, Misses, AccessEnds, Wants}
 use Rattle.dali_write.specs.Doubts.{EndsInFailure, HasFailed, EndsUnread, EndsUnlooked}
 use Rattle.dali_write.specs.Walks.{Walk}
 use Rattle.dali_write.proofs.WalkLemmas.{ended_walk}
 use Rattle.dali_write.proofs.PlanLemmas.{if_all}
 
--- whatever answers meet these requests, there is a byte after them
-abbrev EndsWithByte : Option ℕ → List Request → Type 0
-EndsWithByte byte [] = IsSome byte
-EndsWithByte byte (next ∷ left) =
-    (answer : Option ℕ) → Meets next.wish answer → EndsWithByte (byte_after next.frame answer byte) left
-
-ends_with_byte : (unit : ℕ) (access : Access) → EndsWithByte None (access_requests unit access)
-ends_with_byte unit (ReadFrom location) = λ a1 m1 a2 m2 a3 m3 a4 m4 a5 meets a6 m6 a7 m7. meets
-ends_with_byte unit (WriteTo location b) = λ a1 m1 a2 m2 a3 m3 a4 m4 a5 m5 a6 m6 a7 meets. rw meets refl
-
-tried_byte : (requests : List Request) (tried : List Exchange) (left : List Request) → EndsWithByte None requests
-    → Trying requests tried left → EndsWithByte (byte_of tried) left
-tried_byte requests [] left ends try = subst (λ (l : List Request). EndsWithByte None l) (sym try) ends
-tried_byte requests (x ∷ tried) left ends try =
-    tried_byte requests tried (request x.frame try.0 ∷ left) ends try.2 x.answer try.1
-
-not_both : (byte : Option ℕ) → None ≡ byte → IsSome byte → ⊥
-not_both None none some = cc
-not_both (Some byte) none some = cc
-
--- an access that succeeded has a byte
-pub has_byte : (unit : ℕ) (access : Access) (told : List Exchange) → Succeeds (access_requests unit access) None told
-    → ⊥
-has_byte unit access told done =
-    let some = tried_byte (access_requests unit access) done.0 [] (ends_with_byte unit access) done.4 in
-    not_both (byte_of done.0) done.5 some
-
--- an access without a byte failed: it missed in each of its tries
-pub all_missed : (unit : ℕ) (access : Access) (after : Option ℕ → Plan) (told : List Exchange)
+-- an access without an outcome failed: it missed in each of its tries
+pub all_missed : (unit : ℕ) (access : Access) (after : Option (List ℕ) → Plan) (told : List Exchange)
     → AccessEnds unit (Make access after) None told → Misses (access_requests unit access) most_tries told
-all_missed unit access after told (inl done) = absurd (has_byte unit access told done)
+all_missed unit access after told (inl done) = let never = done.5 in cc
 all_missed unit access after told (inr failed) = failed.1
 
 -- there was an access just before, and it is one of these
@@ -63,7 +35,7 @@ WasOne P (Some access) = P access
 abbrev Late : (Access → Type 0) → Verdict → Option Access → Plan → Type 0
 Late P verdict failed (Finish v) = v ≡ verdict → WasOne P failed
 Late P verdict failed (Make access after) =
-    Late P verdict (Some access) (after None) × ((byte : ℕ) → Late P verdict None (after (Some byte)))
+    Late P verdict (Some access) (after None) × ((bytes : List ℕ) → Late P verdict None (after (Some bytes)))
 
 -- the newest frames are those of the access that failed just before, if one did
 abbrev JustFailed : ℕ → Option Access → List Exchange → Type 0
@@ -80,7 +52,7 @@ failed_last P unit None told was just = absurd was
 failed_last P unit (Some access) told was just = (access, was, just)
 
 late_walk : (P : Access → Type 0) (verdict : Verdict) (unit : ℕ) (failed : Option Access) (plan : Plan)
-    (outcomes : List (Option ℕ)) (told older : List Exchange)
+    (outcomes : List (Option (List ℕ))) (told older : List Exchange)
     → Late P verdict failed plan → JustFailed unit failed older → Walk unit plan outcomes told (Finish verdict)
     → FailedOf P unit (told ++ older)
 late_walk P verdict unit failed (Finish v) [] told older late just walk =
@@ -108,9 +80,13 @@ only : (access : Access) (unit : ℕ) (told : List Exchange) → FailedOf (λ s.
     → EndsInFailure unit access told
 only access unit told of = subst (λ (s : Access). EndsInFailure unit s told) of.1 of.2
 
+-- a checked read of the location
+abbrev IsRead : ℕ → Access → Type 0
+IsRead location access = access ≡ ReadFrom (block location 1)
+
 -- a read of the length or of the content format
 abbrev IsLook : Access → Type 0
-IsLook access = (access ≡ ReadFrom 0x00) ⊎ (access ≡ ReadFrom 0x11) ⊎ (access ≡ ReadFrom 0x12)
+IsLook access = IsRead 0x00 access ⊎ IsRead 0x11 access ⊎ IsRead 0x12 access
 
 one_look : (unit : ℕ) (told : List Exchange) → FailedOf IsLook unit told → EndsUnlooked unit told
 one_look unit told (access, inl is, f) = inl (subst (λ (s : Access). EndsInFailure unit s told) is f)
@@ -122,13 +98,14 @@ suits_not_silent true = λ e. cc
 suits_not_silent false = λ e. cc
 
 format_late : Late IsLook Silent None read_format
-format_late = (λ e. inr (inl refl), λ high. (λ e. inr (inr refl), λ low. suits_not_silent ((high == 0) && (low == 3))))
+format_late = (λ e. inr (inl refl), λ high.
+    (λ e. inr (inr refl), λ low. suits_not_silent ((get_or high 0 0 == 0) && (get_or low 0 0 == 3))))
 
 length_late : (updates : List (ℕ × ℕ)) → Late IsLook Silent None (read_length updates)
 length_late updates = (
   λ e. inl refl,
   λ last.
-      if_all (Late IsLook Silent None) (nat_lt last (greatest updates)) (Finish Short) _ (λ e. cc)
+      if_all (Late IsLook Silent None) (nat_lt (get_or last 0 0) (greatest updates)) (Finish Short) _ (λ e. cc)
       (if_all (Late IsLook Silent None) (nat_lt (greatest updates) 0x13) (Finish MayOpen) read_format
       (λ e. cc) format_late),
 )
@@ -138,12 +115,8 @@ pub fresh_late : (told : List Exchange) (unit : ℕ) (updates : List (ℕ × ℕ
 fresh_late told unit updates wants =
     one_look unit told (late IsLook unit (read_length updates) told Silent (length_late updates) wants)
 
--- a read of the lock byte
-abbrev LockRead : Access → Type 0
-LockRead access = access ≡ ReadFrom 0x02
-
 abbrev LateDoubt : Option Access → Plan → Type 0
-LateDoubt = Late LockRead DoubtOpen
+LateDoubt = Late (IsRead 0x02) DoubtOpen
 
 give_up_late : (failed : Option Access) → LateDoubt failed give_up
 give_up_late failed = ((λ e. refl, λ read e. cc), λ written. (λ e. refl, λ read e. cc))
@@ -151,8 +124,8 @@ give_up_late failed = ((λ e. refl, λ read e. cc), λ written. (λ e. refl, λ 
 expect_late : (failed : Option Access) (location byte : ℕ) (after : Plan) → LateDoubt None after
     → LateDoubt failed (expect location byte after)
 expect_late failed location byte after is = (
-  give_up_late (Some (ReadFrom location)),
-  λ found. if_all (LateDoubt None) (found == byte) after give_up is (give_up_late None),
+  give_up_late (Some (ReadFrom (block location 1))),
+  λ found. if_all (LateDoubt None) (get_or found 0 0 == byte) after give_up is (give_up_late None),
 )
 
 read_back_late : (updates : List (ℕ × ℕ)) → LateDoubt None (read_back updates)
@@ -168,29 +141,30 @@ write_on_late updates (update ∷ left) =
 pub opened_late : (told : List Exchange) (unit : ℕ) (updates : List (ℕ × ℕ))
     → Wants unit (unlock updates) told (Ended DoubtOpen) → EndsUnread unit 0x02 told
 opened_late told unit updates wants =
-    only (ReadFrom 0x02) unit told
-    (late LockRead unit (unlock updates) told DoubtOpen
+    only (ReadFrom (block 0x02 1)) unit told
+    (late (IsRead 0x02) unit (unlock updates) told DoubtOpen
     (give_up_late (Some (WriteTo 2 0x55)), λ byte. write_on_late updates updates) wants)
 
 pub closing_late : (told : List Exchange) (unit : ℕ) → Wants unit (close Closed NotClosed) told (Ended NotClosed)
     → EndsUnread unit 0x02 told
 closing_late told unit wants =
-    only (ReadFrom 0x02) unit told
-    (late LockRead unit (close Closed NotClosed) told NotClosed
+    only (ReadFrom (block 0x02 1)) unit told
+    (late (IsRead 0x02) unit (close Closed NotClosed) told NotClosed
     ((λ e. refl, λ read e. cc), λ written. (λ e. refl, λ read e. cc)) wants)
 
 -- a read of some location
-abbrev IsRead : Access → Type 0
-IsRead access = (location : ℕ) × (access ≡ ReadFrom location)
+abbrev IsSome : Access → Type 0
+IsSome access = (location : ℕ) × IsRead location access
 
-read_on_late : (location left : ℕ) → Late IsRead Silent None (read_on location left)
+read_on_late : (location left : ℕ) → Late IsSome Silent None (read_on location left)
 read_on_late location zero = λ e. cc
 read_on_late location (suc left) = (λ e. (location, refl), λ byte. read_on_late (suc location) left)
 
 pub reading_late : (told : List Exchange) (unit : ℕ) → Wants unit read_all told (Ended Silent)
     → (location : ℕ) × EndsUnread unit location told
 reading_late told unit wants =
-    let of = late IsRead unit read_all told Silent (λ e. (0, refl), λ last. read_on_late 1 (min last 0xFE)) wants in
+    let of = late IsSome unit read_all told Silent
+        (λ e. (0, refl), λ last. read_on_late 1 (min (get_or last 0 0) 0xFE)) wants in
     (of.1.0, subst (λ (s : Access). EndsInFailure unit s told) of.1.1 of.2)
 
 -- with older frames before
@@ -207,7 +181,8 @@ failure_joined unit access sent told older parts f =
 
 pub unread_joined : (unit location : ℕ) (sent told older : List Exchange) → sent ≡ told ++ older
     → EndsUnread unit location told → EndsUnread unit location sent
-unread_joined unit location sent told older parts f = failure_joined unit (ReadFrom location) sent told older parts f
+unread_joined unit location sent told older parts f = failure_joined unit
+    (ReadFrom (block location 1)) sent told older parts f
 
 pub unlooked_joined : (unit : ℕ) (sent told older : List Exchange) → sent ≡ told ++ older → EndsUnlooked unit told
     → EndsUnlooked unit sent

@@ -1,27 +1,33 @@
 -- The frames that a session wants are guarded.
-use Rattle.std.proofs.Common.{◌≡◌, refl, sym, ap, subst, ◌∙◌, inl, ℕ, zero, suc, min, nat_lt, List, [], ◌∷◌, ◌++◌}
+use Rattle.std.proofs.Common.{◌≡◌, refl, ap, ◌∙◌, inl, inr, ℕ, List, [], ◌∷◌, ◌++◌}
 use Rattle.std.proofs.Common.{append_assoc, Option, Some, arith}
+use Rattle.std.specs.Prelude.{⊤, slice_get}
 use Rattle.dali_frame.specs.declared.forward.Frame.{Frame}
 use Rattle.dali_frame.specs.declared.forward.Frame.TheVariants.{Dtr0, Dtr1, Dtr2, Write, WriteSilent, Enable, AskDtr0}
 use Rattle.dali_frame.specs.declared.forward.Frame.TheVariants.{AskDtr1, AskDtr2, Read, Other}
 use Rattle.dali_write.specs.Exchanges.{Exchange}
 use Rattle.dali_write.specs.declared.request.Request.{Request}
 use Rattle.dali_write.specs.declared.request.Wish.{Wish}
-use Rattle.dali_write.specs.declared.request.Wish.TheVariants.{Nothing, Exactly}
+use Rattle.dali_write.specs.declared.request.Wish.TheVariants.{Exactly}
 use Rattle.dali_write.specs.declared.access.Access.TheVariants.{ReadFrom, WriteTo}
 use Rattle.dali_write.specs.declared.ask.Ask.TheVariants.{Send}
-use Rattle.dali_write.specs.declared.ask.Verdict.TheVariants.{MayOpen, Short, Silent, Closed, NotClosed}
-use Rattle.dali_write.specs.Requests.{request, select_requests, read_requests, write_requests}
-use Rattle.dali_write.specs.Plans.{Plan, Finish, Make, plan_after, close, unlock, greatest, judge_length, read_format}
-use Rattle.dali_write.specs.Plans.{read_format_low, read_length, read_on, read_all}
+use Rattle.dali_write.specs.declared.ask.Verdict.{Verdict}
+use Rattle.dali_write.specs.declared.ask.Verdict.TheVariants.{Doubt, DoubtOpen, Closed, NotClosed}
+use Rattle.dali_write.specs.declared.block.Block.{Block}
+use Rattle.dali_write.specs.Requests.{request, select_requests, block_requests, write_requests}
+use Rattle.dali_write.specs.Plans.{Plan, Finish, Make, next_plan, plan_after, close, give_up, expect, read_back}
+use Rattle.dali_write.specs.Plans.{write_on, unlock}
 use Rattle.dali_write.specs.Tries.{Trying, Wants, plan_requests}
 use Rattle.dali_write.proofs.AskLemmas.{shown_ask, ask_shown}
 use Rattle.dali_write.specs.Touches.{Has, writes_of}
 use Rattle.dali_write.specs.Guards.{IsGuarded}
-use Rattle.dali_write.proofs.ShapeLemmas.{trying_length, none_left, left_all}
-use Rattle.dali_write.proofs.PutLemmas.{request_at, four_of}
-use Rattle.dali_write.proofs.TouchLemmas.{OnlyWrites, goes_on_writes, unlock_writes, close_writes}
+use Rattle.dali_write.proofs.ShapeLemmas.{trying_length, none_left}
+use Rattle.dali_write.proofs.AskedLemmas.{IsCalm, block_calm, next_asked}
 use Rattle.dali_write.proofs.PlanLemmas.{either_all, if_all}
+
+-- the request at a number
+abbrev pub request_at : ℕ → List Request → Option Request
+request_at number requests = slice_get requests number
 
 -- each frame of a try of these requests is guarded when it is next
 abbrev GuardedRequests : List (ℕ × ℕ) → ℕ → List Request → Type 0
@@ -33,35 +39,29 @@ GuardedRequests writes unit requests =
 guarded_as : (writes : List (ℕ × ℕ)) (unit : ℕ) (tried : List Exchange) (next : Request) (frame : Frame) (wish : Wish)
     → Some next ≡ Some (request frame wish)
     → IsGuarded writes unit tried frame → IsGuarded writes unit tried next.frame
-guarded_as writes unit tried next frame wish is guarded =
-    let same : next ≡ request frame wish = cc in
-    subst (λ (f : Frame). IsGuarded writes unit tried f) (sym (ap (λ (l : Request). l.frame) same)) guarded
+guarded_as writes unit tried next frame wish is guarded = grind arith
 
--- the frames of a checked read
-read_guarded : (writes : List (ℕ × ℕ)) (unit location : ℕ) → GuardedRequests writes unit (read_requests unit location)
-read_guarded writes unit location tried next left try =
-    (left_all (λ (r : Request). (told : List Exchange) → IsGuarded writes unit told r.frame)
-    (read_requests unit location) tried (next ∷ left) (
-      λ told. tt,
-      (λ told. refl, (λ told. tt, (λ told. refl, (λ told. refl, (λ told. refl, (λ told. refl, tt)))))),
-    ) try).0 tried
+-- the frames of a read
+read_guarded : (writes : List (ℕ × ℕ)) (unit : ℕ) (block : Block)
+    → GuardedRequests writes unit (block_requests unit block)
+read_guarded writes unit block tried next left try =
+    (next_asked (IsCalm unit) (block_requests unit block) tried next left (block_calm unit block) try).1 writes tried
+
+-- the last four of six requests that were sent are the selecting ones
+pub four_of : (unit location byte : ℕ) (l1 l2 l3 l4 l5 l6 next : Request) (left : List Request)
+    → l1 ∷ l2 ∷ l3 ∷ l4 ∷ l5 ∷ l6 ∷ next ∷ left ≡ write_requests unit location byte
+    → l3 ∷ l4 ∷ l5 ∷ l6 ∷ [] ≡ select_requests unit location
+four_of unit location byte l1 l2 l3 l4 l5 l6 next left is = grind arith
 
 -- the frames of a checked write
 write_guarded : (writes : List (ℕ × ℕ)) (unit location byte : ℕ) → Has writes location byte
     → GuardedRequests writes unit (write_requests unit location byte)
-write_guarded writes unit location byte has [] next left try =
-    guarded_as writes unit [] next (Enable unit) Nothing (ap (request_at 0) try) (refl, (location, byte, has))
-write_guarded writes unit location byte has (x1 ∷ []) next left try =
-    guarded_as writes unit (x1 ∷ []) next (Enable unit) Nothing (ap (request_at 1) try.2) (refl, (location, byte, has))
-write_guarded writes unit location byte has (x2 ∷ x1 ∷ []) next left try =
-    guarded_as writes unit (x2 ∷ x1 ∷ []) next (Dtr1 1) Nothing (ap (request_at 2) try.2.2) tt
-write_guarded writes unit location byte has (x3 ∷ x2 ∷ x1 ∷ []) next left try =
-    guarded_as writes unit (x3 ∷ x2 ∷ x1 ∷ []) next (AskDtr1 unit) (Exactly 1) (ap (request_at 3) try.2.2.2) refl
-write_guarded writes unit location byte has (x4 ∷ x3 ∷ x2 ∷ x1 ∷ []) next left try =
-    guarded_as writes unit (x4 ∷ x3 ∷ x2 ∷ x1 ∷ []) next (Dtr0 location) Nothing (ap (request_at 4) try.2.2.2.2) tt
-write_guarded writes unit location byte has (x5 ∷ x4 ∷ x3 ∷ x2 ∷ x1 ∷ []) next left try =
-    guarded_as writes unit (x5 ∷ x4 ∷ x3 ∷ x2 ∷ x1 ∷ []) next (AskDtr0 unit) (Exactly location)
-    (ap (request_at 5) try.2.2.2.2.2) refl
+write_guarded writes unit location byte has [] next left try = grind (arith, guarded_as)
+write_guarded writes unit location byte has (x1 ∷ []) next left try = grind (arith, guarded_as)
+write_guarded writes unit location byte has (x2 ∷ x1 ∷ []) next left try = grind (arith, guarded_as)
+write_guarded writes unit location byte has (x3 ∷ x2 ∷ x1 ∷ []) next left try = grind (arith, guarded_as)
+write_guarded writes unit location byte has (x4 ∷ x3 ∷ x2 ∷ x1 ∷ []) next left try = grind (arith, guarded_as)
+write_guarded writes unit location byte has (x5 ∷ x4 ∷ x3 ∷ x2 ∷ x1 ∷ []) next left try = grind (arith, guarded_as)
 write_guarded writes unit location byte has (x6 ∷ x5 ∷ x4 ∷ x3 ∷ x2 ∷ x1 ∷ []) next left try =
     let e = try.2.2.2.2.2.2 in
     let four : Trying (select_requests unit location) (x6 ∷ x5 ∷ x4 ∷ x3 ∷ []) [] = (
@@ -76,15 +76,27 @@ write_guarded writes unit location byte has (x6 ∷ x5 ∷ x4 ∷ x3 ∷ x2 ∷ 
     guarded_as writes unit (x6 ∷ x5 ∷ x4 ∷ x3 ∷ x2 ∷ x1 ∷ []) next (Write byte) (Exactly byte) (ap (request_at 6) e)
     (location, has, (x6 ∷ x5 ∷ x4 ∷ x3 ∷ [], x2 ∷ x1 ∷ [], refl, four))
 write_guarded writes unit location byte has (x7 ∷ x6 ∷ x5 ∷ x4 ∷ x3 ∷ x2 ∷ x1 ∷ rest) next left try =
-    let long =
-    trying_length (write_requests unit location byte) (x7 ∷ x6 ∷ x5 ∷ x4 ∷ x3 ∷ x2 ∷ x1 ∷ rest) (next ∷ left) try in
-    let no : ⊥ = omega arith in absurd no
+    grind (arith, trying_length)
+
+-- each write of the plan is one of these
+abbrev pub OnlyWrites : List (ℕ × ℕ) → Plan → Type 0
+OnlyWrites writes (Finish verdict) = ⊤
+OnlyWrites writes (Make (ReadFrom location) after) = (outcome : Option (List ℕ)) → OnlyWrites writes (after outcome)
+OnlyWrites writes (Make (WriteTo location byte) after) =
+    Has writes location byte × ((outcome : Option (List ℕ)) → OnlyWrites writes (after outcome))
+
+-- after an outcome the plan makes only these writes, too
+pub goes_on_writes : (writes : List (ℕ × ℕ)) (plan : Plan) (outcome : Option (List ℕ)) → OnlyWrites writes plan
+    → OnlyWrites writes (next_plan plan outcome)
+goes_on_writes writes (Finish verdict) outcome only = tt
+goes_on_writes writes (Make (ReadFrom location) after) outcome only = only outcome
+goes_on_writes writes (Make (WriteTo location byte) after) outcome only = only.1 outcome
 
 -- the frames of the access at hand
-plan_guarded : (writes : List (ℕ × ℕ)) (unit : ℕ) (plan : Plan) → OnlyWrites writes plan
+pub plan_guarded : (writes : List (ℕ × ℕ)) (unit : ℕ) (plan : Plan) → OnlyWrites writes plan
     → GuardedRequests writes unit (plan_requests unit plan)
 plan_guarded writes unit (Finish verdict) only = λ tried next left try. absurd (none_left tried next left try)
-plan_guarded writes unit (Make (ReadFrom location) after) only = read_guarded writes unit location
+plan_guarded writes unit (Make (ReadFrom block) after) only = read_guarded writes unit block
 plan_guarded writes unit (Make (WriteTo location byte) after) only = write_guarded writes unit location byte only.0
 
 -- older exchanges take no guard away
@@ -108,7 +120,7 @@ older_guarded writes unit tried older (Read to) guarded = guarded
 older_guarded writes unit tried older (Other word) guarded = absurd guarded
 
 -- what is left of a plan after whole accesses makes only these writes, too
-left_writes : (writes : List (ℕ × ℕ)) (plan : Plan) (outcomes : List (Option ℕ)) → OnlyWrites writes plan
+left_writes : (writes : List (ℕ × ℕ)) (plan : Plan) (outcomes : List (Option (List ℕ))) → OnlyWrites writes plan
     → OnlyWrites writes (plan_after plan outcomes)
 left_writes writes plan [] only = only
 left_writes writes plan (outcome ∷ outcomes) only =
@@ -122,29 +134,51 @@ asked_guarded : (writes : List (ℕ × ℕ)) (unit : ℕ) (now : Plan) (tried : 
 asked_guarded writes unit (Finish verdict) tried left frame only try is = cc
 asked_guarded writes unit (Make access after) tried [] frame only try is = cc
 asked_guarded writes unit (Make access after) tried (next ∷ left) frame only try is =
-    let same : next.frame ≡ frame = cc in
-    subst (λ (f : Frame). IsGuarded writes unit tried f) same
-    (plan_guarded writes unit (Make access after) only tried next left try)
+    grind (arith, plan_guarded writes unit (Make access after) only tried next left try)
 
 -- at every frame that a session wants whose plan makes only these writes
 wants_guarded : (writes : List (ℕ × ℕ)) (unit : ℕ) (plan : Plan) (told : List Exchange) (frame : Frame)
     → OnlyWrites writes plan → Wants unit plan told (Send frame)
     → IsGuarded writes unit told frame
 wants_guarded writes unit plan told frame only wants =
-    let s = wants.stands in
-    let now = subst (λ (p : Plan). OnlyWrites writes p) s.now_is (left_writes writes plan s.outcomes only) in
-    subst (λ (t : List Exchange). IsGuarded writes unit t frame) (sym s.parts)
-    (older_guarded writes unit s.tried (s.missed ++ s.ended) frame (asked_guarded writes unit wants.now s.tried
-    wants.left frame now s.try (ask_shown wants.now wants.left s.going ∙ wants.ask_is)))
+    grind (arith, left_writes writes plan wants.outcomes only, older_guarded, asked_guarded, ask_shown)
 
--- a session that looks whether a bank suits writes nothing
-length_writes : (updates : List (ℕ × ℕ)) → OnlyWrites [] (read_length updates)
-length_writes updates =
-    let P = λ (p : Plan). OnlyWrites [] p in
-    either_all P (Finish Silent) (judge_length updates) tt
-    (λ last. if_all P (nat_lt last (greatest updates)) (Finish Short) _ tt
-    (if_all P (nat_lt (greatest updates) 0x13) (Finish MayOpen) read_format tt
-    (either_all P (Finish Silent) read_format_low tt (λ high. either_all P (Finish Silent) _ tt (λ low. tt)))))
+-- a plan that locks the unit
+pub close_writes : (writes : List (ℕ × ℕ)) (answered unanswered : Verdict) → Has writes 2 0xFF
+    → OnlyWrites writes (close answered unanswered)
+close_writes writes answered unanswered has = grind (arith, either_all)
+
+-- a plan that reads a byte back
+expect_writes : (writes : List (ℕ × ℕ)) (location byte : ℕ) (after : Plan) → Has writes 2 0xFF → OnlyWrites writes after
+    → OnlyWrites writes (expect location byte after)
+expect_writes writes location byte after has only = grind (arith, close_writes, either_all, if_all)
+
+read_back_writes : (writes updates : List (ℕ × ℕ)) → Has writes 2 0xFF → OnlyWrites writes (read_back updates)
+read_back_writes writes [] has = tt
+read_back_writes writes (update ∷ updates) has =
+    expect_writes writes update.0 update.1 (read_back updates) has (read_back_writes writes updates has)
+
+-- the updates that are left are among the writes
+write_on_writes : (writes updates left : List (ℕ × ℕ)) → Has writes 2 0xFF
+    → ((location byte : ℕ) → Has left location byte → Has writes location byte)
+    → OnlyWrites writes (write_on updates left)
+write_on_writes writes updates [] has among = grind (arith, either_all, close_writes, expect_writes, read_back_writes)
+write_on_writes writes updates (update ∷ left) has among = (
+  among update.0 update.1 (inl (refl, refl)),
+  either_all (OnlyWrites writes) give_up (λ byte. write_on updates left) (close_writes writes Doubt DoubtOpen has)
+      (λ byte. write_on_writes writes updates left has (λ location b in_left. among location b (inr in_left))),
+)
+
+-- the plan of an opened session
+pub unlock_writes : (updates : List (ℕ × ℕ)) → OnlyWrites (writes_of updates) (unlock updates)
+unlock_writes updates =
+    let has : Has (writes_of updates) 2 0xFF = inr (inl (refl, refl)) in (
+      inl (refl, refl),
+      either_all (OnlyWrites (writes_of updates)) give_up (λ byte. write_on updates updates)
+          (close_writes (writes_of updates) Doubt DoubtOpen has)
+          (λ byte.
+          write_on_writes (writes_of updates) updates updates has (λ location b in_updates. inr (inr in_updates))),
+    )
 
 pub opened_guarded : (told : List Exchange) (unit : ℕ) (updates : List (ℕ × ℕ)) (frame : Frame)
     → Wants unit (unlock updates) told (Send frame)
@@ -152,28 +186,8 @@ pub opened_guarded : (told : List Exchange) (unit : ℕ) (updates : List (ℕ ×
 opened_guarded told unit updates frame wants =
     wants_guarded (writes_of updates) unit (unlock updates) told frame (unlock_writes updates) wants
 
-pub fresh_guarded : (told : List Exchange) (unit : ℕ) (updates : List (ℕ × ℕ)) (frame : Frame)
-    → Wants unit (read_length updates) told (Send frame) → IsGuarded [] unit told frame
-fresh_guarded told unit updates frame wants =
-    wants_guarded [] unit (read_length updates) told frame (length_writes updates) wants
-
 pub closing_guarded : (told : List Exchange) (unit : ℕ) (frame : Frame)
     → Wants unit (close Closed NotClosed) told (Send frame) → IsGuarded ((2, 0xFF) ∷ []) unit told frame
 closing_guarded told unit frame wants =
     wants_guarded ((2, 0xFF) ∷ []) unit (close Closed NotClosed) told frame
     (close_writes ((2, 0xFF) ∷ []) Closed NotClosed (inl (refl, refl))) wants
-
-on_writes : (location left : ℕ) → OnlyWrites [] (read_on location left)
-on_writes location zero = tt
-on_writes location (suc left) =
-    either_all (λ (p : Plan). OnlyWrites [] p) (Finish Silent) (λ byte. read_on (suc location) left) tt
-    (λ byte. on_writes (suc location) left)
-
--- so does one that reads a bank
-pub reading_guarded : (told : List Exchange) (unit : ℕ) (frame : Frame) → Wants unit read_all told (Send frame)
-    → IsGuarded [] unit told frame
-reading_guarded told unit frame wants =
-    wants_guarded [] unit read_all told frame
-    (either_all (λ (p : Plan). OnlyWrites [] p) (Finish Silent) (λ last. read_on 1 (min last 0xFE)) tt
-    (λ last. on_writes 1 (min last 0xFE)))
-    wants

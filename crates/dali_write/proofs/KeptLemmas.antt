@@ -1,18 +1,17 @@
 -- What a unit keeps along the frames of tries, whatever of them is lost or refused, and what it has where a try came
 -- to its end.
-use Rattle.std.proofs.Common.{◌≡◌, refl, sym, subst, ℕ, zero, suc, ◌+◌, ◌<◌, Bool, true, false, ◌&&◌, not, List, []}
-use Rattle.std.proofs.Common.{◌∷◌, ◌++◌, length, Option, Some, None, arith}
+use Rattle.std.proofs.Common.{◌≡◌, refl, sym, subst, ℕ, zero, suc, ◌+◌, ◌<◌, Bool, true, false, List, []}
+use Rattle.std.proofs.Common.{◌∷◌, ◌++◌, append-nil, length, Option, Some, None, arith}
 use Rattle.std.specs.Prelude.{◌==◌, slice_get, slice_set, if◌then◌else◌, ⊤}
 use Rattle.std.proofs.lemmas.Bool.{ltb-true}
-use Rattle.std.specs.Cmp.{first_so, second_so}
 use Rattle.std.proofs.lemmas.Grind.{common_steps}
 use Rattle.std.proofs.lemmas.Option.{gets}
 use Rattle.dali_frame.specs.declared.forward.Frame.{Frame}
 use Rattle.dali_frame.specs.declared.forward.Frame.TheVariants.{Dtr0, Dtr1, Write, Enable, AskDtr0, AskDtr1}
 use Rattle.dali_gear.specs.Fate.{is_lost, next_fate}
 use Rattle.dali_write.specs.Exchanges.{Exchange}
-use Rattle.dali_gear.specs.UnitState.{BankState, UnitState, after_frame, after_write, answer_to, is_writable, with_byte}
-use Rattle.dali_gear.specs.UnitState.{stores, carries_out, bank_of}
+use Rattle.dali_gear.specs.UnitState.{BankState, UnitState, after_frame, after_write, answer_to, with_byte}
+use Rattle.dali_gear.specs.UnitState.{stores, carries_out}
 use Rattle.dali_bus.specs.Hears.{up}
 use Rattle.dali_gear.specs.SimState.{SimState, SimCarry, unit_after}
 use Rattle.dali_gear.proofs.BankLemmas.{IsQuiet, bank_stays}
@@ -20,11 +19,12 @@ use Rattle.dali_write.specs.declared.request.Request.{Request}
 use Rattle.dali_write.specs.declared.request.Wish.TheVariants.{Nothing, Exactly}
 use Rattle.dali_write.specs.declared.access.Access.{Access}
 use Rattle.dali_write.specs.declared.access.Access.TheVariants.{ReadFrom, WriteTo}
-use Rattle.dali_write.specs.Requests.{Meets, request, read_requests, access_requests}
+use Rattle.dali_write.specs.Requests.{Meets, request, block_requests, access_requests}
 use Rattle.dali_write.specs.Tries.{Trying, Missed, Misses, Succeeds}
 use Rattle.dali_write.specs.Losses.{IsAlone}
 use Rattle.dali_write.proofs.OneFrameLemmas.{own_answer, alone_then}
 use Rattle.dali_write.proofs.DriftLemmas.{drifts_alone}
+use Rattle.dali_write.proofs.AskedLemmas.{Asks, block_asks}
 use Rattle.dali_write.proofs.LossLemmas.{AllFor, all_for}
 use Rattle.dali_write.proofs.RunLemmas.{Leads, Stays, losses_along, UnrefusedAlong}
 use Rattle.dali_gear.specs.SimState.{SimStep}
@@ -52,14 +52,9 @@ keep_quiet : (keep : BankState → Type 0) (lost refuses : Bool) (unit : UnitSta
 keep_quiet keep true refuses unit frame quiet kept = kept
 keep_quiet keep false refuses unit frame quiet kept = subst keep (sym (bank_stays refuses unit frame quiet)) kept
 
--- none of the requests writes
-abbrev AllQuiet : List Request → Type 0
-AllQuiet [] = ⊤
-AllQuiet (next ∷ left) = IsQuiet next.frame × AllQuiet left
-
 -- quiet requests, and then others
 quiet_first : (keep : BankState → Type 0) (end : UnitState → Type 0) (requests left : List Request) (unit : UnitState)
-    → AllQuiet requests → keep unit.bank1
+    → Asks IsQuiet requests → keep unit.bank1
     → ((new : UnitState) → keep new.bank1 → Safe keep end left new) → Safe keep end (requests ++ left) unit
 quiet_first keep end [] left unit quiet kept rest = rest unit kept
 quiet_first keep end (next ∷ requests) left unit quiet kept rest = λ lost refuses answer back.
@@ -68,12 +63,12 @@ quiet_first keep end (next ∷ requests) left unit quiet kept rest = λ lost ref
 
 -- storing the byte of the access keeps it
 abbrev pub Keeps : (BankState → Type 0) → Access → Type 0
-Keeps keep (ReadFrom location) = ⊤
+Keeps keep (ReadFrom block) = ⊤
 Keeps keep (WriteTo location byte) = (bank : BankState) → keep bank → keep (with_byte bank location byte)
 
 -- what the unit has after the access: its byte in bank 1, where it wrote one
 abbrev pub Ends : Access → UnitState → Type 0
-Ends (ReadFrom location) unit = ⊤
+Ends (ReadFrom block) unit = ⊤
 Ends (WriteTo location byte) unit = slice_get unit.bank1.bytes location ≡ Some byte
 
 -- a byte that was set
@@ -104,21 +99,13 @@ told_if false told byte e = cc
 has_written : (location byte : ℕ) (refuses : Bool) (unit : UnitState) → unit.dtr1 ≡ 1 → unit.dtr0 ≡ location
     → stores refuses unit ≡ true
     → Ends (WriteTo location byte) (after_write refuses unit byte)
-has_written location byte refuses unit bank here done =
-    let can : Bool = is_writable (bank_of unit unit.dtr1) unit.dtr0 in
-    let on : carries_out unit ≡ true =
-    first_so (carries_out unit) (not refuses) (first_so (carries_out unit && not refuses) can done) in
-    let writable : is_writable unit.bank1 location ≡ true =
-    rw (bank, here) at (second_so (carries_out unit && not refuses) can done) in
-    rw (done, on, bank, here)
-    (get_set unit.bank1.bytes location byte (ltb-true location (length unit.bank1.bytes) (first_so _ _ writable)))
+has_written location byte refuses unit bank here done = grind (arith, get_set, ltb-true)
 
 -- the requests of a checked write, from the last one back
 safe_write : (keep : BankState → Type 0) (location byte : ℕ) → Keeps keep (WriteTo location byte)
     → (unit : UnitState) → unit.dtr1 ≡ 1 → unit.dtr0 ≡ location → keep unit.bank1
     → Safe keep (Ends (WriteTo location byte)) (request (Write byte) (Exactly byte) ∷ []) unit
-safe_write keep location byte stored unit bank here kept true refuses answer back =
-    (kept, λ meets. let lost : None ≡ Some byte = back byte meets in cc)
+safe_write keep location byte stored unit bank here kept true refuses answer back = grind arith
 safe_write keep location byte stored unit bank here kept false refuses answer back =
     let now : UnitState = record unit { half_pair = false } in (
       keep_write keep location byte now (carries_out now) (stores refuses now) (unit.dtr1 == 1) stored here kept,
@@ -130,8 +117,7 @@ safe_ask0 : (keep : BankState → Type 0) (at location byte : ℕ) → Keeps kee
     → (unit : UnitState) → unit.dtr1 ≡ 1 → keep unit.bank1
     → Safe keep (Ends (WriteTo location byte))
     (request (AskDtr0 at) (Exactly location) ∷ request (Write byte) (Exactly byte) ∷ []) unit
-safe_ask0 keep at location byte stored unit bank kept true refuses answer back =
-    (kept, λ meets. let lost : None ≡ Some location = back location meets in cc)
+safe_ask0 keep at location byte stored unit bank kept true refuses answer back = grind arith
 safe_ask0 keep at location byte stored unit bank kept false refuses answer back = (
   kept,
   λ meets. safe_write keep location byte stored (record unit { half_pair = false }) bank
@@ -156,8 +142,7 @@ safe_ask1 : (keep : BankState → Type 0) (at location byte : ℕ) → Keeps kee
     (request (AskDtr1 at) (Exactly 1) ∷ request (Dtr0 location) Nothing ∷ request (AskDtr0 at) (Exactly location)
     ∷ request (Write byte) (Exactly byte) ∷ [])
     unit
-safe_ask1 keep at location byte stored unit kept true refuses answer back =
-    (kept, λ meets. let lost : None ≡ Some 1 = back 1 meets in cc)
+safe_ask1 keep at location byte stored unit kept true refuses answer back = grind arith
 safe_ask1 keep at location byte stored unit kept false refuses answer back = (
   kept,
   λ meets. safe_dtr0 keep at location byte stored (record unit { half_pair = false })
@@ -167,15 +152,17 @@ safe_ask1 keep at location byte stored unit kept false refuses answer back = (
 safe_access : (keep : BankState → Type 0) (at : ℕ) (access : Access) (unit : UnitState) → Keeps keep access
     → keep unit.bank1
     → Safe keep (Ends access) (access_requests at access) unit
-safe_access keep at (ReadFrom location) unit keeps kept =
-    quiet_first keep (Ends (ReadFrom location)) (read_requests at location) [] unit
-    (tt, (tt, (tt, (tt, (tt, (tt, (tt, tt))))))) kept (λ new still. tt)
+safe_access keep at (ReadFrom block) unit keeps kept =
+    grind (arith, append-nil (block_requests at block), quiet_first, block_asks IsQuiet)
 safe_access keep at (WriteTo location byte) unit keeps kept =
-    quiet_first keep (Ends (WriteTo location byte))
-    (request (Enable at) Nothing ∷ request (Enable at) Nothing ∷ request (Dtr1 1) Nothing ∷ [])
-    (request (AskDtr1 at) (Exactly 1) ∷ request (Dtr0 location) Nothing ∷ request (AskDtr0 at) (Exactly location)
-    ∷ request (Write byte) (Exactly byte) ∷ [])
-    unit (tt, (tt, (tt, tt))) kept (safe_ask1 keep at location byte keeps)
+    grind (
+      arith,
+      quiet_first keep (Ends (WriteTo location byte)) (request (Enable at) Nothing ∷ request (Enable at)
+          Nothing ∷ request (Dtr1 1) Nothing ∷ []) (request (AskDtr1 at) (Exactly 1) ∷ request (Dtr0 location) Nothing ∷
+          request (AskDtr0 at) (Exactly location) ∷ request (Write byte) (Exactly byte) ∷ []) unit (tt,
+              (tt, (tt, tt))) kept
+          (safe_ask1 keep at location byte keeps),
+    )
 
 -- the unit after a part of a try
 record After (keep : BankState → Type 0) (end : UnitState → Type 0) (at : ℕ) (left : List Request) (last : SimState)
@@ -296,7 +283,7 @@ after_misses loses keep at access unit (suc misses) told first last run keeps_po
 
 -- an access that succeeded
 pub after_success : (loses : ℕ → Type 0) (keep : BankState → Type 0) (at : ℕ) (access : Access) (unit : UnitState)
-    (outcome : Option ℕ) (told : List Exchange) (first last : SimState)
+    (outcome : Option (List ℕ)) (told : List Exchange) (first last : SimState)
     → Leads SimStep loses told first last → (loses at → ⊥)
     → IsAlone at unit first.units → keep unit.bank1 → Keeps keep access
     → Succeeds (access_requests at access) outcome told

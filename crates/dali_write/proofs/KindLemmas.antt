@@ -1,15 +1,16 @@
 -- With which verdicts a session may end.
 use Rattle.std.proofs.Common.{◌∙◌, ◌≡◌, subst, ℕ, zero, suc, min, Bool, ◌==◌, ◌&&◌, nat_lt, true, false, if◌then◌else◌}
-use Rattle.std.proofs.Common.{List, [], ◌∷◌, Option}
+use Rattle.std.proofs.Common.{List, [], ◌∷◌, Option, get_or}
 use Rattle.dali_write.specs.Exchanges.{Exchange}
 use Rattle.dali_write.specs.declared.request.Request.{Request}
 use Rattle.dali_write.specs.declared.ask.Ask.TheVariants.{Ended}
 use Rattle.dali_write.specs.declared.ask.Verdict.{Verdict}
 use Rattle.dali_write.specs.declared.ask.Verdict.TheVariants.{MayOpen, Short, Format, Silent, Doubt, DoubtOpen, Closed}
 use Rattle.dali_write.specs.declared.ask.Verdict.TheVariants.{NotClosed}
-use Rattle.dali_write.specs.Plans.{Plan, Finish, Make, next_plan, plan_after, greatest, judge_length, read_format}
-use Rattle.dali_write.specs.Plans.{read_format_low, read_length, close, give_up, expect, read_back, read_lock, write_on}
-use Rattle.dali_write.specs.Plans.{unlock, read_on, read_all}
+use Rattle.dali_write.specs.Plans.{Plan, Finish, Make, next_plan, plan_after, greatest, read_format}
+use Rattle.dali_write.specs.Plans.{read_length, close, give_up, expect, read_back, read_lock, write_on}
+use Rattle.dali_write.specs.Plans.{unlock, read_on, read_all, read_block}
+use Rattle.dali_write.specs.declared.block.Block.{Block}
 use Rattle.dali_write.specs.Tries.{IsGoing, Wants}
 use Rattle.dali_write.proofs.AskLemmas.{shown_ask, ask_shown}
 use Rattle.dali_write.specs.Verdicts.{EndsFresh, EndsOpened, EndsClosing, EndsReading}
@@ -18,13 +19,14 @@ use Rattle.dali_write.proofs.PlanLemmas.{either_all, if_all}
 -- wherever the plan ends, it ends so
 abbrev EndsSo : (Verdict → Type 0) → Plan → Type 0
 EndsSo P (Finish verdict) = P verdict
-EndsSo P (Make access after) = (outcome : Option ℕ) → EndsSo P (after outcome)
+EndsSo P (Make access after) = (outcome : Option (List ℕ)) → EndsSo P (after outcome)
 
-on : (P : Verdict → Type 0) (plan : Plan) (outcome : Option ℕ) → EndsSo P plan → EndsSo P (next_plan plan outcome)
+on : (P : Verdict → Type 0) (plan : Plan) (outcome : Option (List ℕ)) → EndsSo P plan
+    → EndsSo P (next_plan plan outcome)
 on P (Finish verdict) outcome ends = ends
 on P (Make access after) outcome ends = ends outcome
 
-after_all : (P : Verdict → Type 0) (plan : Plan) (outcomes : List (Option ℕ)) → EndsSo P plan
+after_all : (P : Verdict → Type 0) (plan : Plan) (outcomes : List (Option (List ℕ))) → EndsSo P plan
     → EndsSo P (plan_after plan outcomes)
 after_all P plan [] ends = ends
 after_all P plan (outcome ∷ outcomes) ends = on P (plan_after plan outcomes) outcome (after_all P plan outcomes ends)
@@ -40,7 +42,7 @@ ended : (P : Verdict → Type 0) (unit : ℕ) (plan : Plan) (told : List Exchang
     → Wants unit plan told (Ended verdict) → P verdict
 ended P unit plan told verdict ends wants =
     let s = wants.stands in
-    over P wants.now wants.left verdict (subst (EndsSo P) s.now_is (after_all P plan s.outcomes ends)) s.going
+    over P wants.now wants.left verdict (subst (EndsSo P) s.now_is (after_all P plan wants.outcomes ends)) s.going
     (ask_shown wants.now wants.left s.going ∙ wants.ask_is)
 
 close_ends : (P : Verdict → Type 0) (answered unanswered : Verdict) → P answered → P unanswered
@@ -52,8 +54,8 @@ expect_ends : (location byte : ℕ) (after : Plan) → EndsSo EndsOpened after
     → EndsSo EndsOpened (expect location byte after)
 expect_ends location byte after ends =
     let gives = close_ends EndsOpened Doubt DoubtOpen tt tt in
-    either_all (EndsSo EndsOpened) give_up (λ found. if found == byte then after else give_up) gives
-    (λ found. if_all (EndsSo EndsOpened) (found == byte) after give_up ends gives)
+    either_all (EndsSo EndsOpened) give_up _ gives
+    (λ bytes. if_all (EndsSo EndsOpened) (get_or bytes 0 0 == byte) after give_up ends gives)
 
 read_back_ends : (updates : List (ℕ × ℕ)) → EndsSo EndsOpened (read_back updates)
 read_back_ends [] = tt
@@ -74,12 +76,12 @@ unlock_ends updates =
 
 length_ends : (updates : List (ℕ × ℕ)) → EndsSo EndsFresh (read_length updates)
 length_ends updates =
-    either_all (EndsSo EndsFresh) (Finish Silent) (judge_length updates) tt
-    (λ last. if_all (EndsSo EndsFresh) (nat_lt last (greatest updates)) (Finish Short) _ tt
+    either_all (EndsSo EndsFresh) (Finish Silent) _ tt
+    (λ last. if_all (EndsSo EndsFresh) (nat_lt (get_or last 0 0) (greatest updates)) (Finish Short) _ tt
     (if_all (EndsSo EndsFresh) (nat_lt (greatest updates) 0x13) (Finish MayOpen) read_format tt
-    (either_all (EndsSo EndsFresh) (Finish Silent) read_format_low tt
+    (either_all (EndsSo EndsFresh) (Finish Silent) _ tt
     (λ high. either_all (EndsSo EndsFresh) (Finish Silent) _ tt
-    (λ low. judged ((high == 0) && (low == 3))))))) where
+    (λ low. judged ((get_or high 0 0 == 0) && (get_or low 0 0 == 3))))))) where
       judged : (suits : Bool) → EndsFresh (if suits then MayOpen else Format)
       judged true = tt
       judged false = tt
@@ -102,13 +104,18 @@ closing_ends told unit verdict wants =
 on_ends : (location left : ℕ) → EndsSo EndsReading (read_on location left)
 on_ends location zero = tt
 on_ends location (suc left) =
-    either_all (EndsSo EndsReading) (Finish Silent) (λ byte. read_on (suc location) left) tt
-    (λ byte. on_ends (suc location) left)
+    either_all (EndsSo EndsReading) (Finish Silent) _ tt
+    (λ bytes. on_ends (suc location) left)
 
 pub reading_ends : (told : List Exchange) (unit : ℕ) (verdict : Verdict) → Wants unit read_all told (Ended verdict)
     → EndsReading verdict
 reading_ends told unit verdict wants =
     ended EndsReading unit read_all told verdict
-    (either_all (EndsSo EndsReading) (Finish Silent) (λ last. read_on 1 (min last 0xFE)) tt
-    (λ last. on_ends 1 (min last 0xFE)))
+    (either_all (EndsSo EndsReading) (Finish Silent) _ tt (λ last. on_ends 1 (min (get_or last 0 0) 0xFE)))
     wants
+
+pub block_ends : (told : List Exchange) (unit : ℕ) (block : Block) (verdict : Verdict)
+    → Wants unit (read_block block) told (Ended verdict) → EndsReading verdict
+block_ends told unit block verdict wants =
+    ended EndsReading unit (read_block block) told verdict
+    (either_all (EndsSo EndsReading) (Finish Silent) _ tt (λ bytes. tt)) wants

@@ -1,7 +1,7 @@
 -- A try without a loss comes to its end.
-use Rattle.std.proofs.Common.{◌≡◌, refl, sym, ap, subst, ◌∙◌, ℕ, ◌+◌, ◌≤◌, Bool, true, false, List, [], ◌∷◌, ◌++◌}
-use Rattle.std.proofs.Common.{Option, Some, None, IsSome, IsTrue, arith}
-use Rattle.std.specs.Prelude.{slice_get, if◌then◌else◌, ⊤}
+use Rattle.std.proofs.Common.{◌≡◌, refl, sym, ap, subst, ◌∙◌, ℕ, zero, suc, ◌+◌, ◌≤◌, Bool, true, false, List, [], ◌∷◌, ◌++◌}
+use Rattle.std.proofs.Common.{Option, Some, None, IsTrue, arith}
+use Rattle.std.specs.Prelude.{if◌then◌else◌, ⊤}
 use Rattle.std.proofs.lemmas.Bool.{eq-eqb}
 use Rattle.std.proofs.Math.Nat.{pos_of_ne-zero}
 use Rattle.dali_frame.specs.declared.forward.Frame.TheVariants.{Write, Enable, AskDtr0, AskDtr1, Read}
@@ -14,10 +14,14 @@ use Rattle.dali_write.specs.declared.request.Wish.{Wish}
 use Rattle.dali_write.specs.declared.request.Wish.TheVariants.{Nothing, Exactly, Anything}
 use Rattle.dali_write.specs.declared.access.Access.{Access}
 use Rattle.dali_write.specs.declared.access.Access.TheVariants.{ReadFrom, WriteTo}
-use Rattle.dali_write.specs.Requests.{Meets, request, select_requests, read_requests, write_requests, access_requests}
+use Rattle.dali_write.specs.declared.block.Block.{Block}
+use Rattle.dali_write.specs.Requests.{Meets, request, moved_on, reads, select_requests, block_requests, write_requests}
+use Rattle.dali_write.specs.Requests.{access_requests}
 use Rattle.dali_write.specs.Tries.{Trying, Missed}
-use Rattle.dali_write.specs.Losses.{is_loss, IsAlone, CanDo}
+use Rattle.dali_write.specs.Losses.{is_loss, IsAlone, HasFrom, CanDo}
 use Rattle.dali_write.proofs.OneFrameLemmas.{IsFor, heard_whole, address_of}
+use Rattle.dali_write.proofs.AskedLemmas.{Asks, block_asks}
+use Rattle.dali_write.proofs.PlaceLemmas.{moved_next}
 use Rattle.dali_write.proofs.DriftLemmas.{drifts_alone}
 use Rattle.dali_write.proofs.RunLemmas.{Leads, losses_along, UnrefusedAlong}
 use Rattle.dali_gear.specs.SimState.{SimStep}
@@ -29,11 +33,10 @@ Suits (next ∷ left) unit =
     Meets next.wish (answer_to false unit next.frame) × Suits left (after_frame false unit next.frame)
 
 abbrev pub AllFor : ℕ → List Request → Type 0
-AllFor at [] = ⊤
-AllFor at (next ∷ left) = IsFor at next.frame × AllFor at left
+AllFor at requests = Asks (IsFor at) requests
 
 pub all_for : (at : ℕ) (access : Access) → AllFor at (access_requests at access)
-all_for at (ReadFrom location) = (tt, (refl, (tt, (refl, (refl, (refl, (refl, tt)))))))
+all_for at (ReadFrom block) = block_asks (IsFor at) at block tt refl tt refl refl
 all_for at (WriteTo location byte) = (refl, (refl, (tt, (refl, (tt, (refl, (tt, tt)))))))
 
 pub after_reading : (at : ℕ) (unit : UnitState) → unit.address ≡ at → unit.dtr1 ≡ 1
@@ -44,32 +47,31 @@ pub suits_asking : (at location : ℕ) (unit : UnitState) → unit.address ≡ a
     → Suits (request (AskDtr0 at) (Exactly location) ∷ request (AskDtr1 at) (Exactly 1) ∷ []) unit
 suits_asking at location unit is place bank = rw (eq-eqb at unit.address (sym is), place, bank) (refl, (refl, tt))
 
--- where the location is selected
-suits_reading : (at location : ℕ) (unit : UnitState) → unit.address ≡ at → unit.dtr0 ≡ location → unit.dtr1 ≡ 1
-    → IsSome (slice_get unit.bank1.bytes location)
-    → Suits (request (Read at) Anything ∷ request (AskDtr0 at) (Exactly (up location))
-    ∷ request (AskDtr1 at) (Exactly 1) ∷ []) unit
-suits_reading at location unit is place bank some = (
-  rw (eq-eqb at unit.address (sym is), place, bank) some,
-  subst (λ (u : UnitState). Suits (request (AskDtr0 at) (Exactly (up location)) ∷ request (AskDtr1 at) (Exactly 1) ∷ [])
-      u) (sym (after_reading at unit is bank))
-      (suits_asking at (up location) (record unit { half_pair = false; enabled = false; dtr0 = up unit.dtr0 }) is
-      (ap up place) bank),
+-- where the first of so many locations is selected
+suits_reading : (at place count : ℕ) (back : List Request) (unit : UnitState) → unit.address ≡ at → unit.dtr0 ≡ place
+    → unit.dtr1 ≡ 1 → HasFrom unit.bank1 place count
+    → ((now : UnitState) → now.address ≡ at → now.dtr0 ≡ moved_on place count → now.dtr1 ≡ 1 → Suits back now)
+    → Suits (reads at count ++ back) unit
+suits_reading at place zero back unit is here bank some rest = rest unit is here bank
+suits_reading at place (suc count) back unit is here bank some rest = (
+  rw (eq-eqb at unit.address (sym is), here, bank) (some 0 (omega arith)),
+  subst (λ (u : UnitState). Suits (reads at count ++ back) u) (sym (after_reading at unit is bank))
+      (suits_reading at (up place) count back
+      (record unit { half_pair = false; enabled = false; dtr0 = up unit.dtr0 }) is (ap up here) bank
+      (λ index below. rw (moved_next place index) (some (suc index) (omega arith)))
+      (λ now is_now there bank_now. rest now is_now (there ∙ moved_next place count) bank_now)),
 )
 
-suits_read : (at location : ℕ) (unit : UnitState) → unit.address ≡ at → IsSome (slice_get unit.bank1.bytes location)
-    → Suits (read_requests at location) unit
-suits_read at location unit is some =
-    let here = eq-eqb at unit.address (sym is) in
-    let selected : UnitState = record unit { half_pair = false; dtr1 = 1; dtr0 = location } in
-    (tt, (rw here refl, (tt, (rw here refl, suits_reading at location selected is refl refl some))))
+suits_read : (at : ℕ) (block : Block) (unit : UnitState) → unit.address ≡ at
+    → HasFrom unit.bank1 block.location block.count
+    → Suits (block_requests at block) unit
+suits_read at block unit is some = grind (arith, eq-eqb, suits_reading, suits_asking)
 
 -- where it is enabled
 suits_enabled : (at location byte : ℕ) (unit : UnitState) → unit.address ≡ at → unit.enabled ≡ true
     → IsTrue (is_writable unit.bank1 location)
     → Suits (select_requests at location ++ request (Write byte) (Exactly byte) ∷ []) unit
-suits_enabled at location byte unit is on can =
-    rw (eq-eqb at unit.address (sym is), on, can) (tt, (refl, (tt, (refl, (refl, tt)))))
+suits_enabled at location byte unit is on can = grind (arith, eq-eqb)
 
 one_enable : (at : ℕ) (unit : UnitState) → unit.address ≡ at → after_frame false unit (Enable at) ≡ after_enable unit
 one_enable at unit is = rw (eq-eqb at unit.address (sym is)) refl
@@ -84,36 +86,15 @@ enable_half unit e = rw e refl
 -- two frames enable it, with a half pair before them or without
 enabled_by_two : (at : ℕ) (unit : UnitState) → unit.address ≡ at
     → after_frame false (after_frame false unit (Enable at)) (Enable at) ≡ record unit { enabled = true }
-enabled_by_two at unit is = by unit.half_pair refl
-  where
-    by : (h : Bool) → unit.half_pair ≡ h
-        → after_frame false (after_frame false unit (Enable at)) (Enable at) ≡ record unit { enabled = true }
-    by true e =
-        let mid : UnitState = record unit { enabled = true; half_pair = false } in
-        ap (λ (u : UnitState). after_frame false u (Enable at)) (one_enable at unit is ∙ enable_pair unit e)
-        ∙ one_enable at mid is
-        ∙ ap (λ (h : Bool). record unit { enabled = true; half_pair = h }) (sym e)
-    by false e =
-        let mid : UnitState = record unit { half_pair = true } in
-        ap (λ (u : UnitState). after_frame false u (Enable at)) (one_enable at unit is ∙ enable_half unit e)
-        ∙ one_enable at mid is
-        ∙ ap (λ (h : Bool). record unit { enabled = true; half_pair = h }) (sym e)
+enabled_by_two at unit is = grind (arith, one_enable, enable_pair, enable_half)
 
 suits_write : (at location byte : ℕ) (unit : UnitState) → unit.address ≡ at → IsTrue (is_writable unit.bank1 location)
     → Suits (write_requests at location byte) unit
-suits_write at location byte unit is can = (
-  tt,
-  (
-    tt,
-    subst (λ (u : UnitState). Suits (select_requests at location ++ request (Write byte) (Exactly byte) ∷ []) u)
-        (sym (enabled_by_two at unit is))
-        (suits_enabled at location byte (record unit { enabled = true }) is refl can),
-  ),
-)
+suits_write at location byte unit is can = search (arith, enabled_by_two, suits_enabled)
 
 pub suits_access : (at : ℕ) (access : Access) (unit : UnitState) → unit.address ≡ at → CanDo access unit
     → Suits (access_requests at access) unit
-suits_access at (ReadFrom location) unit is can = suits_read at location unit is can
+suits_access at (ReadFrom block) unit is can = suits_read at block unit is can
 suits_access at (WriteTo location byte) unit is can = suits_write at location byte unit is can
 
 meets_own : (wish : Wish) (own answer : Option ℕ) → Meets wish own → ((byte : ℕ) → own ≡ Some byte → answer ≡ Some byte)
@@ -183,6 +164,4 @@ pub missed_by_loss : (loses : ℕ → Type 0) (at : ℕ) (access : Access) (unit
     → Missed (access_requests at access) told
     → 1 ≤ losses_along at loses told first last run
 missed_by_loss loses at access unit told first last run keeps_power alone can kind missed =
-    pos_of_ne-zero
-    (λ none. ends loses at (access_requests at access) unit told first last run keeps_power (all_for at access)
-    (suits_access at access unit (address_of at unit first.units alone) can) alone none kind missed)
+    search (arith, pos_of_ne-zero, ends loses, all_for, suits_access, address_of)

@@ -11,7 +11,9 @@ use Rattle.dali_write.specs.declared.request.Wish.TheVariants.{Nothing, Exactly,
 use Rattle.dali_write.specs.declared.access.Access.{Access}
 use Rattle.dali_write.specs.declared.access.Access.TheVariants.{ReadFrom, WriteTo}
 use Rattle.dali_write.specs.declared.ask.Verdict.{Verdict}
-use Rattle.dali_write.specs.Requests.{Meets, request, access_requests}
+use Rattle.dali_write.specs.Requests.{Meets, request, moved_on, reads, access_requests}
+use Rattle.dali_bus.specs.Hears.{up}
+use Rattle.dali_write.proofs.PlaceLemmas.{moved_next}
 use Rattle.dali_write.specs.Plans.{Plan, Finish, Make, next_plan}
 use Rattle.dali_write.specs.Tries.{most_tries, Trying, Missed, Misses, AccessEnds}
 use Rattle.dali_write.specs.Walks.{Walk, access_misses, misses_of, Took}
@@ -23,8 +25,15 @@ abbrev pub Apt : ℕ → List Request → Type 0
 Apt location [] = ⊤
 Apt location (next ∷ left) = (next.wish ≡ wish_of next.frame location) × Apt (location_after next.frame location) left
 
+apt_reads : (unit count location : ℕ) (back : List Request) → Apt (moved_on location count) back
+    → Apt location (reads unit count ++ back)
+apt_reads unit zero location back apt = apt
+apt_reads unit (suc count) location back apt =
+    (refl, apt_reads unit count (up location) back
+    (subst (λ (l : ℕ). Apt l back) (sym (moved_next location count)) apt))
+
 apt_access : (unit : ℕ) (access : Access) (location : ℕ) → Apt location (access_requests unit access)
-apt_access unit (ReadFrom at) location = (refl, (refl, (refl, (refl, (refl, (refl, (refl, tt)))))))
+apt_access unit (ReadFrom block) location = grind (arith, apt_reads)
 apt_access unit (WriteTo at byte) location = (refl, (refl, (refl, (refl, (refl, (refl, (refl, tt)))))))
 
 met : (wish : Wish) (answer : Option ℕ) → Meets wish answer → is_missed wish answer ≡ false
@@ -53,67 +62,75 @@ pub trying : (requests : List Request) (tried : List Exchange) (left : List Requ
     → (misses_in (tried ++ older) ≡ misses_in older) × Apt (location_in (tried ++ older)) left
 trying requests [] left older apt try = (refl, subst (Apt (location_in older)) (sym try) apt)
 trying requests (x ∷ tried) left older apt try =
-    let before = trying requests tried (request x.frame try.0 ∷ left) older apt try.2 in
-    let one = more x (tried ++ older) try.0 false before.1.0 (met try.0 x.answer try.1) in
-    let rest = before.0 in
-    (omega arith, before.1.1)
+    grind (
+      arith,
+      trying requests tried (request x.frame try.0 ∷ left) older apt try.2,
+      more,
+      met try.0 x.answer
+          try.1,
+    )
 
 pub missed : (requests : List Request) (tried older : List Exchange) → Apt (location_in older) requests
     → Missed requests tried
     → misses_in (tried ++ older) ≡ 1 + misses_in older
 missed requests [] older apt ends = absurd ends
 missed requests (x ∷ tried) older apt ends =
-    let before = trying requests tried (request x.frame ends.0 ∷ ends.1) older apt ends.3 in
-    let one = more x (tried ++ older) ends.0 true before.1.0 (unmet ends.0 x.answer ends.2) in
-    let rest = before.0 in
-    omega arith
+    grind (
+      arith,
+      trying requests tried (request x.frame ends.0 ∷ ends.1) older apt ends.3,
+      more,
+      unmet ends.0
+          x.answer ends.2,
+    )
 
 misses : (unit : ℕ) (access : Access) (count : ℕ) (told older : List Exchange)
     → Misses (access_requests unit access) count told
     → misses_in (told ++ older) ≡ count + misses_in older
 misses unit access zero told older are = rw are (omega arith)
 misses unit access (suc count) told older are =
-    let before = misses unit access count are.1 older are.4 in
-    let last =
-    missed (access_requests unit access) are.0 (are.1 ++ older) (apt_access unit access (location_in (are.1 ++ older)))
-    are.3 in
-    let joined = append_assoc are.0 are.1 older in
-    let same : misses_in (told ++ older) ≡ misses_in (are.0 ++ (are.1 ++ older)) = rw are.2 (ap misses_in joined) in
-    omega arith
+    grind (
+      arith,
+      misses unit access count are.1 older are.4,
+      missed (access_requests unit access) are.0 (are.1 ++
+          older) (apt_access unit access (location_in (are.1 ++ older))) are.3,
+      append_assoc are.0 are.1 older,
+    )
 
-access_ends : (unit : ℕ) (plan : Plan) (outcome : Option ℕ) (told older : List Exchange)
+-- of an access
+pub access_ends : (unit : ℕ) (plan : Plan) (outcome : Option (List ℕ)) (told older : List Exchange)
     (ends : AccessEnds unit plan outcome told)
     → misses_in (told ++ older) ≡ access_misses unit plan outcome told ends + misses_in older
 access_ends unit (Finish verdict) outcome told older ends = absurd ends
 access_ends unit (Make access after) outcome told older (inl done) =
-    let before = misses unit access done.2 done.1 older done.7 in
-    let last =
-    (trying (access_requests unit access) done.0 [] (done.1 ++ older)
-    (apt_access unit access (location_in (done.1 ++ older))) done.4).0 in
-    let joined = append_assoc done.0 done.1 older in
-    let same : misses_in (told ++ older) ≡ misses_in (done.0 ++ (done.1 ++ older)) = rw done.3 (ap misses_in joined) in
-    omega arith
+    grind (
+      arith,
+      misses unit access done.2 done.1 older done.7,
+      trying (access_requests unit access) done.0 []
+          (done.1 ++ older) (apt_access unit access (location_in (done.1 ++ older))) done.4,
+      append_assoc done.0 done.1
+          older,
+    )
 access_ends unit (Make access after) outcome told older (inr failed) = misses unit access most_tries told older failed.1
 
 -- the misses of a walk
-pub walk_misses : (unit : ℕ) (plan : Plan) (outcomes : List (Option ℕ)) (told : List Exchange) (end : Plan)
+pub walk_misses : (unit : ℕ) (plan : Plan) (outcomes : List (Option (List ℕ))) (told : List Exchange) (end : Plan)
     (older : List Exchange) (walk : Walk unit plan outcomes told end)
     → misses_in (told ++ older) ≡ misses_of unit plan outcomes told end walk + misses_in older
 walk_misses unit plan [] told end older walk = rw walk.0 (omega arith)
 walk_misses unit plan (outcome ∷ outcomes) told end older walk =
-    let here = access_ends unit plan outcome walk.1 older walk.3 in
-    let rest = walk_misses unit (next_plan plan outcome) outcomes walk.0 end (walk.1 ++ older) walk.4 in
-    let joined = append_assoc walk.0 walk.1 older in
-    let same : misses_in (told ++ older) ≡ misses_in (walk.0 ++ (walk.1 ++ older)) = rw walk.2 (ap misses_in joined) in
-    omega arith
+    grind (
+      arith,
+      access_ends unit plan outcome walk.1 older walk.3,
+      walk_misses unit (next_plan plan outcome)
+          outcomes walk.0 end (walk.1 ++ older) walk.4,
+      append_assoc walk.0 walk.1 older,
+    )
 
-pub walk_misses_in : (unit : ℕ) (plan : Plan) (outcomes : List (Option ℕ)) (told : List Exchange) (end : Plan)
+pub walk_misses_in : (unit : ℕ) (plan : Plan) (outcomes : List (Option (List ℕ))) (told : List Exchange) (end : Plan)
     (walk : Walk unit plan outcomes told end)
     → misses_in told ≡ misses_of unit plan outcomes told end walk
 walk_misses_in unit plan outcomes told end walk =
-    let all = walk_misses unit plan outcomes told end [] walk in
-    let none : misses_in (told ++ []) ≡ misses_in told = ap misses_in (append-nil told) in
-    omega arith
+    grind (arith, walk_misses unit plan outcomes told end [] walk, append-nil told)
 
 -- a walk that is so long, and older frames that are so long
 pub took_long : (unit : ℕ) (plan : Plan) (told older : List Exchange) (verdict : Verdict) (frames before : ℕ)
@@ -140,14 +157,8 @@ more_misses (x ∷ newer) older = let rest = more_misses newer older in omega ar
 -- an access that failed missed as often as it has tries
 pub failure_misses : (unit : ℕ) (access : Access) (told : List Exchange) → EndsInFailure unit access told
     → most_tries ≤ misses_in told
-failure_misses unit access told f =
-    let all = misses unit access most_tries f.tries f.older f.missed in
-    let same : misses_in told ≡ misses_in (f.tries ++ f.older) = ap misses_in f.parts in
-    omega arith
+failure_misses unit access told f = grind (arith, misses unit access most_tries f.tries f.older f.missed)
 
 pub failed_misses : (unit : ℕ) (told : List Exchange) → HasFailed unit told → most_tries ≤ misses_in told
 failed_misses unit told f =
-    let here = failure_misses unit f.access f.before f.failure in
-    let more = more_misses f.newer f.before in
-    let same : misses_in told ≡ misses_in (f.newer ++ f.before) = ap misses_in f.parts in
-    omega arith
+    grind (arith, failure_misses unit f.access f.before f.failure, more_misses f.newer f.before)

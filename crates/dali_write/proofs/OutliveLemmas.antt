@@ -1,8 +1,6 @@
 -- An access misses no more often than its unit has losses.
-use Rattle.std.proofs.Common.{◌≡◌, ◌⊎◌, inl, inr, refl, sym, ℕ, zero, suc, ◌≤◌, ◌<◌, Bool, true, false, ◌&&◌, ◌||◌, not}
-use Rattle.std.proofs.Common.{List, length, Option, IsSome, IsTrue, arith}
-use Rattle.std.specs.Prelude.{◌==◌, nat_lt, nat_le, slice_get, slice_set, slice_index}
-use Rattle.std.specs.List.{list_any}
+use Rattle.std.proofs.Common.{◌≡◌, ◌⊎◌, inl, inr, ℕ, zero, suc, ◌≤◌, ◌<◌}
+use Rattle.std.proofs.Common.{List, Option, IsTrue, arith}
 use Rattle.std.proofs.lemmas.Bool.{eqb-false}
 use Rattle.std.proofs.lemmas.List.{length-set, get_or-set_other}
 use Rattle.dali_write.specs.Exchanges.{Exchange}
@@ -12,7 +10,7 @@ use Rattle.dali_write.specs.declared.access.Access.{Access}
 use Rattle.dali_write.specs.declared.access.Access.TheVariants.{ReadFrom, WriteTo}
 use Rattle.dali_write.specs.Requests.{access_requests}
 use Rattle.dali_write.specs.Tries.{most_tries, Misses, Succeeds, Fails}
-use Rattle.dali_write.specs.Losses.{IsAlone, CanDo}
+use Rattle.dali_write.specs.Losses.{IsAlone, HasFrom, CanDo}
 use Rattle.dali_write.proofs.LossLemmas.{missed_by_loss}
 use Rattle.dali_write.proofs.KeptLemmas.{parts, after_misses}
 use Rattle.dali_write.proofs.RunLemmas.{Leads, losses_along, UnrefusedAlong}
@@ -21,19 +19,7 @@ use Rattle.dali_gear.specs.SimState.{SimStep}
 -- a location that was written is as writable as before
 still_writable : (bank : BankState) (location byte : ℕ)
     → is_writable (with_byte bank location byte) location ≡ is_writable bank location
-still_writable bank location byte = rw (length-set bank.bytes location byte) (by (location == 2) refl)
-  where
-    by : (b : Bool) → (location == 2) ≡ b
-        → (nat_lt location (length bank.bytes)
-        && (b
-        || (nat_le 3 location && not (list_any (λ fixed. fixed == location) bank.fixed)
-        && (slice_index (slice_set bank.bytes location byte) 2 == 0x55))))
-        ≡ (nat_lt location (length bank.bytes)
-        && (b
-        || (nat_le 3 location && not (list_any (λ fixed. fixed == location) bank.fixed)
-        && (slice_index bank.bytes 2 == 0x55))))
-    by true e = refl
-    by false e = rw (get_or-set_other bank.bytes location 2 byte 0 (λ same. eqb-false location 2 e (sym same))) refl
+still_writable bank location byte = grind (arith, length-set bank.bytes location byte, get_or-set_other, eqb-false)
 
 -- after misses the unit can do the access still
 can_after : (loses : ℕ → Type 0) (at : ℕ) (access : Access) (unit : UnitState) (misses : ℕ) (told : List Exchange)
@@ -41,8 +27,8 @@ can_after : (loses : ℕ → Type 0) (at : ℕ) (access : Access) (unit : UnitSt
     → Leads SimStep loses told first last → (loses at → ⊥)
     → IsAlone at unit first.units → CanDo access unit → Misses (access_requests at access) misses told
     → (now : UnitState) × IsAlone at now last.units × CanDo access now
-can_after loses at (ReadFrom location) unit misses told first last run keeps_power alone can are =
-    after_misses loses (λ bank. IsSome (slice_get bank.bytes location)) at (ReadFrom location) unit misses told first
+can_after loses at (ReadFrom block) unit misses told first last run keeps_power alone can are =
+    after_misses loses (λ bank. HasFrom bank block.location block.count) at (ReadFrom block) unit misses told first
     last run keeps_power alone can tt are
 can_after loses at (WriteTo location byte) unit misses told first last run keeps_power alone can are =
     after_misses loses (λ bank. IsTrue (is_writable bank location)) at (WriteTo location byte) unit misses told first
@@ -66,7 +52,7 @@ misses_by_losses loses at access unit (suc misses) told first last run keeps_pow
     let sum = two.sum in
     omega arith
 
-pub access_succeeds : (loses : ℕ → Type 0) (at : ℕ) (access : Access) (unit : UnitState) (outcome : Option ℕ)
+pub access_succeeds : (loses : ℕ → Type 0) (at : ℕ) (access : Access) (unit : UnitState) (outcome : Option (List ℕ))
     (told : List Exchange) (first last : SimState) (run : Leads SimStep loses told first last)
     → (loses at → ⊥) → IsAlone at unit first.units → CanDo access unit → UnrefusedAlong loses told first last run
     → losses_along at loses told first last run < most_tries

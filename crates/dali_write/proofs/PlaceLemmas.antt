@@ -1,6 +1,6 @@
 -- Where DTR0 stands behind the reads of a block.
-use Rattle.std.proofs.Common.{◌≡◌, refl, ap, ◌∙◌, ℕ, zero, suc, ◌+◌, ◌≤◌, ◌<◌, min, Bool, true, false, ◌==◌}
-use Rattle.std.proofs.Common.{if◌then◌else◌, List, [], ◌∷◌, ◌++◌, slice_get, Some, None, arith}
+use Rattle.std.proofs.Common.{◌≡◌, refl, ap, ◌∙◌, ℕ, zero, suc, ◌+◌, ◌≤◌, min}
+use Rattle.std.proofs.Common.{List, [], ◌∷◌, ◌++◌, slice_get, Some, None, arith}
 use Rattle.std.proofs.lemmas.Bool.{eqb-true, eqb-false}
 use Rattle.dali_bus.specs.Hears.{up}
 use Rattle.dali_write.specs.declared.request.Request.{Request}
@@ -8,25 +8,15 @@ use Rattle.dali_write.specs.Requests.{select_requests}
 use Rattle.dali_write.specs.Requests.{moved_on, reads}
 
 pub up_is : (at : ℕ) → at ≤ 255 → up at ≡ min (at + 1) 255
-up_is at within = by (at == 0xFF) refl where
-  by : (b : Bool) → (at == 0xFF) ≡ b → (if b then 0xFF else at + 1) ≡ min (at + 1) 255
-  by true same = let is : at ≡ 255 = eqb-true at 255 same in omega arith
-  by false other =
-      let below : at < 255 = let not : (at ≡ 255 → ⊥) = eqb-false at 255 other in omega (arith, not) in omega arith
+up_is at within = grind (arith, eqb-true, eqb-false)
 
 pub place_behind : (location count : ℕ) → location ≤ 255 → moved_on location count ≡ min (location + count) 255
 place_behind location zero within = omega arith
-place_behind location (suc count) within =
-    let before = place_behind location count within in
-    let few : min (location + count) 255 ≤ 255 = omega arith in
-    ap up before ∙ (up_is (min (location + count) 255) few ∙ omega arith)
+place_behind location (suc count) within = grind (arith, place_behind location count within, up_is)
 
 -- below FFh that is so many further
 pub moved_is : (location count : ℕ) → location + count ≤ 0xFF → moved_on location count ≡ location + count
 moved_is location count within = place_behind location count (omega arith) ∙ omega arith
-
-pub up_one : (dtr0 : ℕ) → dtr0 < 0xFF → up dtr0 ≡ dtr0 + 1
-up_one dtr0 below = up_is dtr0 (omega arith) ∙ omega arith
 
 -- the requests behind the reads
 pub behind_first : (unit count : ℕ) (a b : Request) → slice_get (reads unit count ++ a ∷ b ∷ []) count ≡ Some a
@@ -47,5 +37,9 @@ behind_last unit (suc count) (suc number) a b far = behind_last unit count numbe
 
 pub fifth_on : (unit location : ℕ) (rest : List Request) (number behind : ℕ) → number ≡ 4 + behind
     → slice_get (select_requests unit location ++ rest) number ≡ slice_get rest behind
-fifth_on unit location rest number behind is =
-    let four : number ≡ suc (suc (suc (suc behind))) = omega arith in rw four refl
+fifth_on unit location rest number behind is = grind arith
+
+-- one location further first or last
+pub moved_next : (location count : ℕ) → moved_on (up location) count ≡ moved_on location (suc count)
+moved_next location zero = refl
+moved_next location (suc count) = ap up (moved_next location count)

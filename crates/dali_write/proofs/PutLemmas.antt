@@ -1,27 +1,23 @@
 -- What one frame may change, and which frames of a session may be sent.
-use Rattle.std.proofs.Common.{◌≡◌, ◌⊎◌, refl, sym, ap, subst, ◌∙◌, inl, inr, ℕ, Bool, true, false, ◌==◌}
-use Rattle.std.proofs.Common.{List, [], ◌∷◌, Option, Some, None, IsSome, arith}
-use Rattle.std.specs.Prelude.{slice_get, take, drop, ◌≢◌}
+use Rattle.std.proofs.Common.{◌≡◌, ◌⊎◌, refl, sym, ap, subst, ◌∙◌, inl, inr, ℕ, false}
+use Rattle.std.proofs.Common.{List, ◌∷◌, Option, Some, None, IsSome, arith}
+use Rattle.std.specs.Prelude.{◌≢◌}
 use Rattle.std.proofs.lemmas.Bool.{eqb-true}
 use Rattle.dali_frame.specs.declared.forward.Frame.{Frame}
-use Rattle.dali_frame.specs.declared.forward.Frame.TheVariants.{Dtr0, Dtr1, AskDtr0, AskDtr1, Enable, Write}
+use Rattle.dali_frame.specs.declared.forward.Frame.TheVariants.{Dtr0, Dtr1, Dtr2, Write, WriteSilent, Enable, AskDtr0}
+use Rattle.dali_frame.specs.declared.forward.Frame.TheVariants.{AskDtr1, AskDtr2, Read, Other}
 use Rattle.dali_bus.specs.World.{World, Gear, Memory, stored, byte_in}
 use Rattle.dali_bus.specs.Power.{relocked, MayRelock}
-use Rattle.dali_bus.specs.Hears.{Hears, Obeys, Ignores}
 use Rattle.dali_bus.specs.Carry.{Carry, MayHear, Heard}
 use Rattle.dali_write.specs.Exchanges.{Exchange}
 use Rattle.dali_write.specs.declared.request.Request.{Request}
-use Rattle.dali_write.specs.declared.request.Wish.{Wish}
-use Rattle.dali_write.specs.declared.request.Wish.TheVariants.{Nothing, Exactly}
-use Rattle.dali_write.specs.Requests.{request, select_requests, read_requests, write_requests}
 use Rattle.dali_write.specs.Tries.{Trying}
 use Rattle.dali_write.specs.Worlds.{KeepsAt, Selects, OnlyEnabled, Written}
 use Rattle.dali_write.specs.Touches.{Has, OldOrNew, Touches}
+use Rattle.dali_write.specs.Guards.{IsGuarded}
 use Rattle.dali_write.proofs.GearLemmas.{end_steady, carry_stays, StaysAt, IsQuiet, same_byte, IsOff, memory_of}
 use Rattle.dali_write.proofs.PowerLemmas.{relock_then, keeps_then, stays_keeps}
-use Rattle.dali_write.proofs.ShapeLemmas.{trying_length}
 use Rattle.dali_write.proofs.TruthLemmas.{write_safe}
-use Rattle.dali_write.proofs.VerdictLemmas.{trying_quiet, read_quiet_requests}
 use Rattle.dali_write.proofs.RunLemmas.{Leads}
 use Rattle.dali_bus.specs.Carry.{WorldStep}
 
@@ -45,27 +41,14 @@ kept_old writes old new same = λ bank location. inl (same_byte old new same ban
 stored_byte : (memory : Memory) (location byte bank place : ℕ)
     → (stored memory 1 location byte bank place ≡ memory bank place)
     ⊎ ((bank ≡ 1) × (place ≡ location) × (stored memory 1 location byte bank place ≡ Some byte))
-stored_byte memory location byte bank place = by (bank == 1) refl (place == location) refl where
-  by : (a : Bool) → (bank == 1) ≡ a → (b : Bool) → (place == location) ≡ b
-      → (stored memory 1 location byte bank place ≡ memory bank place)
-      ⊎ ((bank ≡ 1) × (place ≡ location) × (stored memory 1 location byte bank place ≡ Some byte))
-  by true one true here = inr (eqb-true bank 1 one, eqb-true place location here, rw (one, here) refl)
-  by true one false there = inl (rw (one, there) refl)
-  by false other b e = inl (rw other refl)
+stored_byte memory location byte bank place = grind (arith, eqb-true)
 
 -- where one of the writes was stored, each place is old or new
 written_new : (writes : List (ℕ × ℕ)) (old new : Option Gear) (location byte : ℕ) → Has writes location byte
     → Written location byte (memory_of old) (memory_of new) → NowOldOrNew writes old new
 written_new writes None new location byte has is = absurd is
 written_new writes (Some old) None location byte has is = absurd is
-written_new writes (Some old) (Some new) location byte has is = λ bank place.
-    let there : new.memory bank place ≡ stored old.memory 1 location byte bank place =
-    ap (λ (m : Memory). m bank place) is.1 in
-    elim (stored_byte old.memory location byte bank place) [
-      | inl same ↦ inl (there ∙ same)
-      | inr at ↦
-          inr (byte, at.0, subst (λ (l : ℕ). Has writes l byte) (sym at.1) has, rw (at.0, at.1) is.0, there ∙ at.2)
-    ]
+written_new writes (Some old) (Some new) location byte has is = grind (arith, stored_byte)
 
 -- a place that is there was there
 relocked_some : (o : Option ℕ) → IsSome (relocked o) → IsSome o
@@ -75,8 +58,7 @@ relocked_some (Some byte) some = refl
 was_there : {lost : Type 0} {bank location : ℕ} (first mid : Option ℕ) → MayRelock lost bank location first mid
     → IsSome mid → IsSome first
 was_there first mid (inl same) some = subst (λ (o : Option ℕ). IsSome o) same some
-was_there first mid (inr (lost, above, lock, is)) some =
-    relocked_some first (subst (λ (o : Option ℕ). IsSome o) is some)
+was_there first mid (inr (lost, above, lock, is)) some = grind (arith, relocked_some)
 
 -- a lock byte of a place that is there is FFh after a loss of power, whatever was written there
 relocked_all : (first byte : Option ℕ) → IsSome first → IsSome byte → relocked byte ≡ relocked first
@@ -118,32 +100,17 @@ old_or_new_then {lost} writes first mid last one two = λ bank location.
 -- one part of a run after another
 pub touches_then : {loses : ℕ → Type 0} (writes : List (ℕ × ℕ)) (unit : ℕ) (first mid last : World)
     → Touches loses writes unit first mid → Touches loses writes unit mid last → Touches loses writes unit first last
-touches_then writes unit first mid last one two =
-    record {
-      others = λ address other. keeps_then first mid last address (one.others address other) (two.others address other);
-      here = old_or_new_then writes (first unit) (mid unit) (last unit) one.here two.here;
-    }
+touches_then writes unit first mid last one two = grind (arith, keeps_then, old_or_new_then)
 
 -- where every unit keeps its memory, nothing is touched
 pub keeps_touches : {loses : ℕ → Type 0} (writes : List (ℕ × ℕ)) (unit : ℕ) (first last : World)
     → ((address : ℕ) → KeepsAt loses first last address) → Touches loses writes unit first last
-keeps_touches writes unit first last keeps =
-    record {
-      others = λ address other. keeps address;
-      here = λ bank location. inl ((keeps unit).memory bank location);
-    }
+keeps_touches writes unit first last keeps = grind arith
 
 -- what one frame did
 pub puts_touch : {loses : ℕ → Type 0} (writes : List (ℕ × ℕ)) (unit : ℕ) (first last : World)
     → Puts writes unit first last → Touches loses writes unit first last
-puts_touch writes unit first last puts =
-    record {
-      others = λ address other. stays_keeps first last address (puts.others address other);
-      here = λ bank location. elim (puts.here bank location) [
-        | inl same ↦ inl (inl same)
-        | inr new ↦ inr new
-      ];
-    }
+puts_touch writes unit first last puts = grind (arith, stays_keeps)
 
 -- still no other unit is enabled
 pub only_on : {loses : ℕ → Type 0} (writes : List (ℕ × ℕ)) (unit : ℕ) (first last : World) → OnlyEnabled unit first
@@ -152,14 +119,7 @@ only_on writes unit first last only touches = λ address other. (touches.others 
 
 -- enabling a unit changes no memory
 enable_memory : (at : ℕ) (old : Gear) (to : ℕ) (new : Gear) → Heard at old (Enable to) new → new.memory ≡ old.memory
-enable_memory at old to new heard = (end_steady h.obeyed new h.ends).keeps.memory ∙ told h.obeys where
-  h : Hears at old (Enable to) heard.0 new
-  h = heard.1
-
-  told : ((to ≡ at) × (h.obeyed ≡ record old { enabled = true }) × (heard.0 ≡ None)) ⊎ Ignores old heard.0 h.obeyed
-      → h.obeyed.memory ≡ old.memory
-  told (inl on) = ap (λ (g : Gear). g.memory) on.1
-  told (inr ignores) = ap (λ (g : Gear). g.memory) ignores.0
+enable_memory at old to new heard = grind (arith, end_steady)
 
 -- the same of the unit at an address, if there is one
 enable_here : (at : ℕ) (old : Option Gear) (to : ℕ) (new : Option Gear) → MayHear at old (Enable to) new
@@ -173,14 +133,7 @@ enable_here at (Some old) to None hears = absurd hears
 -- a write enables no unit
 write_off : (at : ℕ) (old : Gear) (byte : ℕ) (new : Gear) → old.enabled ≡ false → Heard at old (Write byte) new
     → new.enabled ≡ false
-write_off at old byte new off heard = (end_steady h.obeyed new h.ends).keeps.off (told h.obeys) where
-  h : Hears at old (Write byte) heard.0 new
-  h = heard.1
-
-  told : Obeys at old (Write byte) heard.0 h.obeyed → h.obeyed.enabled ≡ false
-  told (inl stores) = let on = stores.0.0 in cc
-  told (inr (inl passes)) = ap (λ (g : Gear). g.enabled) passes.2 ∙ off
-  told (inr (inr (on, aside))) = let never : false ≡ true = sym off ∙ on in cc
+write_off at old byte new off heard = grind (arith, end_steady)
 
 -- the same of the unit at an address, if there is one
 write_off_here : (at : ℕ) (old : Option Gear) (byte : ℕ) (new : Option Gear) → MayHear at old (Write byte) new
@@ -219,12 +172,7 @@ quiet_safe loses writes unit tried frame quiet first before last answer only run
 pub enable_safe : (loses : ℕ → Type 0) (writes : List (ℕ × ℕ)) (unit : ℕ) (tried : List Exchange)
     → SafeNext loses writes unit tried (Enable unit)
 enable_safe loses writes unit tried first before last answer only run carry =
-    record {
-      others = λ address other. carry_stays before (Enable unit) answer last address (λ same. other (sym same)) carry;
-      here =
-          kept_old writes (before unit) (last unit)
-          (enable_here unit (before unit) unit (last unit) (carry.units unit));
-    }
+    grind (arith, carry_stays, kept_old, enable_here)
 
 -- a guarded write of one of the writes
 pub guarded_safe : (loses : ℕ → Type 0) (writes : List (ℕ × ℕ)) (unit location byte : ℕ) (tried : List Exchange)
@@ -232,86 +180,20 @@ pub guarded_safe : (loses : ℕ → Type 0) (writes : List (ℕ × ℕ)) (unit l
     → Selects unit location tried
     → SafeNext loses writes unit tried (Write byte)
 guarded_safe loses writes unit location byte tried has selects first before last answer only run carry =
-    let safe = write_safe _ tried first before last unit location byte answer run selects only carry in
-    record {
-      others = λ address other. record {
-        memory = safe.others address other;
-        off = write_off_here address (before address) byte (last address) (carry.units address);
-      };
-      here = elim safe.here [
-        | inl same ↦ kept_old writes (before unit) (last unit) same
-        | inr new ↦ written_new writes (before unit) (last unit) location byte has new
-      ];
-    }
+    grind (arith, write_safe, write_off_here, kept_old, written_new)
 
--- the next request is this one
-safe_as : (loses : ℕ → Type 0) (writes : List (ℕ × ℕ)) (unit : ℕ) (tried : List Exchange) (next : Request)
-    (frame : Frame) (wish : Wish)
-    → Some next ≡ Some (request frame wish)
-    → SafeNext loses writes unit tried frame → SafeNext loses writes unit tried next.frame
-safe_as loses writes unit tried next frame wish is safe =
-    let same : next ≡ request frame wish = cc in
-    subst (λ (l : Request). SafeNext loses writes unit tried l.frame) (sym same) safe
-
--- the request at a number
-abbrev pub request_at : ℕ → List Request → Option Request
-request_at number requests = slice_get requests number
-
--- all frames of a checked read are quiet
-pub read_safe : (loses : ℕ → Type 0) (writes : List (ℕ × ℕ)) (unit location : ℕ)
-    → SafeRequests loses writes unit (read_requests unit location)
-read_safe loses writes unit location tried next left try =
-    quiet_safe _ writes unit tried next.frame
-    (λ address. (trying_quiet address (read_requests unit location) tried (next ∷ left)
-    (read_quiet_requests address unit location) try).1.0)
-
--- the last four of six requests that were sent are the selecting ones
-pub four_of : (unit location byte : ℕ) (l1 l2 l3 l4 l5 l6 next : Request) (left : List Request)
-    → l1 ∷ l2 ∷ l3 ∷ l4 ∷ l5 ∷ l6 ∷ next ∷ left ≡ write_requests unit location byte
-    → l3 ∷ l4 ∷ l5 ∷ l6 ∷ [] ≡ select_requests unit location
-four_of unit location byte l1 l2 l3 l4 l5 l6 next left is =
-    ap (λ (requests : List Request). take 4 (drop 2 requests)) is
-
--- a checked write sends its byte only when the unit was made sure to have selected the location
-pub write_requests_safe : (loses : ℕ → Type 0) (writes : List (ℕ × ℕ)) (unit location byte : ℕ)
-    → Has writes location byte
-    → SafeRequests loses writes unit (write_requests unit location byte)
-write_requests_safe loses writes unit location byte has [] next left try =
-    safe_as _ writes unit [] next (Enable unit) Nothing (ap (request_at 0) try) (enable_safe _ writes unit [])
-write_requests_safe loses writes unit location byte has (x1 ∷ []) next left try =
-    let told = x1 ∷ [] in
-    safe_as _ writes unit told next (Enable unit) Nothing (ap (request_at 1) try.2) (enable_safe _ writes unit told)
-write_requests_safe loses writes unit location byte has (x2 ∷ x1 ∷ []) next left try =
-    let told = x2 ∷ x1 ∷ [] in
-    safe_as _ writes unit told next (Dtr1 1) Nothing (ap (request_at 2) try.2.2)
-    (quiet_safe _ writes unit told (Dtr1 1) (λ address. tt))
-write_requests_safe loses writes unit location byte has (x3 ∷ x2 ∷ x1 ∷ []) next left try =
-    let told = x3 ∷ x2 ∷ x1 ∷ [] in
-    safe_as _ writes unit told next (AskDtr1 unit) (Exactly 1) (ap (request_at 3) try.2.2.2)
-    (quiet_safe _ writes unit told (AskDtr1 unit) (λ address. tt))
-write_requests_safe loses writes unit location byte has (x4 ∷ x3 ∷ x2 ∷ x1 ∷ []) next left try =
-    let told = x4 ∷ x3 ∷ x2 ∷ x1 ∷ [] in
-    safe_as _ writes unit told next (Dtr0 location) Nothing (ap (request_at 4) try.2.2.2.2)
-    (quiet_safe _ writes unit told (Dtr0 location) (λ address. tt))
-write_requests_safe loses writes unit location byte has (x5 ∷ x4 ∷ x3 ∷ x2 ∷ x1 ∷ []) next left try =
-    let told = x5 ∷ x4 ∷ x3 ∷ x2 ∷ x1 ∷ [] in
-    safe_as _ writes unit told next (AskDtr0 unit) (Exactly location) (ap (request_at 5) try.2.2.2.2.2)
-    (quiet_safe _ writes unit told (AskDtr0 unit) (λ address. tt))
-write_requests_safe loses writes unit location byte has (x6 ∷ x5 ∷ x4 ∷ x3 ∷ x2 ∷ x1 ∷ []) next left try =
-    let told = x6 ∷ x5 ∷ x4 ∷ x3 ∷ x2 ∷ x1 ∷ [] in
-    let e = try.2.2.2.2.2.2 in
-    let four : Trying (select_requests unit location) (x6 ∷ x5 ∷ x4 ∷ x3 ∷ []) [] = (
-      try.0,
-      try.1,
-      (
-        try.2.0,
-        try.2.1,
-        (try.2.2.0, try.2.2.1, (try.2.2.2.0, try.2.2.2.1, four_of unit location byte _ _ _ _ _ _ next left e)),
-      ),
-    ) in
-    safe_as _ writes unit told next (Write byte) (Exactly byte) (ap (request_at 6) e)
-    (guarded_safe _ writes unit location byte told has (x6 ∷ x5 ∷ x4 ∷ x3 ∷ [], x2 ∷ x1 ∷ [], refl, four))
-write_requests_safe loses writes unit location byte has (x7 ∷ x6 ∷ x5 ∷ x4 ∷ x3 ∷ x2 ∷ x1 ∷ rest) next left try =
-    let long =
-    trying_length (write_requests unit location byte) (x7 ∷ x6 ∷ x5 ∷ x4 ∷ x3 ∷ x2 ∷ x1 ∷ rest) (next ∷ left) try in
-    let no : ⊥ = omega arith in absurd no
+-- what is guarded is safe
+pub guarded_is_safe : (loses : ℕ → Type 0) (writes : List (ℕ × ℕ)) (unit : ℕ) (tried : List Exchange) (frame : Frame)
+    → IsGuarded writes unit tried frame → SafeNext loses writes unit tried frame
+guarded_is_safe loses writes unit tried (Dtr0 byte) guarded = quiet_safe _ writes unit tried _ (λ address. tt)
+guarded_is_safe loses writes unit tried (Dtr1 byte) guarded = quiet_safe _ writes unit tried _ (λ address. tt)
+guarded_is_safe loses writes unit tried (Dtr2 byte) guarded = absurd guarded
+guarded_is_safe loses writes unit tried (Write byte) guarded =
+    guarded_safe _ writes unit guarded.0 byte tried guarded.1 guarded.2
+guarded_is_safe loses writes unit tried (WriteSilent byte) guarded = absurd guarded
+guarded_is_safe loses writes unit tried (Enable to) guarded = rw guarded.0 (enable_safe _ writes unit tried)
+guarded_is_safe loses writes unit tried (AskDtr0 to) guarded = quiet_safe _ writes unit tried _ (λ address. tt)
+guarded_is_safe loses writes unit tried (AskDtr1 to) guarded = quiet_safe _ writes unit tried _ (λ address. tt)
+guarded_is_safe loses writes unit tried (AskDtr2 to) guarded = absurd guarded
+guarded_is_safe loses writes unit tried (Read to) guarded = quiet_safe _ writes unit tried _ (λ address. tt)
+guarded_is_safe loses writes unit tried (Other word) guarded = absurd guarded

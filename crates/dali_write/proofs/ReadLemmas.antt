@@ -1,7 +1,6 @@
 -- What a reading session has read is what bank 1 of its unit holds.
 use Rattle.std.proofs.Common.{◌≡◌, ◌⊎◌, inl, inr, refl, sym, ap, subst, ◌∙◌, ℕ, zero, suc, ◌+◌, ◌<◌, ◌≤◌, min, List, []}
 use Rattle.std.proofs.Common.{◌∷◌, ◌++◌, length, length-append, append-nil, get_or, drop, Option, Some, None, arith}
-use Rattle.std.specs.Option.{option_to_list}
 use Rattle.std.proofs.lemmas.Option.{slice_get-get_or}
 use Rattle.std.proofs.lemmas.List.{get_or_append_left}
 use Rattle.std.proofs.Math.Seq.{get_or-append_seam}
@@ -14,37 +13,39 @@ use Rattle.dali_write.specs.declared.stage.Task.{Task}
 use Rattle.dali_write.specs.declared.stage.Task.TheVariants.{Reading}
 use Rattle.dali_write.specs.declared.ask.Verdict.TheVariants.{Silent, Read}
 use Rattle.dali_write.specs.declared.ask.Ask.TheVariants.{Ended}
-use Rattle.dali_write.specs.Plans.{Plan, Finish, Make, next_plan, plan_after, either_way, read_on, read_all}
+use Rattle.dali_write.specs.Plans.{Plan, Finish, Make, next_plan, plan_after, read_on, read_all}
+use Rattle.dali_write.specs.Requests.{block}
 use Rattle.dali_write.specs.Tries.{AccessEnds, AccessesEnd, plan_requests}
 use Rattle.dali_write.proofs.AskLemmas.{shown_ask, ask_shown}
-use Rattle.dali_write.specs.Found.{StandsWith, found}
+use Rattle.dali_write.specs.Found.{StandsWith, found, read_by}
 use Rattle.dali_write.specs.Reads.{StillRead, ReadsBank}
 use Rattle.dali_write.specs.Worlds.{Shows}
 use Rattle.dali_bus.specs.Power.{MayRelock}
 use Rattle.dali_write.specs.Verdicts.{ShowsBank}
-use Rattle.dali_write.specs.Stages.{plan_of, plan_at}
+use Rattle.dali_write.specs.Stages.{plan_at}
 use Rattle.dali_write.specs.Told.{Told, aim_of}
 use Rattle.dali_write.proofs.RestLemmas.{After, KeepsReads, split, shows_kept, read_access_shows, read_access_keeps}
+use Rattle.dali_write.proofs.BlockOneLemmas.{access_tells_one}
 use Rattle.dali_write.proofs.StillReadLemmas.{stands_true}
 use Rattle.dali_write.proofs.WalkLemmas.{ended_told}
 use Rattle.dali_write.proofs.RunLemmas.{Leads}
 use Rattle.dali_bus.specs.Carry.{WorldStep}
 
 -- each of the bytes was told at its location, and is still read
-abbrev ReadsEach : List Exchange → ℕ → List ℕ → Type 0
+abbrev pub ReadsEach : List Exchange → ℕ → List ℕ → Type 0
 ReadsEach told unit bytes =
     (location : ℕ) → location < length bytes → StillRead told unit location (get_or bytes location 0)
 
 -- so far these bytes were read, of as many as the first one names
-record ReadSoFar (plan : Plan) (bytes : List ℕ) (unit : ℕ) (told : List Exchange) : Type 0 where
-  left : ℕ
-  some : 1 ≤ length bytes
-  plan_is : plan ≡ read_on (length bytes) left
-  count : length bytes + left ≡ suc (min (get_or bytes 0 0) 0xFE)
-  each : ReadsEach told unit bytes
+pub record ReadSoFar (plan : Plan) (bytes : List ℕ) (unit : ℕ) (told : List Exchange) : Type 0 where
+  pub left : ℕ
+  pub some : 1 ≤ length bytes
+  pub plan_is : plan ≡ read_on (length bytes) left
+  pub count : length bytes + left ≡ suc (min (get_or bytes 0 0) 0xFE)
+  pub each : ReadsEach told unit bytes
 
 -- nothing was read yet, some bytes were, or a read failed
-abbrev Reached : Plan → List ℕ → ℕ → List Exchange → Type 0
+abbrev pub Reached : Plan → List ℕ → ℕ → List Exchange → Type 0
 Reached plan bytes unit told =
     ((plan ≡ read_all) × (bytes ≡ [])) ⊎ (ReadSoFar plan bytes unit told ⊎ (plan ≡ Finish Silent))
 
@@ -54,90 +55,60 @@ reads_more : (mid last : List Exchange) (unit byte : ℕ) (bytes : List ℕ) →
     → StillRead last unit (length bytes) byte
     → ReadsEach last unit (bytes ++ byte ∷ [])
 reads_more mid last unit byte bytes each keeps here location below =
-    elim (eq-or-lt_of_le {n = location} {m = length bytes} (omega (arith, length-append bytes (byte ∷ [])))) [
-      | inl is ↦ subst (λ (l : ℕ). StillRead last unit l (get_or (bytes ++ byte ∷ []) l 0)) (sym is)
-          (subst (λ (b : ℕ). StillRead last unit (length bytes) b) (sym (get_or-append_seam bytes byte [] 0)) here)
-      | inr less ↦
-          subst (λ (b : ℕ). StillRead last unit location b)
-          (sym (get_or_append_left bytes (byte ∷ []) 0 location less))
-          (shows_kept mid last unit location (get_or bytes location 0) (each location less) keeps)
-    ]
+    grind (arith, eq-or-lt_of_le, length-append, get_or-append_seam, get_or_append_left, shows_kept)
 
 -- the first read, of location 00h
-first_read : (unit : ℕ) (outcome : Option ℕ) (newer : List Exchange) (mid last : List Exchange)
+first_read : (unit : ℕ) (outcome : Option (List ℕ)) (newer mid last : List Exchange)
     → AccessEnds unit read_all outcome newer → After newer mid last
     → Reached (next_plan read_all outcome) (found (outcome ∷ [])) unit last
 first_read unit None newer mid last ends run = inr (inr refl)
-first_read unit (Some byte) newer mid last ends run =
-    let after_first = either_way (Finish Silent) (λ top. read_on 1 (min top 0xFE)) in
-    inr (inl (record {
+first_read unit (Some bytes) newer mid last ends run =
+    let byte = get_or bytes 0 0 in
+    subst (λ (l : List ℕ). Reached (read_on 1 (min byte 0xFE)) l unit last)
+    (sym (access_tells_one unit 0 bytes newer ends)) (inr (inl (record {
       left = min byte 0xFE;
       some = omega arith;
       plan_is = refl;
       count = omega arith;
       each =
           reads_more mid last unit byte [] (λ location below. absurd (omega arith))
-          (read_access_keeps unit 0 after_first (Some byte) newer mid last ends run)
-          (read_access_shows unit 0 byte after_first newer mid last ends run);
-    }))
+          (read_access_keeps unit (block 0 1) (Some bytes) newer mid last ends run)
+          (read_access_shows unit 0 bytes newer mid last ends run);
+    })))
 
 -- a further read
-next_read : (unit left : ℕ) (outcome : Option ℕ) (bytes : List ℕ) (newer : List Exchange)
-    (mid last : List Exchange)
+next_read : (unit left : ℕ) (outcome : Option (List ℕ)) (bytes : List ℕ) (newer mid last : List Exchange)
     → 1 ≤ length bytes
     → length bytes + left ≡ suc (min (get_or bytes 0 0) 0xFE) → ReadsEach mid unit bytes
     → AccessEnds unit (read_on (length bytes) left) outcome newer → After newer mid last
-    → ((byte : ℕ) × (outcome ≡ Some byte)
-    × ReadSoFar (next_plan (read_on (length bytes) left) outcome) (bytes ++ byte ∷ []) unit last)
-    ⊎ (next_plan (read_on (length bytes) left) outcome ≡ Finish Silent)
+    → Reached (next_plan (read_on (length bytes) left) outcome) (bytes ++ read_by outcome) unit last
 next_read unit zero outcome bytes newer mid last some count each ends run = absurd ends
-next_read unit (suc left) None bytes newer mid last some count each ends run = inr refl
-next_read unit (suc left) (Some byte) bytes newer mid last some count each ends run =
-    let after_next = either_way (Finish Silent) (λ b. read_on (suc (length bytes)) left) in
+next_read unit (suc left) None bytes newer mid last some count each ends run = inr (inr refl)
+next_read unit (suc left) (Some new) bytes newer mid last some count each ends run =
+    let byte = get_or new 0 0 in
     let more : length (bytes ++ byte ∷ []) ≡ suc (length bytes) = omega (arith, length-append bytes (byte ∷ [])) in
-    inl (
-      byte,
-      refl,
-      record {
-        left = left;
-        some = omega arith;
-        plan_is = ap (λ (n : ℕ). read_on n left) (sym more);
-        count = omega (arith, ap (λ (b : ℕ). min b 0xFE) (get_or_append_left bytes (byte ∷ []) 0 0 some));
-        each =
-            reads_more mid last unit byte bytes each
-            (read_access_keeps unit (length bytes) after_next (Some byte) newer mid last ends run)
-            (read_access_shows unit (length bytes) byte after_next newer mid last ends run);
-      },
-    )
+    subst (λ (l : List ℕ). Reached (read_on (suc (length bytes)) left) (bytes ++ l) unit last)
+    (sym (access_tells_one unit (length bytes) new newer ends)) (inr (inl (record {
+      left = left;
+      some = omega arith;
+      plan_is = ap (λ (n : ℕ). read_on n left) (sym more);
+      count = omega (arith, ap (λ (b : ℕ). min b 0xFE) (get_or_append_left bytes (byte ∷ []) 0 0 some));
+      each =
+          reads_more mid last unit byte bytes each
+          (read_access_keeps unit (block (length bytes) 1) (Some new) newer mid last ends run)
+          (read_access_shows unit (length bytes) new newer mid last ends run);
+    })))
 
 -- one more access, whatever stood before it
-access_reaches : (unit : ℕ) (plan : Plan) (outcomes : List (Option ℕ)) (outcome : Option ℕ)
-    (newer : List Exchange)
-    (mid last : List Exchange)
+access_reaches : (unit : ℕ) (plan : Plan) (outcomes : List (Option (List ℕ))) (outcome : Option (List ℕ))
+    (newer mid last : List Exchange)
     → Reached plan (found outcomes) unit mid → AccessEnds unit plan outcome newer → After newer mid last
     → Reached (next_plan plan outcome) (found (outcome ∷ outcomes)) unit last
-access_reaches unit plan outcomes outcome newer mid last (inl (is, none)) ends run =
-    let first =
-    first_read unit outcome newer mid last (subst (λ (p : Plan). AccessEnds unit p outcome newer) is ends) run in
-    subst (λ (p : Plan). Reached (next_plan p outcome) (found (outcome ∷ outcomes)) unit last) (sym is)
-    (subst (λ (bytes : List ℕ). Reached (next_plan read_all outcome) (bytes ++ option_to_list outcome) unit last)
-    (sym none) first)
-access_reaches unit plan outcomes outcome newer mid last (inr (inl so_far)) ends run =
-    let is = so_far.plan_is in
-    let bytes = found outcomes in
-    subst (λ (p : Plan). Reached (next_plan p outcome) (bytes ++ option_to_list outcome) unit last) (sym is)
-    (elim (next_read unit so_far.left outcome bytes newer mid last so_far.some so_far.count so_far.each
-    (subst (λ (p : Plan). AccessEnds unit p outcome newer) is ends) run) [
-      | inl read ↦
-          inr (inl (subst (λ (o : Option ℕ).
-          ReadSoFar (next_plan (read_on (length bytes) so_far.left) outcome) (bytes ++ option_to_list o) unit last)
-          (sym read.1) read.2))
-      | inr failed ↦ inr (inr failed)
-    ])
-access_reaches unit plan outcomes outcome newer mid last (inr (inr is)) ends run =
-    absurd (subst (λ (p : Plan). AccessEnds unit p outcome newer) is ends)
+access_reaches unit plan outcomes outcome newer mid last (inl (is, none)) ends run = grind (arith, first_read)
+access_reaches unit plan outcomes outcome newer mid last (inr (inl so_far)) ends run = grind (arith, next_read)
+access_reaches unit plan outcomes outcome newer mid last (inr (inr is)) ends run = grind arith
 
-accesses_reach : (unit : ℕ) (outcomes : List (Option ℕ)) (told : List Exchange)
+pub accesses_reach : (unit : ℕ) (outcomes : List (Option (List ℕ))) (told : List Exchange)
     (first last : List Exchange)
     → AccessesEnd unit read_all outcomes told → After told first last
     → Reached (plan_after read_all outcomes) (found outcomes) unit last
@@ -167,33 +138,31 @@ bank_read unit bytes plan told (inr (inl so_far)) ended =
     by (suc left) count over = cc
 bank_read unit bytes plan told (inr (inr is)) ended = let never : Finish Silent ≡ Finish Read = sym is ∙ ended in cc
 
-ended_reads : (unit : ℕ) (told : List Exchange) (now : Plan) (misses : ℕ) (left : List Request) (byte : Option ℕ)
-    (bytes : List ℕ)
-    → StandsWith Reading unit read_all told now misses left byte bytes → shown_ask now left ≡ Ended Read
+ended_reads : (unit : ℕ) (told : List Exchange) (now : Plan) (misses : ℕ) (left : List Request)
+    (tried bytes : List ℕ)
+    → StandsWith Reading unit told now misses left tried bytes → shown_ask now left ≡ Ended Read
     → ReadsBank told unit bytes
-ended_reads unit told (Finish v) misses left byte bytes s ask =
+ended_reads unit told (Finish v) misses left tried bytes s ask =
     let same : v ≡ Read = cc in
     let all =
     ended_told told s.stands.tried s.stands.missed s.stands.ended left misses s.stands.parts s.stands.try
     s.stands.misses_are in
     let reached =
-    accesses_reach unit s.stands.outcomes s.stands.ended [] told s.stands.accesses
-    (all ∙ sym (append-nil s.stands.ended)) in
-    subst (λ (b : List ℕ). ReadsBank told unit b) (sym s.bytes_are)
-    (bank_read unit (found s.stands.outcomes) (plan_after read_all s.stands.outcomes) told reached
-    (s.stands.now_is ∙ ap Finish same))
-ended_reads unit told (Make access after) misses [] byte bytes s ask = let none = s.stands.going in cc
-ended_reads unit told (Make access after) misses (next ∷ left) byte bytes s ask = cc
+    accesses_reach unit s.outcomes s.stands.ended [] told s.stands.accesses (all ∙ sym (append-nil s.stands.ended)) in
+    rw s.bytes_are
+    (bank_read unit (found s.outcomes) (plan_after read_all s.outcomes) told reached (s.stands.now_is ∙ ap Finish same))
+ended_reads unit told (Make access after) misses [] tried bytes s ask = let none = s.stands.going in cc
+ended_reads unit told (Make access after) misses (next ∷ left) tried bytes s ask = cc
 
 pub bytes_are_read : (told : List Exchange) (s : Session) → Told told s → s.task ≡ Reading → aim_of s ≡ Ended Read
     → ReadsBank told s.unit s.bytes.items
 unfolding Told
 bytes_are_read told s was reading ended =
-    ended_reads s.unit told (plan_at s.task s.stage) s.misses _ s.byte s.bytes.items
-    (subst (λ (task : Task). StandsWith task s.unit (plan_of task) told (plan_at s.task s.stage) s.misses
-    (drop s.number (plan_requests s.unit (plan_at s.task s.stage))) s.byte s.bytes.items)
-    reading was)
-    (ask_shown (plan_at s.task s.stage) (drop s.number (plan_requests s.unit (plan_at s.task s.stage))) s.going ∙ ended)
+    let now = plan_at s.task s.stage in
+    let left = drop s.number (plan_requests s.unit now) in
+    ended_reads s.unit told now s.misses left s.tried.items s.bytes.items
+    (subst (λ (task : Task). StandsWith task s.unit told now s.misses left s.tried.items s.bytes.items) reading was)
+    (ask_shown now left s.going ∙ ended)
 
 -- the byte that a unit shows stands at its place, or it is the lock byte
 byte_shown : {loses : ℕ → Type 0} (world : World) (unit location byte : ℕ) → Shows loses world unit location byte

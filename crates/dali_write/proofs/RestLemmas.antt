@@ -1,29 +1,26 @@
 -- What the verdict of a session rests on: checked reads that stand among what it was told.
 use Rattle.std.proofs.Common.{◌≡◌, ◌⊎◌, inl, inr, refl, sym, subst, ◌∙◌, ℕ, Bool, true, false, ◌==◌, if◌then◌else◌}
-use Rattle.std.proofs.Common.{List, [], ◌∷◌, ◌++◌, Option, Some, None}
+use Rattle.std.proofs.Common.{List, [], ◌∷◌, ◌++◌, get_or, Option, Some, None}
 use Rattle.std.proofs.lemmas.Bool.{eqb-true}
 use Rattle.std.proofs.lemmas.List.{append_assoc, append-nil}
 use Rattle.std.specs.List.{AllByRecursion}
-use Rattle.dali_frame.specs.declared.forward.Frame.{Frame}
-use Rattle.dali_frame.specs.declared.forward.Frame.TheVariants.{Dtr0, Dtr1, Dtr2, Write, WriteSilent, Enable, AskDtr0}
-use Rattle.dali_frame.specs.declared.forward.Frame.TheVariants.{AskDtr1, AskDtr2, Read, Other}
 use Rattle.dali_write.specs.Exchanges.{Exchange}
-use Rattle.dali_write.specs.declared.access.Access.TheVariants.{ReadFrom}
 use Rattle.dali_write.specs.declared.ask.Ask.TheVariants.{Ended}
 use Rattle.dali_write.specs.declared.ask.Verdict.{Verdict}
 use Rattle.dali_write.specs.declared.ask.Verdict.TheVariants.{MayOpen, Done, Short, Format, Silent, Doubt, DoubtOpen}
 use Rattle.dali_write.specs.declared.ask.Verdict.TheVariants.{Closed, NotClosed}
-use Rattle.dali_write.specs.Plans.{Plan, Finish, Make, either_way, read_closed, close, give_up, expect, read_back}
+use Rattle.dali_write.specs.Plans.{Plan, Finish, read_closed, close, give_up, expect, read_back}
 use Rattle.dali_write.specs.Plans.{read_lock, write_on, unlock}
-use Rattle.dali_write.specs.Tries.{AccessEnds, Wants}
+use Rattle.dali_write.specs.declared.block.Block.{Block}
+use Rattle.dali_write.specs.Requests.{block, read_requests, block_requests}
+use Rattle.dali_write.specs.Tries.{Succeeds, Fails, Wants, bytes_of}
 use Rattle.dali_write.specs.Findings.{Suits, IsTooShort, HasOtherFormat, IsWritten, RestsOn, Rests}
 use Rattle.dali_write.specs.Reads.{IsPassive, EndsInRead, StillRead}
 use Rattle.dali_write.specs.Walks.{Walk}
-use Rattle.dali_write.proofs.GearLemmas.{IsQuiet}
-use Rattle.dali_write.proofs.TruthLemmas.{AllQuiet}
+use Rattle.dali_write.proofs.AskedLemmas.{IsCalm, Sent, access_sent, block_calm, calm_passive}
 use Rattle.dali_write.proofs.EndLemmas.{ends_reading}
-use Rattle.dali_write.proofs.BlockOneLemmas.{one_tells}
-use Rattle.dali_write.proofs.VerdictLemmas.{read_access_quiet, finish_walk, only_older}
+use Rattle.dali_write.proofs.BlockOneLemmas.{one_tells, tells_one}
+use Rattle.dali_write.proofs.VerdictLemmas.{finish_walk, only_older}
 use Rattle.dali_write.proofs.WalkLemmas.{ended_walk}
 
 -- the exchanges, the newest first, after the first ones are the last ones
@@ -51,35 +48,19 @@ pub shows_kept : (first last : List Exchange) (unit location byte : ℕ) → Sti
     → KeepsReads first last → StillRead last unit location byte
 shows_kept first last unit location byte stands keeps = keeps unit location byte stands
 
--- a frame that is quiet at each address enables no unit and writes nothing
-quiet_passive : (frame : Frame) → ((address : ℕ) → IsQuiet address frame) → IsPassive frame
-quiet_passive (Dtr0 byte) quiet = tt
-quiet_passive (Dtr1 byte) quiet = tt
-quiet_passive (Dtr2 byte) quiet = tt
-quiet_passive (AskDtr0 unit) quiet = tt
-quiet_passive (AskDtr1 unit) quiet = tt
-quiet_passive (AskDtr2 unit) quiet = tt
-quiet_passive (Read unit) quiet = tt
-quiet_passive (Write byte) quiet = quiet 0
-quiet_passive (WriteSilent byte) quiet = quiet 0
-quiet_passive (Enable unit) quiet = quiet unit refl
-quiet_passive (Other word) quiet = quiet 0
-
-quiet_keeps : (told first : List Exchange) → ((address : ℕ) → AllQuiet address told) → KeepsReads first (told ++ first)
-quiet_keeps [] first quiet = λ unit location byte stands. stands
-quiet_keeps (x ∷ told) first quiet = λ unit location byte stands.
-    inr (
-      quiet_passive x.frame (λ address. (quiet address).0),
-      quiet_keeps told first (λ address. (quiet address).1) unit location byte stands,
-    )
+passive_keeps : (told first : List Exchange) → Sent IsPassive told → KeepsReads first (told ++ first)
+passive_keeps [] first sent = λ unit location byte stands. stands
+passive_keeps (x ∷ told) first sent =
+    λ unit location byte stands. inr (sent.0, passive_keeps told first sent.1 unit location byte stands)
 
 -- a read access keeps what stood
-pub read_access_keeps : (unit location : ℕ) (after : Option ℕ → Plan) (outcome : Option ℕ)
-    (told first last : List Exchange)
-    → AccessEnds unit (Make (ReadFrom location) after) outcome told → After told first last → KeepsReads first last
-read_access_keeps unit location after outcome told first last ends is = λ u l b stands.
+pub read_access_keeps : (unit : ℕ) (block : Block) (outcome : Option (List ℕ)) (told first last : List Exchange)
+    → Succeeds (block_requests unit block) outcome told ⊎ Fails (block_requests unit block) outcome told
+    → After told first last → KeepsReads first last
+read_access_keeps unit block outcome told first last ends is = λ u l b stands.
+    let calm = access_sent (IsCalm unit) (block_requests unit block) outcome told (block_calm unit block) ends in
     subst (λ (t : List Exchange). StillRead t u l b) (sym is)
-    (quiet_keeps told first (λ address. read_access_quiet address unit location after outcome told ends) u l b stands)
+    (passive_keeps told first (calm_passive unit told calm) u l b stands)
 
 -- a checked read that was just made stands
 stands_now : (unit location byte : ℕ) (told : List Exchange) → EndsInRead unit location byte told
@@ -101,22 +82,26 @@ older_reads (x ∷ told) older unit location byte (inr (passive, stands)) =
     inr (passive, older_reads told older unit location byte stands)
 
 -- and a read access that didn't fail ends in one
-pub read_access_shows : (unit location byte : ℕ) (after : Option ℕ → Plan) (told first last : List Exchange)
-    → AccessEnds unit (Make (ReadFrom location) after) (Some byte) told → After told first last
-    → StillRead last unit location byte
-read_access_shows unit location byte after told first last (inl done) is =
+pub read_access_shows : (unit location : ℕ) (bytes : List ℕ) (told first last : List Exchange)
+    → Succeeds (read_requests unit location) (Some bytes) told
+    ⊎ Fails (read_requests unit location) (Some bytes) told
+    → After told first last
+    → StillRead last unit location (get_or bytes 0 0)
+read_access_shows unit location bytes told first last (inl done) is =
     let parts : last ≡ done.0 ++ (done.1 ++ first) =
     is ∙ (subst (λ (t : List Exchange). told ++ first ≡ t ++ first) done.3 refl ∙ append_assoc done.0 done.1 first) in
-    let tells = one_tells unit location byte done.0 (done.4, sym done.5) in
-    stands_now unit location byte last (done.0, done.1 ++ first, parts, tells)
-read_access_shows unit location byte after told first last (inr failed) is = let never = failed.0 in cc
+    let same : bytes ≡ bytes_of done.0 = let is = done.5 in cc in
+    let tells = one_tells unit location _ done.0 (tells_one unit location done.0 done.4) in
+    subst (λ (l : List ℕ). StillRead last unit location (get_or l 0 0)) (sym same)
+    (stands_now unit location _ last (done.0, done.1 ++ first, parts, tells))
+read_access_shows unit location bytes told first last (inr failed) is = let never = failed.0 in cc
 
 -- it gave the order up
 Gave : ℕ → Verdict → Verdict → Verdict → List Exchange → Type 0
 Gave unit answered unanswered verdict world =
     (verdict ≡ unanswered) ⊎ ((verdict ≡ answered) × ((byte : ℕ) × StillRead world unit 2 byte))
 
-read_closed_rests : (unit : ℕ) (answered unanswered verdict : Verdict) (outcomes : List (Option ℕ))
+read_closed_rests : (unit : ℕ) (answered unanswered verdict : Verdict) (outcomes : List (Option (List ℕ)))
     (told : List Exchange) (first last : List Exchange)
     → Walk unit (read_closed answered unanswered) outcomes told (Finish verdict) → After told first last
     → Gave unit answered unanswered verdict last
@@ -134,13 +119,14 @@ read_closed_rests unit answered unanswered verdict (Some byte ∷ outcomes) told
     inr (
       is,
       (
-        byte,
-        read_access_shows unit 2 byte (either_way (Finish unanswered) (λ b. Finish answered)) walk.1 first last walk.3
+        get_or byte 0 0,
+        read_access_shows unit 2 byte walk.1 first last walk.3
             (subst (λ (t : List Exchange). After t first last) older run),
       ),
     )
 
-close_rests : (unit : ℕ) (answered unanswered verdict : Verdict) (outcomes : List (Option ℕ)) (told : List Exchange)
+close_rests : (unit : ℕ) (answered unanswered verdict : Verdict) (outcomes : List (Option (List ℕ)))
+    (told : List Exchange)
     (first last : List Exchange)
     → Walk unit (close answered unanswered) outcomes told (Finish verdict) → After told first last
     → Gave unit answered unanswered verdict last
@@ -160,14 +146,14 @@ gave_up unit updates verdict last (inr gave) =
 -- the location held the byte, and the plan went on; or it gave the order up
 record Went (unit location byte : ℕ) (after : Plan) (verdict : Verdict) (first last : List Exchange) : Type 0 where
   mid : List Exchange
-  outcomes : List (Option ℕ)
+  outcomes : List (Option (List ℕ))
   newer : List Exchange
   walk : Walk unit after outcomes newer (Finish verdict)
   run : After newer mid last
   shows : StillRead mid unit location byte
   keeps : KeepsReads first mid
 
-expect_rests : (unit location byte : ℕ) (after : Plan) (verdict : Verdict) (outcomes : List (Option ℕ))
+expect_rests : (unit location byte : ℕ) (after : Plan) (verdict : Verdict) (outcomes : List (Option (List ℕ)))
     (told : List Exchange) (first last : List Exchange)
     → Walk unit (expect location byte after) outcomes told (Finish verdict) → After told first last
     → Went unit location byte after verdict first last ⊎ Gave unit Doubt DoubtOpen verdict last
@@ -177,15 +163,16 @@ expect_rests unit location byte after verdict (None ∷ outcomes) told first las
     inr (close_rests unit Doubt DoubtOpen verdict outcomes walk.0 parts.0 last walk.4 parts.2)
 expect_rests unit location byte after verdict (Some found ∷ outcomes) told first last walk run =
     let parts = split walk.0 walk.1 first last (subst (λ (t : List Exchange). After t first last) walk.2 run) in
-    let after_read = either_way give_up (λ f. if f == byte then after else give_up) in
-    let shows = read_access_shows unit location found after_read walk.1 first parts.0 walk.3 parts.1 in
-    let keeps = read_access_keeps unit location after_read (Some found) walk.1 first parts.0 walk.3 parts.1 in
-    by parts.0 parts.2 shows keeps (found == byte) refl walk.4 where
-      by : (mid : List Exchange) → After walk.0 mid last → StillRead mid unit location found → (KeepsReads first mid)
-          → (t : Bool) → (found == byte) ≡ t → Walk unit (if t then after else give_up) outcomes walk.0 (Finish verdict)
+    let shows = read_access_shows unit location found walk.1 first parts.0 walk.3 parts.1 in
+    let keeps = read_access_keeps unit (block location 1) (Some found) walk.1 first parts.0 walk.3 parts.1 in
+    by parts.0 parts.2 shows keeps (get_or found 0 0 == byte) refl walk.4 where
+      by : (mid : List Exchange) → After walk.0 mid last → StillRead mid unit location (get_or found 0 0)
+          → (KeepsReads first mid)
+          → (t : Bool) → (get_or found 0 0 == byte) ≡ t
+          → Walk unit (if t then after else give_up) outcomes walk.0 (Finish verdict)
           → Went unit location byte after verdict first last ⊎ Gave unit Doubt DoubtOpen verdict last
       by mid run shows keeps true same on =
-          let is : found ≡ byte = eqb-true found byte same in
+          let is = eqb-true (get_or found 0 0) byte same in
           inl (record {
             mid = mid;
             outcomes = outcomes;
@@ -204,7 +191,7 @@ record Held (unit : ℕ) (updates : List (ℕ × ℕ)) (verdict : Verdict) (firs
   shows : AllByRecursion (λ update. StillRead last unit update.0 update.1) updates
   keeps : KeepsReads first last
 
-read_back_rests : (unit : ℕ) (updates : List (ℕ × ℕ)) (verdict : Verdict) (outcomes : List (Option ℕ))
+read_back_rests : (unit : ℕ) (updates : List (ℕ × ℕ)) (verdict : Verdict) (outcomes : List (Option (List ℕ)))
     (told : List Exchange) (first last : List Exchange)
     → Walk unit (read_back updates) outcomes told (Finish verdict) → After told first last
     → Held unit updates verdict first last ⊎ Gave unit Doubt DoubtOpen verdict last
@@ -228,7 +215,7 @@ read_back_rests unit (update ∷ updates) verdict outcomes told first last walk 
           ]
     ]
 
-read_lock_rests : (unit : ℕ) (updates : List (ℕ × ℕ)) (verdict : Verdict) (outcomes : List (Option ℕ))
+read_lock_rests : (unit : ℕ) (updates : List (ℕ × ℕ)) (verdict : Verdict) (outcomes : List (Option (List ℕ)))
     (told : List Exchange) (first last : List Exchange)
     → Walk unit (read_lock updates) outcomes told (Finish verdict) → After told first last
     → Rests (StillRead last unit) updates verdict
@@ -243,7 +230,7 @@ read_lock_rests unit updates verdict outcomes told first last walk run =
           ]
     ]
 
-write_on_rests : (unit : ℕ) (updates left : List (ℕ × ℕ)) (verdict : Verdict) (outcomes : List (Option ℕ))
+write_on_rests : (unit : ℕ) (updates left : List (ℕ × ℕ)) (verdict : Verdict) (outcomes : List (Option (List ℕ)))
     (told : List Exchange) (first last : List Exchange)
     → Walk unit (write_on updates left) outcomes told (Finish verdict) → After told first last
     → Rests (StillRead last unit) updates verdict
@@ -264,7 +251,7 @@ write_on_rests unit updates (update ∷ left) verdict (Some byte ∷ outcomes) t
     let parts = split walk.0 walk.1 first last (subst (λ (t : List Exchange). After t first last) walk.2 run) in
     write_on_rests unit updates left verdict outcomes walk.0 parts.0 last walk.4 parts.2
 
-unlock_rests : (unit : ℕ) (updates : List (ℕ × ℕ)) (verdict : Verdict) (outcomes : List (Option ℕ))
+unlock_rests : (unit : ℕ) (updates : List (ℕ × ℕ)) (verdict : Verdict) (outcomes : List (Option (List ℕ)))
     (told : List Exchange) (first last : List Exchange)
     → Walk unit (unlock updates) outcomes told (Finish verdict) → After told first last
     → Rests (StillRead last unit) updates verdict

@@ -1,85 +1,88 @@
--- There is room for each byte that a reading session reads.
-use Rattle.std.proofs.Common.{◌≡◌, sym, ap, subst, ◌∙◌, ℕ, zero, suc, ◌-◌, ◌<◌, ◌≤◌, min, List, [], ◌∷◌, length}
-use Rattle.std.specs.Prelude.{⊤}
-use Rattle.std.proofs.Common.{length-append, Option, Some, None, arith}
-use Rattle.std.specs.Option.{option_to_list}
+-- There is room for what a session that reads keeps.
+use Rattle.std.proofs.Common.{◌≡◌, inl, inr, refl, sym, ap, subst, ◌∙◌, ℕ, zero, suc, ◌+◌, ◌≤◌, min, List, [], ◌∷◌}
+use Rattle.std.proofs.Common.{◌++◌, append-nil, length, get_or, Option, Some, None, if◌then◌else◌, arith}
+use Rattle.dali_frame.specs.declared.forward.Frame.{Frame}
 use Rattle.dali_write.specs.Exchanges.{Exchange}
+use Rattle.dali_write.specs.declared.request.Wish.{Wish}
 use Rattle.dali_write.specs.declared.request.Request.{Request}
+use Rattle.dali_write.specs.declared.block.Block.{Block}
+use Rattle.dali_write.specs.declared.ask.Verdict.{Verdict}
+use Rattle.dali_write.specs.declared.ask.Verdict.TheVariants.{Silent, Read}
 use Rattle.dali_write.specs.declared.stage.Task.{Task}
-use Rattle.dali_write.specs.declared.stage.Task.TheVariants.{Fresh, Opened, Closing, Reading}
-use Rattle.dali_write.specs.declared.ask.Verdict.TheVariants.{Silent}
-use Rattle.dali_write.specs.declared.access.Access.{Access}
-use Rattle.dali_write.specs.Plans.{Plan, Finish, Make, next_plan, plan_after, read_on, read_all}
-use Rattle.dali_write.specs.Found.{StandsWith, found}
+use Rattle.dali_write.specs.declared.stage.Task.TheVariants.{Fresh, Opened, Closing, Reading, ReadingBlock}
+use Rattle.dali_write.specs.Requests.{Meets, block, request, read_answer, read_requests}
+use Rattle.dali_write.specs.Plans.{Plan, Finish, next_plan, plan_after, read_on, read_block}
+use Rattle.dali_write.specs.Tries.{Trying, bytes_of, Stands, plan_requests}
+use Rattle.dali_write.specs.Found.{found, keeps}
 use Rattle.dali_write.specs.Stages.{plan_of}
-use Rattle.dali_write.proofs.PlanLemmas.{either_all}
+use Rattle.dali_write.proofs.BlockBytesLemmas.{block_count}
+use Rattle.dali_write.proofs.ReadLemmas.{Reached, accesses_reach}
+use Rattle.dali_write.proofs.ShapeLemmas.{none_left}
 
--- whatever the outcomes are, the plan has no more accesses
-abbrev pub HasAtMost : ℕ → Plan → Type 0
-HasAtMost most (Finish verdict) = ⊤
-HasAtMost zero (Make access after) = ⊥
-HasAtMost (suc most) (Make access after) = (outcome : Option ℕ) → HasAtMost most (after outcome)
+-- what is kept of these accesses
+abbrev pub kept_bytes : Task → List (Option (List ℕ)) → List ℕ
+kept_bytes task outcomes = if keeps task then found outcomes else []
 
-read_on_has : (most location left : ℕ) → left ≤ most → HasAtMost most (read_on location left)
-read_on_has most location zero few = tt
-read_on_has zero location (suc left) few = absurd (omega arith)
-read_on_has (suc most) location (suc left) few =
-    either_all (HasAtMost most) (Finish Silent) (λ byte. read_on (suc location) left) tt
-    (λ byte. read_on_has most (suc location) left (omega arith))
-
-pub read_all_has : HasAtMost 255 read_all
-read_all_has =
-    either_all (HasAtMost 254) (Finish Silent) (λ last. read_on 1 (min last 0xFE)) tt
-    (λ last. read_on_has 254 1 (min last 0xFE) (omega arith))
-
--- one access less
-one_less : (most : ℕ) (plan : Plan) (outcome : Option ℕ) → HasAtMost most plan
-    → HasAtMost (most - 1) (next_plan plan outcome)
-one_less most (Finish verdict) outcome has = tt
-one_less zero (Make access after) outcome has = absurd has
-one_less (suc most) (Make access after) outcome has =
-    let less : suc most - 1 ≡ most = omega arith in
-    subst (λ (n : ℕ). HasAtMost n (after outcome)) (sym less) (has outcome)
-
-pub accesses_left : (most : ℕ) (plan : Plan) (outcomes : List (Option ℕ)) → HasAtMost most plan
-    → HasAtMost (most - length outcomes) (plan_after plan outcomes)
-accesses_left most plan [] has =
-    let all : most - 0 ≡ most = omega arith in subst (λ (n : ℕ). HasAtMost n plan) (sym all) has
-accesses_left most plan (outcome ∷ outcomes) has =
-    let less : most - length outcomes - 1 ≡ most - suc (length outcomes) = omega arith in
-    subst (λ (n : ℕ). HasAtMost n (next_plan (plan_after plan outcomes) outcome)) less
-    (one_less (most - length outcomes) (plan_after plan outcomes) outcome (accesses_left most plan outcomes has))
-
-pub some_left : (most : ℕ) (plan : Plan) (access : Access) (after : Option ℕ → Plan) → plan ≡ Make access after
-    → HasAtMost most plan → 1 ≤ most
-some_left zero plan access after is has = absurd (subst (λ (p : Plan). HasAtMost zero p) is has)
-some_left (suc most) plan access after is has = omega arith
-
-pub found_few : (outcomes : List (Option ℕ)) → length (found outcomes) ≤ length outcomes
-found_few [] = omega arith
-found_few (outcome ∷ outcomes) =
-    omega (arith, found_few outcomes, length-append (found outcomes) (option_to_list outcome), at_most_one outcome)
+-- while a reading session reads one more byte, it has kept fewer than there can be
+one_more : (unit : ℕ) (plan : Plan) (bytes : List ℕ) (told tried : List Exchange) (frame : Frame) (wish : Wish)
+    (answer : Option ℕ)
+    → Reached plan bytes unit told → Trying (plan_requests unit plan) tried (request frame wish ∷ [])
+    → Meets wish answer
+    → length bytes + length (bytes_of tried ++ read_answer frame answer) ≤ 255
+one_more unit plan bytes told tried frame wish answer (inl (is, none)) try meets =
+    let all : List Exchange = record { frame = frame; answer = answer } ∷ tried in
+    let whole : Trying (read_requests unit 0) all [] =
+    (wish, meets, subst (λ (p : Plan). Trying (plan_requests unit p) tried (request frame wish ∷ [])) is try) in
+    let count = block_count unit (block 0 1) (bytes_of all) all (whole, refl) in
+    let empty = ap (λ (l : List ℕ). length l) none in
+    omega arith
+one_more unit plan bytes told tried frame wish answer (inr (inl so_far)) try meets =
+    by so_far.left so_far.count
+    (subst (λ (p : Plan). Trying (plan_requests unit p) tried (request frame wish ∷ [])) so_far.plan_is try)
   where
-    at_most_one : (outcome : Option ℕ) → length (option_to_list outcome) ≤ 1
-    at_most_one None = omega arith
-    at_most_one (Some byte) = omega arith
+    by : (left : ℕ) → length bytes + left ≡ suc (min (get_or bytes 0 0) 0xFE)
+        → Trying (plan_requests unit (read_on (length bytes) left)) tried (request frame wish ∷ [])
+        → length bytes + length (bytes_of tried ++ read_answer frame answer) ≤ 255
+    by zero count try = absurd (none_left tried (request frame wish) [] try)
+    by (suc left) count try =
+        let whole : Trying (read_requests unit (length bytes)) (record { frame = frame; answer = answer } ∷ tried) [] =
+        (wish, meets, try) in
+        let all : List Exchange = record { frame = frame; answer = answer } ∷ tried in
+        let one = block_count unit (block (length bytes) 1) (bytes_of all) all (whole, refl) in
+        omega arith
+one_more unit plan bytes told tried frame wish answer (inr (inr is)) try meets = grind (arith, none_left)
 
--- while an access is at hand, a session has kept fewer bytes than there can be
-pub room_for_one : (task : Task) (unit : ℕ) (told : List Exchange) (now : Plan) (access : Access)
-    (after : Option ℕ → Plan)
-    (misses : ℕ) (left : List Request)
-    (byte : Option ℕ) (bytes : List ℕ) → now ≡ Make access after
-    → StandsWith task unit (plan_of task) told now misses left byte bytes → length bytes < 255
-room_for_one Reading unit told now access after misses left byte bytes is s =
-    let outcomes = s.stands.outcomes in
-    let some =
-    some_left (255 - length outcomes) (plan_after read_all outcomes) access after (s.stands.now_is ∙ is)
-    (accesses_left 255 read_all outcomes read_all_has) in
-    let count = ap (λ (kept : List ℕ). length kept) s.bytes_are in
-    omega (arith, found_few outcomes)
-room_for_one (Fresh order) unit told now access after misses left byte bytes is s =
-    let none = ap (λ (kept : List ℕ). length kept) s.bytes_are in omega arith
-room_for_one (Opened order) unit told now access after misses left byte bytes is s =
-    let none = ap (λ (kept : List ℕ). length kept) s.bytes_are in omega arith
-room_for_one Closing unit told now access after misses left byte bytes is s =
-    let none = ap (λ (kept : List ℕ). length kept) s.bytes_are in omega arith
+-- a session of a block has one access
+pub once : (block : Block) (outcome : Option (List ℕ)) (outcomes : List (Option (List ℕ)))
+    → (verdict : Verdict) × (plan_after (read_block block) (outcome ∷ outcomes) ≡ Finish verdict)
+once block None [] = (Silent, refl)
+once block (Some bytes) [] = (Read, refl)
+once block outcome (before ∷ outcomes) =
+    let ended = once block before outcomes in
+    (ended.0, ap (λ (p : Plan). next_plan p outcome) ended.1)
+
+no_more : (unit : ℕ) (block : Block) (outcomes : List (Option (List ℕ))) (tried : List Exchange) (next : Request)
+    → Trying (plan_requests unit (plan_after (read_block block) outcomes)) tried (next ∷ []) → outcomes ≡ []
+no_more unit block [] tried next try = refl
+no_more unit block (outcome ∷ outcomes) tried next try = grind (arith, none_left, once block outcome outcomes)
+
+pub has_room : (task : Task) (unit : ℕ) (told : List Exchange) (outcomes : List (Option (List ℕ))) (now : Plan)
+    (misses : ℕ) (tried bytes : List ℕ) (frame : Frame) (answer : Option ℕ) (wish : Wish)
+    → Stands unit (plan_of task) outcomes told now misses (request frame wish ∷ []) tried → Meets wish answer
+    → length (tried ++ read_answer frame answer) ≤ 22 → bytes ≡ kept_bytes task outcomes
+    → length bytes + length (tried ++ read_answer frame answer) ≤ 255
+has_room Reading unit told outcomes now misses tried bytes frame answer wish s meets few are =
+    let reached =
+    accesses_reach unit outcomes s.ended [] s.ended s.accesses (sym (append-nil s.ended)) in
+    let try = subst (λ (p : Plan). Trying (plan_requests unit p) s.tried (request frame wish ∷ []))
+        (sym s.now_is) s.try in
+    rw (are, ← s.bytes_are) (one_more unit _ (found outcomes) s.ended s.tried frame wish answer reached try meets)
+has_room (ReadingBlock block) unit told outcomes now misses tried bytes frame answer wish s meets few are =
+    let try = subst (λ (p : Plan). Trying (plan_requests unit p) s.tried (request frame wish ∷ []))
+        (sym s.now_is) s.try in
+    let none = no_more unit block outcomes s.tried (request frame wish) try in
+    let empty = ap (λ (l : List ℕ). length l) (are ∙ ap found none) in
+    omega arith
+has_room (Fresh order) unit told outcomes now misses tried bytes frame answer wish s meets few are = grind arith
+has_room (Opened order) unit told outcomes now misses tried bytes frame answer wish s meets few are = grind arith
+has_room Closing unit told outcomes now misses tried bytes frame answer wish s meets few are = grind arith

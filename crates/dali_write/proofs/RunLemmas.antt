@@ -172,11 +172,7 @@ led_on : (loses : ℕ → Type 0) (told : List Exchange) (first mid last : SimSt
     → Led loses told first last (Powered address ∷ past) (mid ∷ states)
 unfolding run_on
 led_on loses [] first mid last address past states of_these lost led =
-    record {
-      run = run_on SimStep loses [] first mid last address of_these led.run lost;
-      counts = led.counts;
-      kinds = led.kinds;
-    }
+    grind (arith, run_on SimStep loses [] first mid last address of_these led.run lost)
 led_on loses (x ∷ told) first mid last address past states of_these lost led =
     record {
       run = run_on SimStep loses (x ∷ told) first mid last address of_these led.run lost;
@@ -187,8 +183,7 @@ led_on loses (x ∷ told) first mid last address past states of_these lost led =
 led_along : (loses : ℕ → Type 0) (past : List BusEvent) (first last : SimState) (states : List SimState)
     → ((address : ℕ) → HasLostPower address past → loses address)
     → IsChain SimStep first past last states → Led loses (exchanges_of past) first last past states
-led_along loses [] first last [] among same =
-    record { run = run_along SimStep loses [] first last [] among same; counts = λ at. refl; kinds = λ kind. tt }
+led_along loses [] first last [] among same = search (arith, run_along SimStep loses [] first last [] among same)
 led_along loses [] first last (state ∷ states) among wrong = absurd wrong
 led_along loses (event ∷ past) first last [] among wrong = absurd wrong
 led_along loses (Carried frame answer ∷ past) first last (state ∷ states) among steps =
@@ -204,9 +199,7 @@ led_along loses (Powered at ∷ past) first last (state ∷ states) among steps 
 
 pub led : (loses : ℕ → Type 0) (told : List Exchange) (first last : SimState) (run : Run SimStep loses told first last)
     → Led loses told first last run.past run.chain.states
-led loses told first last run =
-    subst (λ (t : List Exchange). Led loses t first last run.past run.chain.states) run.told_is
-    (led_along loses run.past first last run.chain.states run.among run.chain.steps)
+led loses told first last run = grind (arith, led_along)
 
 -- little is lost along such a run, and no more was missed
 pub record SparedAlong (loses : ℕ → Type 0) (at : ℕ) (unit : UnitState) (told : List Exchange) (first last : SimState)
@@ -224,22 +217,11 @@ MissesAlong loses at unit told first last spared = misses_in told ≤ losses_alo
 
 pub spared_along : (loses : ℕ → Type 0) (at : ℕ) (unit : UnitState) (told : List Exchange) (first last : SimState)
     → Spared loses at unit told first last → SparedAlong loses at unit told first last
-spared_along loses at unit told first last spared =
-    let so = led loses told first last spared.run in
-    let count = so.counts at in
-    let few = spared.few in
-    record {
-      run = so.run;
-      keeps_power = spared.keeps_power;
-      alone = spared.alone;
-      kind = so.kinds spared.kind;
-      few = omega arith;
-    }
+spared_along loses at unit told first last spared = grind (arith, led loses told first last spared.run)
 
 pub few_too : (loses : ℕ → Type 0) (at : ℕ) (unit : UnitState) (told : List Exchange) (first last : SimState)
     (spared : Spared loses at unit told first last)
     → MissesAlong loses at unit told first last (spared_along loses at unit told first last spared)
     → MissesByLosses loses at unit told first last spared
 unfolding spared_along
-few_too loses at unit told first last spared few =
-    subst (λ (n : ℕ). misses_in told ≤ n) ((led loses told first last spared.run).counts at) few
+few_too loses at unit told first last spared few = grind (arith, led loses told first last spared.run)

@@ -18,7 +18,8 @@ use Rattle.dali_write.specs.Findings.{Rests}
 use Rattle.dali_write.specs.Reads.{StillRead, HasRead}
 use Rattle.dali_write.specs.Verdicts.{EndsFresh, EndsOpened, EndsClosing}
 use Rattle.dali_write.proofs.ToldLemmas.{told_wants}
-use Rattle.dali_write.proofs.GuardLemmas.{fresh_guarded, opened_guarded, closing_guarded}
+use Rattle.dali_write.proofs.GuardLemmas.{opened_guarded, closing_guarded}
+use Rattle.dali_write.proofs.FreshLemmas.{calm_guarded, length_calm}
 use Rattle.dali_write.proofs.RestLemmas.{opened_rests, closing_rests}
 use Rattle.dali_write.proofs.FreshRestLemmas.{fresh_rests}
 use Rattle.dali_write.proofs.KindLemmas.{fresh_ends, opened_ends, closing_ends}
@@ -42,7 +43,8 @@ closing_wants unit told s ask is is_told aim =
 pub fresh_sends : (order : Contents) (told : List Exchange) (s : Session) (frame : Frame) → IsFresh order s
     → Told told s → aim_of s ≡ Send frame → IsGuarded [] order.unit told frame
 fresh_sends order told s frame is is_told aim =
-    fresh_guarded told order.unit order.updates frame (fresh_wants order told s (Send frame) is is_told aim)
+    calm_guarded order.unit (read_length order.updates) told frame (length_calm order.unit order.updates)
+    (fresh_wants order told s (Send frame) is is_told aim)
 
 pub opened_sends : (order : Contents) (told : List Exchange) (s : Session) (frame : Frame) → IsOpened order s
     → Told told s → aim_of s ≡ Send frame

@@ -1,15 +1,14 @@
 -- The exchanges of whole tries, one by one.
-use Rattle.std.proofs.Common.{◌≡◌, refl, sym, ap, subst, ℕ, zero, suc, ◌+◌, List, [], ◌∷◌, ◌++◌, length, drop, arith}
+use Rattle.std.proofs.Common.{◌≡◌, sym, ap, subst, ℕ, zero, suc, ◌+◌, List, [], ◌∷◌, ◌++◌, length, drop, arith}
 use Rattle.std.specs.Prelude.{⊤}
 use Rattle.std.proofs.lemmas.List.{append_cancel_right}
 use Rattle.dali_frame.specs.declared.forward.Frame.{Frame}
-use Rattle.dali_frame.specs.declared.forward.Frame.TheVariants.{Dtr0, Dtr1, AskDtr0, AskDtr1, Read}
-use Rattle.dali_bus.specs.Hears.{up}
+use Rattle.dali_frame.specs.declared.forward.Frame.TheVariants.{Dtr0, Dtr1, AskDtr0, AskDtr1}
 use Rattle.dali_write.specs.Exchanges.{Exchange}
 use Rattle.dali_write.specs.declared.request.Request.{Request}
 use Rattle.dali_write.specs.declared.request.Wish.{Wish}
-use Rattle.dali_write.specs.declared.request.Wish.TheVariants.{Nothing, Exactly, Anything}
-use Rattle.dali_write.specs.Requests.{Meets, request, select_requests, read_requests}
+use Rattle.dali_write.specs.declared.request.Wish.TheVariants.{Nothing, Exactly}
+use Rattle.dali_write.specs.Requests.{Meets, request, select_requests}
 use Rattle.dali_write.specs.Tries.{Trying}
 
 -- the requests that were sent and those that are left are all of them
@@ -62,11 +61,7 @@ pub record Got (x : Exchange) (frame : Frame) (wish : Wish) : Type 0 where
 
 pub got : (x : Exchange) (wish : Wish) (next : Request) → request x.frame wish ≡ next → Meets wish x.answer
     → Got x next.frame next.wish
-got x wish next same meets =
-    record {
-      frame_is = ap (λ (l : Request). l.frame) same;
-      meets = subst (λ (w : Wish). Meets w x.answer) (ap (λ (l : Request). l.wish) same) meets;
-    }
+got x wish next same meets = grind arith
 
 pub head_is : (x y : Request) (xs ys : List Request) → x ∷ xs ≡ y ∷ ys → x ≡ y
 head_is x y xs ys same = cc
@@ -91,66 +86,5 @@ selected unit location [] try = cc
 selected unit location (x1 ∷ []) try = let same = try.2 in cc
 selected unit location (x2 ∷ x1 ∷ []) try = let same = try.2.2 in cc
 selected unit location (x3 ∷ x2 ∷ x1 ∷ []) try = let same = try.2.2.2 in cc
-selected unit location (x4 ∷ x3 ∷ x2 ∷ x1 ∷ []) try =
-    let e1 = try.2.2.2.2 in
-    let e2 = tail_is _ _ _ _ e1 in
-    let e3 = tail_is _ _ _ _ e2 in
-    let e4 = tail_is _ _ _ _ e3 in
-    record {
-      x1 = x1;
-      x2 = x2;
-      x3 = x3;
-      x4 = x4;
-      is = refl;
-      got1 = got x1 try.2.2.2.0 (request (Dtr1 1) Nothing) (head_is _ _ _ _ e1) try.2.2.2.1;
-      got2 = got x2 try.2.2.0 (request (AskDtr1 unit) (Exactly 1)) (head_is _ _ _ _ e2) try.2.2.1;
-      got3 = got x3 try.2.0 (request (Dtr0 location) Nothing) (head_is _ _ _ _ e3) try.2.1;
-      got4 = got x4 try.0 (request (AskDtr0 unit) (Exactly location)) (head_is _ _ _ _ e4) try.1;
-    }
-selected unit location (x5 ∷ x4 ∷ x3 ∷ x2 ∷ x1 ∷ rest) try =
-    let long = trying_length (select_requests unit location) (x5 ∷ x4 ∷ x3 ∷ x2 ∷ x1 ∷ rest) [] try in
-    let no : ⊥ = omega arith in absurd no
-
--- a checked read selects the location, reads, and asks both registers back
-pub record WasRead (unit location : ℕ) (tried : List Exchange) : Type 0 where
-  pub x5 : Exchange
-  pub x6 : Exchange
-  pub x7 : Exchange
-  pub older : List Exchange
-  pub is : tried ≡ x7 ∷ x6 ∷ x5 ∷ older
-  pub selects : Trying (select_requests unit location) older []
-  pub got5 : Got x5 (Read unit) Anything
-  pub got6 : Got x6 (AskDtr0 unit) (Exactly (up location))
-  pub got7 : Got x7 (AskDtr1 unit) (Exactly 1)
-
-abbrev reading : ℕ → ℕ → List Request
-reading unit location =
-    request (Read unit) Anything ∷ request (AskDtr0 unit) (Exactly (up location))
-    ∷ request (AskDtr1 unit) (Exactly 1) ∷ []
-
-pub was_read : (unit location : ℕ) (tried : List Exchange) → Trying (read_requests unit location) tried []
-    → WasRead unit location tried
-was_read unit location [] try = cc
-was_read unit location (x1 ∷ []) try = let same = try.2 in cc
-was_read unit location (x2 ∷ x1 ∷ []) try = let same = try.2.2 in cc
-was_read unit location (x7 ∷ x6 ∷ x5 ∷ older) (w7, m7, (w6, m6, (w5, m5, rest))) =
-    let back : List Request = request x5.frame w5 ∷ request x6.frame w6 ∷ request x7.frame w7 ∷ [] in
-    let long = trying_length (read_requests unit location) older back rest in
-    let four : length older ≡ 4 = omega arith in
-    let e5 : back ≡ reading unit location =
-    subst (λ (n : ℕ). back ≡ drop n (read_requests unit location)) four
-    (left_is (read_requests unit location) older back rest) in
-    let e6 = tail_is _ _ _ _ e5 in
-    let e7 = tail_is _ _ _ _ e6 in
-    record {
-      x5 = x5;
-      x6 = x6;
-      x7 = x7;
-      older = older;
-      is = refl;
-      selects = cut (select_requests unit location) (reading unit location) older []
-          (subst (λ (l : List Request). Trying (read_requests unit location) older l) e5 rest);
-      got5 = got x5 w5 (request (Read unit) Anything) (head_is _ _ _ _ e5) m5;
-      got6 = got x6 w6 (request (AskDtr0 unit) (Exactly (up location))) (head_is _ _ _ _ e6) m6;
-      got7 = got x7 w7 (request (AskDtr1 unit) (Exactly 1)) (head_is _ _ _ _ e7) m7;
-    }
+selected unit location (x4 ∷ x3 ∷ x2 ∷ x1 ∷ []) try = grind (arith, tail_is, got, head_is)
+selected unit location (x5 ∷ x4 ∷ x3 ∷ x2 ∷ x1 ∷ rest) try = grind (arith, trying_length)

@@ -1,50 +1,35 @@
 -- How a session's standing goes on.
 use Rattle.std.proofs.Common.{◌≡◌, refl, sym, ap, subst, ◌∙◌, inl, inr, ℕ, suc, ◌<◌, ◌≤◌, List, [], ◌∷◌, ◌++◌}
-use Rattle.std.proofs.Common.{append_assoc, Option, None, arith}
+use Rattle.std.proofs.Common.{append_assoc, Option, Some, None, arith}
 use Rattle.dali_frame.specs.declared.forward.Frame.{Frame}
 use Rattle.dali_write.specs.Exchanges.{Exchange}
 use Rattle.dali_write.specs.declared.request.Request.{Request}
 use Rattle.dali_write.specs.declared.request.Wish.{Wish}
 use Rattle.dali_write.specs.declared.access.Access.TheVariants.{ReadFrom, WriteTo}
-use Rattle.dali_write.specs.Requests.{Meets, request, byte_after}
+use Rattle.dali_write.specs.Requests.{Meets, request, read_answer}
 use Rattle.dali_write.specs.Plans.{Plan, Finish, Make, next_plan, plan_after}
-use Rattle.dali_write.specs.Tries.{most_tries, Trying, Misses, byte_of, AccessEnds, AccessesEnd, plan_requests, IsGoing}
+use Rattle.dali_write.specs.Tries.{most_tries, Trying, Misses, bytes_of, AccessEnds, AccessesEnd, plan_requests, IsGoing}
 use Rattle.dali_write.specs.Tries.{Stands}
 use Rattle.dali_write.proofs.ShapeLemmas.{none_left}
 
 pub goes_first : (unit : ℕ) (plan : Plan) → IsGoing plan (plan_requests unit plan)
 goes_first unit (Finish verdict) = refl
-goes_first unit (Make (ReadFrom location) after) = refl
+goes_first unit (Make (ReadFrom block) after) = refl
 goes_first unit (Make (WriteTo location byte) after) = refl
 
 -- at the beginning
-unfoldable pub stands_at_first : (unit : ℕ) (plan : Plan) → Stands unit plan [] plan 0 (plan_requests unit plan) None
-stands_at_first unit plan =
-    record {
-      outcomes = [];
-      ended = [];
-      missed = [];
-      tried = [];
-      parts = refl;
-      accesses = refl;
-      now_is = refl;
-      few = omega arith;
-      misses_are = refl;
-      try = refl;
-      byte_is = refl;
-      going = goes_first unit plan;
-    }
+pub stands_at_first : (unit : ℕ) (plan : Plan) → Stands unit plan [] [] plan 0 (plan_requests unit plan) []
+stands_at_first unit plan = grind (arith, goes_first unit plan)
 
 -- the frame at hand got what it wants
-unfoldable pub stands_on : (unit : ℕ) (plan : Plan) (told : List Exchange) (now : Plan) (misses : ℕ)
-    (left : List Request)
-    (byte : Option ℕ) (frame : Frame) (answer : Option ℕ) (wish : Wish)
-    → Stands unit plan told now misses (request frame wish ∷ left) byte → Meets wish answer → IsGoing now left
-    → Stands unit plan (record { frame = frame; answer = answer } ∷ told) now misses left (byte_after frame answer byte)
-stands_on unit plan told now misses left byte frame answer wish s meets going =
+pub stands_on : (unit : ℕ) (plan : Plan) (outcomes : List (Option (List ℕ))) (told : List Exchange) (now : Plan)
+    (misses : ℕ) (left : List Request) (bytes : List ℕ) (frame : Frame) (answer : Option ℕ) (wish : Wish)
+    → Stands unit plan outcomes told now misses (request frame wish ∷ left) bytes → Meets wish answer → IsGoing now left
+    → Stands unit plan outcomes (record { frame = frame; answer = answer } ∷ told) now misses left
+    (bytes ++ read_answer frame answer)
+stands_on unit plan outcomes told now misses left bytes frame answer wish s meets going =
     let x : Exchange = record { frame = frame; answer = answer } in
     record {
-      outcomes = s.outcomes;
       ended = s.ended;
       missed = s.missed;
       tried = x ∷ s.tried;
@@ -54,19 +39,20 @@ stands_on unit plan told now misses left byte frame answer wish s meets going =
       few = s.few;
       misses_are = s.misses_are;
       try = (wish, meets, s.try);
-      byte_is = ap (λ (b : Option ℕ). byte_after frame answer b) s.byte_is;
+      bytes_are = ap (λ (l : List ℕ). l ++ read_answer frame answer) s.bytes_are;
       going = going;
     }
 
 -- another try of the same access
-unfoldable pub stands_again : (unit : ℕ) (plan : Plan) (told : List Exchange) (now : Plan) (misses : ℕ)
-    (left : List Request) (byte : Option ℕ) (frame : Frame) (answer : Option ℕ) (wish : Wish)
-    → Stands unit plan told now misses (request frame wish ∷ left) byte → ¬ Meets wish answer → suc misses < most_tries
-    → Stands unit plan (record { frame = frame; answer = answer } ∷ told) now (suc misses) (plan_requests unit now) None
-stands_again unit plan told now misses left byte frame answer wish s misses_it few =
+pub stands_again : (unit : ℕ) (plan : Plan) (outcomes : List (Option (List ℕ))) (told : List Exchange) (now : Plan)
+    (misses : ℕ) (left : List Request) (bytes : List ℕ) (frame : Frame) (answer : Option ℕ) (wish : Wish)
+    → Stands unit plan outcomes told now misses (request frame wish ∷ left) bytes → ¬ Meets wish answer
+    → suc misses < most_tries
+    → Stands unit plan outcomes (record { frame = frame; answer = answer } ∷ told) now (suc misses)
+    (plan_requests unit now) []
+stands_again unit plan outcomes told now misses left bytes frame answer wish s misses_it few =
     let x : Exchange = record { frame = frame; answer = answer } in
     record {
-      outcomes = s.outcomes;
       ended = s.ended;
       missed = (x ∷ s.tried) ++ s.missed;
       tried = [];
@@ -76,19 +62,19 @@ stands_again unit plan told now misses left byte frame answer wish s misses_it f
       few = few;
       misses_are = (x ∷ s.tried, s.missed, refl, (wish, left, misses_it, s.try), s.misses_are);
       try = refl;
-      byte_is = refl;
+      bytes_are = refl;
       going = goes_first unit now;
     }
 
 -- the access ended
-unfoldable pub ends_access : (unit : ℕ) (plan : Plan) (told : List Exchange) (now : Plan) (outcomes : List (Option ℕ))
-    (ended newer : List Exchange) (outcome : Option ℕ)
+pub ends_access : (unit : ℕ) (plan : Plan) (told : List Exchange) (now : Plan) (outcomes : List (Option (List ℕ)))
+    (ended newer : List Exchange) (outcome : Option (List ℕ))
     → told ≡ newer ++ ended → AccessesEnd unit plan outcomes ended → plan_after plan outcomes ≡ now
     → AccessEnds unit now outcome newer
-    → Stands unit plan told (next_plan now outcome) 0 (plan_requests unit (next_plan now outcome)) None
+    → Stands unit plan (outcome ∷ outcomes) told (next_plan now outcome) 0
+    (plan_requests unit (next_plan now outcome)) []
 ends_access unit plan told now outcomes ended newer outcome parts accesses now_is ends =
     record {
-      outcomes = outcome ∷ outcomes;
       ended = told;
       missed = [];
       tried = [];
@@ -104,18 +90,19 @@ ends_access unit plan told now outcomes ended newer outcome parts accesses now_i
       few = omega arith;
       misses_are = refl;
       try = refl;
-      byte_is = refl;
+      bytes_are = refl;
       going = goes_first unit (next_plan now outcome);
     }
 
-pub done_ends : (unit : ℕ) (now : Plan) (misses : ℕ) (tried missed : List Exchange) (byte : Option ℕ) (frame : Frame)
+pub done_ends : (unit : ℕ) (now : Plan) (misses : ℕ) (tried missed : List Exchange) (bytes : List ℕ) (frame : Frame)
     (answer : Option ℕ) (wish : Wish)
     → misses < most_tries → Misses (plan_requests unit now) misses missed
-    → Trying (plan_requests unit now) tried (request frame wish ∷ []) → byte_of tried ≡ byte → Meets wish answer
-    → AccessEnds unit now (byte_after frame answer byte) ((record { frame = frame; answer = answer } ∷ tried) ++ missed)
-done_ends unit (Finish verdict) misses tried missed byte frame answer wish few are try is meets =
+    → Trying (plan_requests unit now) tried (request frame wish ∷ []) → bytes_of tried ≡ bytes → Meets wish answer
+    → AccessEnds unit now (Some (bytes ++ read_answer frame answer))
+    ((record { frame = frame; answer = answer } ∷ tried) ++ missed)
+done_ends unit (Finish verdict) misses tried missed bytes frame answer wish few are try is meets =
     absurd (none_left tried (request frame wish) [] try)
-done_ends unit (Make access after) misses tried missed byte frame answer wish few are try is meets =
+done_ends unit (Make access after) misses tried missed bytes frame answer wish few are try is meets =
     let x : Exchange = record { frame = frame; answer = answer } in
     inl (
       x ∷ tried,
@@ -123,7 +110,7 @@ done_ends unit (Make access after) misses tried missed byte frame answer wish fe
       misses,
       refl,
       (wish, meets, try),
-      ap (λ (b : Option ℕ). byte_after frame answer b) (sym is),
+      ap (λ (l : List ℕ). Some (l ++ read_answer frame answer)) (sym is),
       few,
       are,
     )
@@ -133,35 +120,39 @@ pub failed_ends : (unit : ℕ) (now : Plan) (tried missed : List Exchange) (fram
     → Misses (plan_requests unit now) 7 missed → Trying (plan_requests unit now) tried (request frame wish ∷ left)
     → ¬ Meets wish answer
     → AccessEnds unit now None ((record { frame = frame; answer = answer } ∷ tried) ++ missed)
-failed_ends unit (Finish verdict) tried missed frame answer wish left are try misses_it =
-    absurd (none_left tried (request frame wish) left try)
+failed_ends unit (Finish verdict) tried missed frame answer wish left are try misses_it = grind (arith, none_left)
 failed_ends unit (Make access after) tried missed frame answer wish left are try misses_it =
     let x : Exchange = record { frame = frame; answer = answer } in
     inr (refl, (x ∷ tried, missed, refl, (wish, left, misses_it, try), are))
 
 -- the last frame of a try got what it wants
-unfoldable pub stands_done : (unit : ℕ) (plan : Plan) (told : List Exchange) (now : Plan) (misses : ℕ) (byte : Option ℕ)
+pub stands_done : (unit : ℕ) (plan : Plan) (outcomes : List (Option (List ℕ))) (told : List Exchange) (now : Plan)
+    (misses : ℕ) (bytes : List ℕ)
     (frame : Frame) (answer : Option ℕ) (wish : Wish)
-    → Stands unit plan told now misses (request frame wish ∷ []) byte → Meets wish answer
-    → Stands unit plan (record { frame = frame; answer = answer } ∷ told) (next_plan now (byte_after frame answer byte))
+    → Stands unit plan outcomes told now misses (request frame wish ∷ []) bytes → Meets wish answer
+    → Stands unit plan (Some (bytes ++ read_answer frame answer) ∷ outcomes)
+    (record { frame = frame; answer = answer } ∷ told) (next_plan now (Some (bytes ++ read_answer frame answer)))
     0
-    (plan_requests unit (next_plan now (byte_after frame answer byte))) None
-stands_done unit plan told now misses byte frame answer wish s meets =
-    let x : Exchange = record { frame = frame; answer = answer } in
-    ends_access unit plan (x ∷ told) now s.outcomes s.ended ((x ∷ s.tried) ++ s.missed) (byte_after frame answer byte)
-    (ap (λ (t : List Exchange). x ∷ t) (s.parts ∙ sym (append_assoc s.tried s.missed s.ended))) s.accesses s.now_is
-    (done_ends unit now misses s.tried s.missed byte frame answer wish s.few s.misses_are s.try s.byte_is meets)
+    (plan_requests unit (next_plan now (Some (bytes ++ read_answer frame answer)))) []
+stands_done unit plan outcomes told now misses bytes frame answer wish s meets =
+    search (
+      arith,
+      ends_access,
+      append_assoc s.tried s.missed s.ended,
+      done_ends unit now misses s.tried s.missed
+          bytes frame answer wish s.few s.misses_are s.try s.bytes_are meets,
+    )
 
 -- the last try missed
-unfoldable pub stands_failed : (unit : ℕ) (plan : Plan) (told : List Exchange) (now : Plan) (misses : ℕ)
-    (left : List Request) (byte : Option ℕ) (frame : Frame) (answer : Option ℕ) (wish : Wish)
-    → Stands unit plan told now misses (request frame wish ∷ left) byte → ¬ Meets wish answer → 7 ≤ misses
-    → Stands unit plan (record { frame = frame; answer = answer } ∷ told) (next_plan now None) 0
-    (plan_requests unit (next_plan now None)) None
-stands_failed unit plan told now misses left byte frame answer wish s misses_it many =
+pub stands_failed : (unit : ℕ) (plan : Plan) (outcomes : List (Option (List ℕ))) (told : List Exchange) (now : Plan)
+    (misses : ℕ) (left : List Request) (bytes : List ℕ) (frame : Frame) (answer : Option ℕ) (wish : Wish)
+    → Stands unit plan outcomes told now misses (request frame wish ∷ left) bytes → ¬ Meets wish answer → 7 ≤ misses
+    → Stands unit plan (None ∷ outcomes) (record { frame = frame; answer = answer } ∷ told) (next_plan now None) 0
+    (plan_requests unit (next_plan now None)) []
+stands_failed unit plan outcomes told now misses left bytes frame answer wish s misses_it many =
     let x : Exchange = record { frame = frame; answer = answer } in
     let seven : misses ≡ 7 = let few = s.few in omega arith in
-    ends_access unit plan (x ∷ told) now s.outcomes s.ended ((x ∷ s.tried) ++ s.missed) None
+    ends_access unit plan (x ∷ told) now outcomes s.ended ((x ∷ s.tried) ++ s.missed) None
     (ap (λ (t : List Exchange). x ∷ t) (s.parts ∙ sym (append_assoc s.tried s.missed s.ended))) s.accesses s.now_is
     (failed_ends unit now s.tried s.missed frame answer wish left
     (subst (λ (m : ℕ). Misses (plan_requests unit now) m s.missed) seven s.misses_are) s.try misses_it)

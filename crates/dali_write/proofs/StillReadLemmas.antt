@@ -1,32 +1,16 @@
 -- A checked read goes on to tell the truth until a frame enables a unit or writes.
 use Rattle.std.proofs.Common.{inl, inr, sym, subst, ℕ, List, [], ◌∷◌}
-use Rattle.dali_frame.specs.declared.forward.Frame.{Frame}
-use Rattle.dali_frame.specs.declared.forward.Frame.TheVariants.{Dtr0, Dtr1, Dtr2, Write, WriteSilent, Enable, AskDtr0}
-use Rattle.dali_frame.specs.declared.forward.Frame.TheVariants.{AskDtr1, AskDtr2, Read, Other}
 use Rattle.dali_bus.specs.World.{World}
 use Rattle.dali_write.specs.Exchanges.{Exchange}
-use Rattle.dali_write.specs.Reads.{IsPassive, StillRead}
+use Rattle.dali_write.specs.Reads.{StillRead}
 use Rattle.dali_write.specs.Worlds.{Shows}
-use Rattle.dali_write.proofs.GearLemmas.{IsQuiet, carry_stays}
+use Rattle.dali_write.proofs.GearLemmas.{carry_stays}
+use Rattle.dali_write.proofs.AskedLemmas.{passive_quiet}
 use Rattle.dali_write.proofs.PowerLemmas.{shows_kept, stays_keeps, drifts_keep}
 use Rattle.dali_write.proofs.TruthLemmas.{split}
 use Rattle.dali_write.proofs.BlockLemmas.{block_true}
 use Rattle.dali_write.proofs.RunLemmas.{Leads}
 use Rattle.dali_bus.specs.Carry.{WorldStep}
-
--- a frame that enables no unit and writes nothing is quiet at each address
-pub passive_quiet : (frame : Frame) → IsPassive frame → (address : ℕ) → IsQuiet address frame
-passive_quiet (Dtr0 byte) passive address = tt
-passive_quiet (Dtr1 byte) passive address = tt
-passive_quiet (Dtr2 byte) passive address = tt
-passive_quiet (AskDtr0 unit) passive address = tt
-passive_quiet (AskDtr1 unit) passive address = tt
-passive_quiet (AskDtr2 unit) passive address = tt
-passive_quiet (Read unit) passive address = tt
-passive_quiet (Write byte) passive address = absurd passive
-passive_quiet (WriteSilent byte) passive address = absurd passive
-passive_quiet (Enable unit) passive address = absurd passive
-passive_quiet (Other word) passive address = absurd passive
 
 pub stands_true : {loses : ℕ → Type 0} (told : List Exchange) (first last : World) (unit location byte : ℕ)
     → Leads WorldStep loses told first last → StillRead told unit location byte

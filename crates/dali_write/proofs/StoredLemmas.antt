@@ -1,5 +1,5 @@
 -- What an access keeps of bank 1: a write that succeeded has stored its byte, and nothing else.
-use Rattle.std.proofs.Common.{◌≡◌, ◌≢◌, ◌⊎◌, refl, inl, inr, ◌∙◌, ℕ, List, Option, Some, arith}
+use Rattle.std.proofs.Common.{◌≡◌, ◌≢◌, ◌⊎◌, refl, inl, inr, ℕ, List, Option, Some, arith}
 use Rattle.std.specs.Prelude.{slice_get, slice_set}
 use Rattle.std.proofs.lemmas.Grind.{common_steps}
 use Rattle.std.proofs.lemmas.Option.{gets}
@@ -8,6 +8,7 @@ use Rattle.dali_write.specs.Exchanges.{Exchange}
 use Rattle.dali_gear.specs.UnitState.{BankState, UnitState, with_byte}
 use Rattle.dali_gear.specs.SimState.{SimState}
 use Rattle.dali_write.specs.declared.access.Access.{Access}
+use Rattle.dali_write.specs.declared.block.Block.{Block}
 use Rattle.dali_write.specs.declared.access.Access.TheVariants.{ReadFrom, WriteTo}
 use Rattle.dali_write.specs.Requests.{access_requests}
 use Rattle.dali_write.specs.Tries.{most_tries, Succeeds, Fails}
@@ -24,14 +25,9 @@ same location bank = record { others = λ other away. refl; lengths = refl; fixe
 
 stored : (old : BankState) (location byte : ℕ) (bank : BankState) → OnlyDiffers old location bank
     → OnlyDiffers old location (with_byte bank location byte)
-stored old location byte bank so =
-    record {
-      others = λ other away. get_other bank.bytes location byte other away ∙ so.others other away;
-      lengths = length-set bank.bytes location byte ∙ so.lengths;
-      fixed = so.fixed;
-    }
+stored old location byte bank so = grind (arith, get_other, length-set bank.bytes location byte)
 
-pub write_stored : (loses : ℕ → Type 0) (at location byte : ℕ) (unit : UnitState) (outcome : Option ℕ)
+pub write_stored : (loses : ℕ → Type 0) (at location byte : ℕ) (unit : UnitState) (outcome : Option (List ℕ))
     (told : List Exchange) (first last : SimState)
     → Leads SimStep loses told first last → (loses at → ⊥)
     → IsAlone at unit first.units → Succeeds (access_requests at (WriteTo location byte)) outcome told
@@ -44,7 +40,7 @@ write_stored loses at location byte unit outcome told first last run keeps_power
 
 -- an access that came to its end, either way
 kept_by : (loses : ℕ → Type 0) (keep : BankState → Type 0) (at : ℕ) (access : Access) (unit : UnitState)
-    (outcome : Option ℕ) (told : List Exchange) (first last : SimState)
+    (outcome : Option (List ℕ)) (told : List Exchange) (first last : SimState)
     → Leads SimStep loses told first last → (loses at → ⊥)
     → IsAlone at unit first.units → keep unit.bank1 → Keeps keep access
     → Succeeds (access_requests at access) outcome told ⊎ Fails (access_requests at access) outcome told
@@ -55,18 +51,19 @@ kept_by loses keep at access unit outcome told first last run keeps_power alone 
 kept_by loses keep at access unit outcome told first last run keeps_power alone kept keeps (inr failed) =
     after_misses loses keep at access unit most_tries told first last run keeps_power alone kept keeps failed.1
 
-pub read_keeps : (loses : ℕ → Type 0) (at location : ℕ) (unit : UnitState) (outcome : Option ℕ) (told : List Exchange)
+pub read_keeps : (loses : ℕ → Type 0) (at : ℕ) (block : Block) (unit : UnitState) (outcome : Option (List ℕ))
+    (told : List Exchange)
     (first last : SimState)
     → Leads SimStep loses told first last → (loses at → ⊥)
     → IsAlone at unit first.units
-    → Succeeds (access_requests at (ReadFrom location)) outcome told
-    ⊎ Fails (access_requests at (ReadFrom location)) outcome told
+    → Succeeds (access_requests at (ReadFrom block)) outcome told
+    ⊎ Fails (access_requests at (ReadFrom block)) outcome told
     → (now : UnitState) × IsAlone at now last.units × (now.bank1 ≡ unit.bank1)
-read_keeps loses at location unit outcome told first last run keeps_power alone ends =
-    kept_by loses (λ bank. bank ≡ unit.bank1) at (ReadFrom location) unit outcome told first last run keeps_power alone
+read_keeps loses at block unit outcome told first last run keeps_power alone ends =
+    kept_by loses (λ bank. bank ≡ unit.bank1) at (ReadFrom block) unit outcome told first last run keeps_power alone
     refl tt ends
 
-pub write_keeps : (loses : ℕ → Type 0) (at location byte : ℕ) (unit : UnitState) (outcome : Option ℕ)
+pub write_keeps : (loses : ℕ → Type 0) (at location byte : ℕ) (unit : UnitState) (outcome : Option (List ℕ))
     (told : List Exchange) (first last : SimState)
     → Leads SimStep loses told first last → (loses at → ⊥)
     → IsAlone at unit first.units

@@ -1,25 +1,22 @@
 -- Sessions touch their places alone.
-use Rattle.std.proofs.Common.{◌≡◌, ◌⊎◌, refl, sym, subst, inl, inr, ℕ, zero, suc, ◌==◌}
-use Rattle.std.specs.Prelude.{⊤}
-use Rattle.std.proofs.Common.{if◌then◌else◌, List, [], ◌∷◌, ◌++◌, Option}
+use Rattle.std.proofs.Common.{◌≡◌, ◌⊎◌, refl, sym, subst, inl, inr, ℕ, zero, suc}
+use Rattle.std.proofs.Common.{List, [], ◌∷◌, ◌++◌, Option}
 use Rattle.dali_bus.specs.World.{World}
 use Rattle.dali_write.specs.Exchanges.{Exchange}
 use Rattle.dali_write.specs.declared.request.Request.{Request}
-use Rattle.dali_write.specs.declared.access.Access.TheVariants.{ReadFrom, WriteTo}
 use Rattle.dali_write.specs.declared.ask.Ask.{Ask}
-use Rattle.dali_write.specs.declared.ask.Verdict.{Verdict}
-use Rattle.dali_write.specs.declared.ask.Verdict.TheVariants.{Doubt, DoubtOpen, Closed, NotClosed}
+use Rattle.dali_write.specs.declared.ask.Verdict.TheVariants.{Closed, NotClosed}
 use Rattle.dali_write.specs.Requests.{request}
-use Rattle.dali_write.specs.Plans.{Plan, Finish, Make, next_plan, plan_after, close, give_up, expect, read_back}
-use Rattle.dali_write.specs.Plans.{read_lock, write_on, unlock}
+use Rattle.dali_write.specs.Plans.{Plan, Finish, Make, plan_after, close}
+use Rattle.dali_write.specs.Plans.{unlock}
 use Rattle.dali_write.specs.Tries.{Trying, Missed, Misses, AccessEnds, AccessesEnd, Wants, plan_requests}
 use Rattle.dali_write.specs.Worlds.{OnlyEnabled}
-use Rattle.dali_write.specs.Touches.{Has, Touches, writes_of}
+use Rattle.dali_write.specs.Touches.{Touches, writes_of}
 use Rattle.dali_write.proofs.PowerLemmas.{drifts_keep}
-use Rattle.dali_write.proofs.ShapeLemmas.{none_left}
 use Rattle.dali_write.proofs.TruthLemmas.{split}
-use Rattle.dali_write.proofs.PlanLemmas.{either_all, if_all}
-use Rattle.dali_write.proofs.PutLemmas.{touches_then, keeps_touches, puts_touch, only_on, SafeNext, SafeRequests, read_safe, write_requests_safe}
+use Rattle.dali_write.proofs.PutLemmas.{touches_then, keeps_touches, puts_touch, only_on, SafeNext}
+use Rattle.dali_write.proofs.PutLemmas.{SafeRequests, guarded_is_safe}
+use Rattle.dali_write.proofs.GuardLemmas.{OnlyWrites, goes_on_writes, plan_guarded, unlock_writes, close_writes}
 use Rattle.dali_write.proofs.RunLemmas.{Leads}
 use Rattle.dali_bus.specs.Carry.{WorldStep}
 
@@ -94,30 +91,14 @@ misses_harmless writes unit requests (suc misses) told safe is =
     (harmless_both writes unit is.0 is.1 (missed_harmless writes unit requests is.0 safe is.3)
     (misses_harmless writes unit requests misses is.1 safe is.4))
 
--- each write of the plan is one of these
-abbrev pub OnlyWrites : List (ℕ × ℕ) → Plan → Type 0
-OnlyWrites writes (Finish verdict) = ⊤
-OnlyWrites writes (Make (ReadFrom location) after) = (outcome : Option ℕ) → OnlyWrites writes (after outcome)
-OnlyWrites writes (Make (WriteTo location byte) after) =
-    Has writes location byte × ((outcome : Option ℕ) → OnlyWrites writes (after outcome))
-
--- after an outcome the plan makes only these writes, too
-pub goes_on_writes : (writes : List (ℕ × ℕ)) (plan : Plan) (outcome : Option ℕ) → OnlyWrites writes plan
-    → OnlyWrites writes (next_plan plan outcome)
-goes_on_writes writes (Finish verdict) outcome only = tt
-goes_on_writes writes (Make (ReadFrom location) after) outcome only = only outcome
-goes_on_writes writes (Make (WriteTo location byte) after) outcome only = only.1 outcome
-
 -- the frames of the access at hand may be sent
 plan_safe : (loses : ℕ → Type 0) (writes : List (ℕ × ℕ)) (unit : ℕ) (plan : Plan) → OnlyWrites writes plan
     → SafeRequests loses writes unit (plan_requests unit plan)
-plan_safe loses writes unit (Finish verdict) only = λ tried next left try. absurd (none_left tried next left try)
-plan_safe loses writes unit (Make (ReadFrom location) after) only = read_safe _ writes unit location
-plan_safe loses writes unit (Make (WriteTo location byte) after) only =
-    write_requests_safe _ writes unit location byte only.0
+plan_safe loses writes unit plan only tried next left try =
+    guarded_is_safe loses writes unit tried next.frame (plan_guarded writes unit plan only tried next left try)
 
 -- a whole access
-access_harmless : {loses : ℕ → Type 0} (writes : List (ℕ × ℕ)) (unit : ℕ) (plan : Plan) (outcome : Option ℕ)
+access_harmless : {loses : ℕ → Type 0} (writes : List (ℕ × ℕ)) (unit : ℕ) (plan : Plan) (outcome : Option (List ℕ))
     (told : List Exchange)
     → OnlyWrites writes plan → AccessEnds unit plan outcome told
     → Harmless loses writes unit told
@@ -133,7 +114,8 @@ access_harmless writes unit (Make access after) outcome told only (inr failed) =
     (plan_safe _ writes unit (Make access after) only) failed.1
 
 -- whole accesses, and what is left of the plan
-accesses_harmless : {loses : ℕ → Type 0} (writes : List (ℕ × ℕ)) (unit : ℕ) (plan : Plan) (outcomes : List (Option ℕ))
+accesses_harmless : {loses : ℕ → Type 0} (writes : List (ℕ × ℕ)) (unit : ℕ) (plan : Plan)
+    (outcomes : List (Option (List ℕ)))
     (told : List Exchange)
     → OnlyWrites writes plan → AccessesEnd unit plan outcomes told
     → Harmless loses writes unit told × OnlyWrites writes (plan_after plan outcomes)
@@ -153,58 +135,13 @@ wants_harmless : {loses : ℕ → Type 0} (writes : List (ℕ × ℕ)) (unit : �
 wants_harmless writes unit plan told ask only wants =
     let s = wants.stands in
     let requests = plan_requests unit wants.now in
-    let before = accesses_harmless writes unit plan s.outcomes s.ended only s.accesses in
+    let before = accesses_harmless writes unit plan wants.outcomes s.ended only s.accesses in
     let safe = plan_safe _ writes unit wants.now (subst (λ (p : Plan). OnlyWrites writes p) s.now_is before.1) in
     let missed = misses_harmless writes unit requests wants.misses s.missed safe s.misses_are in
     let tried = trying_harmless writes unit requests s.tried wants.left safe s.try in
     harmless_as writes unit told (s.tried ++ (s.missed ++ s.ended)) s.parts
     (harmless_both writes unit s.tried (s.missed ++ s.ended) tried
     (harmless_both writes unit s.missed s.ended missed before.0))
-
--- a plan that locks the unit
-pub close_writes : (writes : List (ℕ × ℕ)) (answered unanswered : Verdict) → Has writes 2 0xFF
-    → OnlyWrites writes (close answered unanswered)
-close_writes writes answered unanswered has =
-    (has, λ written. either_all (OnlyWrites writes) (Finish unanswered) (λ byte. Finish answered) tt (λ byte. tt))
-
--- a plan that reads a byte back
-expect_writes : (writes : List (ℕ × ℕ)) (location byte : ℕ) (after : Plan) → Has writes 2 0xFF → OnlyWrites writes after
-    → OnlyWrites writes (expect location byte after)
-expect_writes writes location byte after has only =
-    let gives = close_writes writes Doubt DoubtOpen has in
-    either_all (OnlyWrites writes) give_up (λ found. if found == byte then after else give_up) gives
-    (λ found. if_all (OnlyWrites writes) (found == byte) after give_up only gives)
-
-read_back_writes : (writes updates : List (ℕ × ℕ)) → Has writes 2 0xFF → OnlyWrites writes (read_back updates)
-read_back_writes writes [] has = tt
-read_back_writes writes (update ∷ updates) has =
-    expect_writes writes update.0 update.1 (read_back updates) has (read_back_writes writes updates has)
-
--- the updates that are left are among the writes
-write_on_writes : (writes updates left : List (ℕ × ℕ)) → Has writes 2 0xFF
-    → ((location byte : ℕ) → Has left location byte → Has writes location byte)
-    → OnlyWrites writes (write_on updates left)
-write_on_writes writes updates [] has among = (
-  has,
-  either_all (OnlyWrites writes) give_up (λ byte. read_lock updates) (close_writes writes Doubt DoubtOpen has)
-      (λ byte. expect_writes writes 2 0xFF (read_back updates) has (read_back_writes writes updates has)),
-)
-write_on_writes writes updates (update ∷ left) has among = (
-  among update.0 update.1 (inl (refl, refl)),
-  either_all (OnlyWrites writes) give_up (λ byte. write_on updates left) (close_writes writes Doubt DoubtOpen has)
-      (λ byte. write_on_writes writes updates left has (λ location b in_left. among location b (inr in_left))),
-)
-
--- the plan of an opened session
-pub unlock_writes : (updates : List (ℕ × ℕ)) → OnlyWrites (writes_of updates) (unlock updates)
-unlock_writes updates =
-    let has : Has (writes_of updates) 2 0xFF = inr (inl (refl, refl)) in (
-      inl (refl, refl),
-      either_all (OnlyWrites (writes_of updates)) give_up (λ byte. write_on updates updates)
-          (close_writes (writes_of updates) Doubt DoubtOpen has)
-          (λ byte.
-          write_on_writes (writes_of updates) updates updates has (λ location b in_updates. inr (inr in_updates))),
-    )
 
 pub opened_touches : {loses : ℕ → Type 0} (told : List Exchange) (first last : World) (unit : ℕ)
     (updates : List (ℕ × ℕ)) (ask : Ask)

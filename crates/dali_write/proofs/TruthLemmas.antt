@@ -1,25 +1,26 @@
 -- Checked reads tell the truth, and guarded writes are safe.
-use Rattle.std.proofs.Common.{◌≡◌, ◌⊎◌, refl, sym, ap, subst, ◌∙◌, inl, inr, ℕ, true, false, List, [], ◌∷◌, ◌++◌}
+use Rattle.std.proofs.Common.{◌≡◌, ◌⊎◌, refl, ap, subst, ◌∙◌, inl, inr, ℕ, true, false, List, [], ◌∷◌, ◌++◌}
 use Rattle.std.proofs.Common.{Option, Some, None, arith}
-use Rattle.std.specs.Prelude.{◌≢◌, Bool, ⊤}
+use Rattle.std.specs.Prelude.{◌≢◌, Bool}
 use Rattle.std.proofs.Math.Dec.{eqb}
 use Rattle.std.proofs.lemmas.Bool.{eqb-true, eqb-false}
 use Rattle.dali_frame.specs.declared.forward.Frame.{Frame}
 use Rattle.dali_frame.specs.declared.forward.Frame.TheVariants.{Dtr0, AskDtr0, AskDtr1, Read, Write}
-use Rattle.dali_bus.specs.World.{World, Gear, Memory, byte_in}
+use Rattle.dali_bus.specs.World.{World, Gear, byte_in}
 use Rattle.dali_bus.proofs.OpenLemmas.{is_open}
-use Rattle.dali_bus.specs.Hears.{Hears, MayEnd, Obeys, Stores}
+use Rattle.dali_bus.specs.Hears.{Hears, MayEnd, Stores}
 use Rattle.dali_bus.specs.Hears.{selected as selected_byte}
 use Rattle.dali_bus.specs.Carry.{Carry, MayHear, Heard}
 use Rattle.dali_write.specs.Exchanges.{Exchange}
-use Rattle.dali_write.specs.Requests.{select_requests, byte_after}
-use Rattle.dali_write.specs.Tries.{Trying, byte_of}
+use Rattle.dali_write.specs.Requests.{select_requests}
+use Rattle.dali_write.specs.Tries.{Trying}
 use Rattle.dali_write.specs.Worlds.{Shows, KeepsAt, Selects, OnlyEnabled, MayWrite}
 use Rattle.dali_write.specs.Worlds.{memory_at, Written}
 use Rattle.dali_write.proofs.GearLemmas.{asked1, asked0, carry_dtr1, carry_stays, IsQuiet, passing_keeps, end_steady}
 use Rattle.dali_write.proofs.GearLemmas.{dtr0_in, dtr1_in, IsOff, memory_of}
 use Rattle.dali_write.proofs.PowerLemmas.{drifts_have, drifts_keep, keeps_then, stays_keeps}
-use Rattle.dali_write.proofs.ShapeLemmas.{WasRead, selected}
+use Rattle.dali_write.proofs.ShapeLemmas.{selected}
+use Rattle.dali_write.proofs.AskedLemmas.{Sent}
 use Rattle.dali_write.proofs.RunLemmas.{Leads, Stays}
 use Rattle.dali_bus.specs.Carry.{WorldStep}
 
@@ -28,14 +29,11 @@ pub split : (loses : ℕ → Type 0) (newer older : List Exchange) (first last :
     → Leads WorldStep loses (newer ++ older) first last
     → (mid : World) × Leads WorldStep loses older first mid × Leads WorldStep loses newer mid last
 split loses [] older first last run = (last, run, Stays)
-split loses (x ∷ newer) older first last run =
-    let parts = split _ newer older first run.0 run.2 in
-    (parts.0, parts.1, (run.0, run.1, parts.2, run.3, run.4))
+split loses (x ∷ newer) older first last run = grind (arith, split _ newer older first run.0 run.2)
 
 pub carried : (old new : World) (x : Exchange) (frame : Frame) (answer : Option ℕ) → x.frame ≡ frame → x.answer ≡ answer
     → Carry old x.frame x.answer new → Carry old frame answer new
-carried old new x frame answer f a carry =
-    subst (λ (g : Option ℕ). Carry old frame g new) a (subst (λ (g : Frame). Carry old g x.answer new) f carry)
+carried old new x frame answer f a carry = grind arith
 
 carried_any : (old new : World) (x : Exchange) (frame : Frame) → x.frame ≡ frame → Carry old x.frame x.answer new
     → Carry old frame x.answer new
@@ -60,12 +58,7 @@ off_place location gear off gone bank = absurd (gone bank)
 
 was_on : (old new : World) (frame : Frame) (answer : Option ℕ) (unit : ℕ) → IsQuiet unit frame
     → Carry old frame answer new → is_open (new unit) ≡ true → is_open (old unit) ≡ true
-was_on old new frame answer unit quiet carry on = by (is_open (old unit)) refl where
-  by : (b : Bool) → is_open (old unit) ≡ b → is_open (old unit) ≡ true
-  by true e = e
-  by false e =
-      let off = (carry_stays old frame answer new unit quiet carry).off e in
-      let never = off in cc
+was_on old new frame answer unit quiet carry on = grind (arith, is_open, carry_stays)
 
 -- after the four frames the unit has selected the location
 pub selects_run : (loses : ℕ → Type 0) (unit location : ℕ) (tried : List Exchange) (first last : World)
@@ -100,86 +93,40 @@ IsRead old v new =
 
 answers_read : (at : ℕ) (old : Gear) (to v : ℕ) (new : Gear) → Hears at old (Read to) (Some v) new
     → (to ≡ at) × IsRead old v new
-answers_read at old to v new h = told h.obeys where
-  told : Obeys at old (Read to) (Some v) h.obeyed → (to ≡ at) × IsRead old v new
-  told (inl (is, inl read)) =
-      let e = end_steady h.obeyed new h.ends in
-      let off : h.obeyed.enabled ≡ false = ap (λ (g : Gear). g.enabled) read.2 in
-      (is, λ one. (sym read.1, e.keeps.off off, e.keeps.memory ∙ ap (λ (g : Gear). g.memory) read.2))
-  told (inl (is, inr (inl nothing))) = let never : Some v ≡ None = nothing.1.3 in cc
-  told (inl (is, inr (inr aside))) = (is, λ one. absurd (omega (arith, aside.0, one)))
-  told (inr (isnt, ignores)) = let never = ignores.1 in cc
+answers_read at old to v new h = grind (arith, end_steady h.obeyed new h.ends)
 
 -- what a read tells of a unit that has the bank and the location
 pub shown : (old : World) (unit location byte : ℕ) (new : World) → Carry old (Read unit) (Some byte) new
     → dtr1_in (old unit) ≡ Some 1 → dtr0_in (old unit) ≡ Some location
     → (byte_in (new unit) 1 location ≡ Some byte) × (is_open (new unit) ≡ false)
-shown old unit location byte new carry bank place =
-    let a = carry.answers in
-    let told = answers_read a.address a.before unit byte a.after a.hears in
-    let was : old unit ≡ Some a.before = rw told.0 a.was in
-    let is : new unit ≡ Some a.after = rw told.0 a.is in
-    let one : Some a.before.dtr1 ≡ Some 1 = sym (ap dtr1_in was) ∙ bank in
-    let at : Some a.before.dtr0 ≡ Some location = sym (ap dtr0_in was) ∙ place in
-    let one_is : a.before.dtr1 ≡ 1 = cc in
-    let at_is : a.before.dtr0 ≡ location = cc in
-    let read = told.1 one_is in
-    let here : a.before.memory 1 location ≡ Some byte = rw (one_is, at_is) at read.0 in
-    (rw is (ap (λ (m : Memory). m 1 location) read.2 ∙ here), rw is read.1)
+shown old unit location byte new carry bank place = grind (arith, answers_read, dtr1_in, dtr0_in)
 
 -- and that it was there when the read reached the unit
 pub held_then : (old : World) (unit location byte : ℕ) (new : World) → Carry old (Read unit) (Some byte) new
     → dtr1_in (old unit) ≡ Some 1 → dtr0_in (old unit) ≡ Some location → byte_in (old unit) 1 location ≡ Some byte
-held_then old unit location byte new carry bank place =
-    let a = carry.answers in
-    let told = answers_read a.address a.before unit byte a.after a.hears in
-    let was : old unit ≡ Some a.before = rw told.0 a.was in
-    let one : Some a.before.dtr1 ≡ Some 1 = sym (ap dtr1_in was) ∙ bank in
-    let at : Some a.before.dtr0 ≡ Some location = sym (ap dtr0_in was) ∙ place in
-    let one_is : a.before.dtr1 ≡ 1 = cc in
-    let at_is : a.before.dtr0 ≡ location = cc in
-    let read = told.1 one_is in
-    rw was (rw (one_is, at_is) at read.0)
-
--- the byte of a whole try
-pub last_answer : (unit location byte : ℕ) (tried : List Exchange) (s : WasRead unit location tried)
-    → byte_of tried ≡ Some byte → s.x5.answer ≡ Some byte
-last_answer unit location byte tried s answer =
-    subst (λ (f : Frame). byte_after f s.x5.answer (byte_of s.older) ≡ Some byte) s.got5.frame_is
-    (subst (λ (f : Frame). byte_after f s.x6.answer (byte_of (s.x5 ∷ s.older)) ≡ Some byte) s.got6.frame_is
-    (subst (λ (f : Frame). byte_after f s.x7.answer (byte_of (s.x6 ∷ s.x5 ∷ s.older)) ≡ Some byte) s.got7.frame_is
-    (subst (λ (t : List Exchange). byte_of t ≡ Some byte) s.is answer)))
+held_then old unit location byte new carry bank place = grind (arith, answers_read, dtr1_in, dtr0_in)
 
 pub shows_now : {loses : ℕ → Type 0} (world : World) (unit location byte : ℕ) (gear : Option Gear) → world unit ≡ gear
     → (byte_in gear 1 location ≡ Some byte) × (is_open gear ≡ false) → Shows loses world unit location byte
 shows_now world unit location byte None is holds = let never = holds.0 in cc
-shows_now world unit location byte (Some gear) is holds =
-    record { gear = gear; is = is; byte_is = inl holds.0; off = holds.1 }
+shows_now world unit location byte (Some gear) is holds = grind arith
 
-abbrev pub AllQuiet : ℕ → List Exchange → Type 0
-AllQuiet address [] = ⊤
-AllQuiet address (x ∷ told) = IsQuiet address x.frame × AllQuiet address told
-
-pub run_keeps : {loses : ℕ → Type 0} (told : List Exchange) (first last : World) (address : ℕ) → AllQuiet address told
+pub run_keeps : {loses : ℕ → Type 0} (told : List Exchange) (first last : World) (address : ℕ)
+    → Sent (IsQuiet address) told
     → Leads WorldStep loses told first last → KeepsAt loses first last address
 run_keeps [] first last address quiet run = drifts_keep first last run address
 run_keeps (x ∷ told) first last address quiet run =
-    keeps_then first run.0 last address (run_keeps told first run.0 address quiet.1 run.2)
-    (keeps_then run.0 run.1 last address
-    (stays_keeps run.0 run.1 address (carry_stays run.0 x.frame x.answer run.1 address quiet.0 run.3))
-    (drifts_keep run.1 last run.4 address))
+    grind (
+      arith,
+      keeps_then first run.0 last address (run_keeps told first run.0 address quiet.1 run.2) (keeps_then
+          run.0 run.1 last address (stays_keeps run.0 run.1 address (carry_stays run.0 x.frame x.answer run.1 address
+          quiet.0 run.3)) (drifts_keep run.1 last run.4 address)),
+    )
 
 -- a unit that isn't enabled stores nothing
 off_write : (at : ℕ) (old : Gear) (byte : ℕ) (new : Gear) → old.enabled ≡ false → Heard at old (Write byte) new
     → new.memory ≡ old.memory
-off_write at old byte new off heard = (end_steady h.obeyed new h.ends).keeps.memory ∙ told h.obeys where
-  h : Hears at old (Write byte) heard.0 new
-  h = heard.1
-
-  told : Obeys at old (Write byte) heard.0 h.obeyed → h.obeyed.memory ≡ old.memory
-  told (inl stores) = let on = stores.0.0 in cc
-  told (inr (inl passes)) = (passing_keeps old h.obeyed heard.0 passes).memory
-  told (inr (inr (on, aside))) = (passing_keeps old h.obeyed None aside.2).memory
+off_write at old byte new off heard = grind (arith, end_steady, passing_keeps)
 
 off_write_here : (at : ℕ) (old : Option Gear) (byte : ℕ) (new : Option Gear) → IsOff old
     → MayHear at old (Write byte) new → memory_of new ≡ memory_of old
@@ -190,48 +137,25 @@ off_write_here at None byte (Some new) off hears = absurd hears
 off_write_here at (Some old) byte None off hears = absurd hears
 
 pub same_or_not : (a b : ℕ) → (a ≡ b) ⊎ (a ≢ b)
-same_or_not a b = by (eqb a b) refl where
-  by : (t : Bool) → eqb a b ≡ t → (a ≡ b) ⊎ (a ≢ b)
-  by true e = inl (eqb-true a b e)
-  by false e = inr (eqb-false a b e)
+same_or_not a b = grind (arith, eqb, eqb-true, eqb-false)
 
 -- the unit stored the byte where it had selected
 stored_there : (old : Gear) (location byte : ℕ) (obeyed new : Gear) → old.dtr0 ≡ location → old.dtr1 ≡ 1
     → Stores byte old obeyed → MayEnd obeyed new
     → Written location byte (Some old.memory) (Some new.memory)
-stored_there old location byte obeyed new zero one stores ends =
-    let place = stores.1 in
-    let there = ap (λ (g : Gear). g.memory) stores.2 in
-    (rw (zero, one) at place, (end_steady obeyed new ends).keeps.memory ∙ rw (zero, one) at there)
+stored_there old location byte obeyed new zero one stores ends = grind (arith, end_steady obeyed new ends)
 
 write_here : (at : ℕ) (old : Gear) (location byte : ℕ) (new : Gear) → old.dtr0 ≡ location → old.dtr1 ≡ 1
     → (new ≡ old) ⊎ Heard at old (Write byte) new
     → (new.memory ≡ old.memory) ⊎ Written location byte (Some old.memory) (Some new.memory)
 write_here at old location byte new zero one (inl same) = inl (ap (λ (g : Gear). g.memory) same)
-write_here at old location byte new zero one (inr heard) = told h.obeys where
-  h : Hears at old (Write byte) heard.0 new
-  h = heard.1
-
-  told : Obeys at old (Write byte) heard.0 h.obeyed
-      → (new.memory ≡ old.memory) ⊎ Written location byte (Some old.memory) (Some new.memory)
-  told (inl stores) = inr (stored_there old location byte h.obeyed new zero one stores.0 h.ends)
-  told (inr (inl passes)) =
-      inl ((end_steady h.obeyed new h.ends).keeps.memory ∙ (passing_keeps old h.obeyed heard.0 passes).memory)
-  told (inr (inr (on, aside))) = absurd (omega (arith, aside.0, one))
+write_here at old location byte new zero one (inr heard) = grind (arith, stored_there, end_steady, passing_keeps)
 
 -- a unit that answers a write was enabled, and has stored the byte
 write_answered : (at : ℕ) (old : Gear) (byte v : ℕ) (new : Gear) → Hears at old (Write byte) (Some v) new
     → (old.enabled ≡ true)
     × ((location : ℕ) → old.dtr0 ≡ location → old.dtr1 ≡ 1 → Written location byte (Some old.memory) (Some new.memory))
-write_answered at old byte v new h = told h.obeys where
-  told : Obeys at old (Write byte) (Some v) h.obeyed
-      → (old.enabled ≡ true)
-      × ((location : ℕ) → old.dtr0 ≡ location → old.dtr1 ≡ 1
-      → Written location byte (Some old.memory) (Some new.memory))
-  told (inl stores) =
-      (stores.0.0, λ location zero one. stored_there old location byte h.obeyed new zero one stores.0 h.ends)
-  told (inr (inl passes)) = let never : Some v ≡ None = passes.3 in cc
-  told (inr (inr (on, aside))) = (on, λ location zero one. absurd (omega (arith, aside.0, one)))
+write_answered at old byte v new h = grind (arith, stored_there)
 
 off_not_on : (world : World) (address : ℕ) (gear : Gear) → world address ≡ Some gear → gear.enabled ≡ true
     → IsOff (world address) → ⊥
@@ -243,14 +167,7 @@ selected_after : (loses : ℕ → Type 0) (told : List Exchange) (first before :
     → gear.enabled ≡ true
     → (gear.dtr0 ≡ location) × (gear.dtr1 ≡ 1)
 selected_after loses told first before unit location gear run selects is on =
-    let parts =
-    split _ selects.0 selects.1 first before
-    (subst (λ (t : List Exchange). Leads WorldStep loses t first before) selects.2 run) in
-    let at = selects_run _ unit location selects.0 parts.0 before parts.2 selects.3 in
-    let bank = at.0 (ap is_open is ∙ on) in
-    let one : Some gear.dtr1 ≡ Some 1 = sym (ap dtr1_in is) ∙ bank in
-    let there : Some gear.dtr0 ≡ Some location = sym (ap dtr0_in is) ∙ at.1 bank in
-    (cc, cc)
+    grind (arith, split, selects_run, is_open, dtr1_in, dtr0_in)
 
 -- the unit that answered is the only one that can be enabled
 answer_here : (loses : ℕ → Type 0) (told : List Exchange) (first before : World) (unit location byte v : ℕ)
@@ -295,13 +212,10 @@ pub write_safe : (loses : ℕ → Type 0) (told : List Exchange) (first before l
     → Carry before (Write byte) answer last
     → MayWrite before unit location byte answer last
 write_safe loses told first before last unit location byte answer run selects only carry =
-    record {
-      others =
-          λ address other.
-          off_write_here address (before address) byte (last address) (only address other) (carry.units address);
-      here = here_on _ told first before last unit location byte run selects (before unit) refl (last unit) refl
-          (carry.units unit);
-      answered =
-          λ v is. answer_here _ told first before unit location byte v last run selects only
-          (subst (λ (o : Option ℕ). Carry before (Write byte) o last) is carry);
-    }
+    grind (
+      arith,
+      off_write_here,
+      here_on _ told first before last unit location byte run selects (before unit) refl
+          (last unit) refl (carry.units unit),
+      answer_here,
+    )

@@ -9,7 +9,6 @@ use Rattle.dali_write.specs.Exchanges.{Exchange}
 use Rattle.dali_write.specs.declared.request.Request.{Request}
 use Rattle.dali_write.specs.declared.request.Wish.{Wish}
 use Rattle.dali_write.specs.declared.request.Wish.TheVariants.{Exactly}
-use Rattle.dali_write.specs.declared.access.Access.TheVariants.{ReadFrom}
 use Rattle.dali_write.specs.declared.ask.Ask.TheVariants.{Ended}
 use Rattle.dali_write.specs.declared.ask.Verdict.TheVariants.{Closed, NotClosed}
 use Rattle.dali_write.specs.Requests.{Meets, request, read_requests, write_requests}
@@ -20,7 +19,6 @@ use Rattle.dali_write.specs.Reads.{EndsInRead, HasRead}
 use Rattle.dali_write.proofs.EndLemmas.{ends_reading}
 use Rattle.dali_write.proofs.VerdictLemmas.{finish_walk, only_older}
 use Rattle.dali_write.proofs.WalkLemmas.{ended_walk}
-use Rattle.dali_write.proofs.GiveUpLemmas.{has_byte}
 
 -- the newest frame asks for DTR0
 abbrev is_ask : Frame → Bool
@@ -68,8 +66,7 @@ early_unread late (Other w) asked wish answer left reads early = tt
 
 miss_unread : (late : ℕ) (frame : Frame) (asked : Bool) (wish : Wish) (answer : Option ℕ) (left : List Request)
     → ReadsLate late frame asked wish left → (Meets wish answer → ⊥) → IsUnread frame answer asked
-miss_unread late (AskDtr1 to) true wish answer left reads missed =
-    λ told. missed (subst (λ (w : Wish). Meets w answer) (sym reads.0) told)
+miss_unread late (AskDtr1 to) true wish answer left reads missed = grind arith
 miss_unread late (AskDtr1 to) false wish answer left reads missed = tt
 miss_unread late (Dtr0 b) asked wish answer left reads missed = tt
 miss_unread late (Dtr1 b) asked wish answer left reads missed = tt
@@ -88,8 +85,7 @@ trying_unread : (late : ℕ) (requests : List Request) (tried : List Exchange) (
     → RequestsReadLate late (asked_in older) requests → AllUnread older → Trying requests tried left
     → late ≤ length left
     → AllUnread (tried ++ older) × RequestsReadLate late (asked_in (tried ++ older)) left
-trying_unread late requests [] left older reads unread try early =
-    (unread, subst (λ (l : List Request). RequestsReadLate late (asked_in older) l) (sym try) reads)
+trying_unread late requests [] left older reads unread try early = grind arith
 trying_unread late requests (x ∷ tried) left older reads unread try early =
     let before =
     trying_unread late requests tried (request x.frame try.0 ∷ left) older reads unread try.2 (omega arith) in (
@@ -115,8 +111,7 @@ missed_unread late requests (x ∷ tried) older reads last unread missed =
 
 misses_unread : (late : ℕ) (requests : List Request) (misses : ℕ) (told older : List Exchange) → Reading late requests
     → late ≤ 1 → AllUnread older → Misses requests misses told → AllUnread (told ++ older)
-misses_unread late requests zero told older reads last unread are =
-    subst (λ (t : List Exchange). AllUnread (t ++ older)) (sym are) unread
+misses_unread late requests zero told older reads last unread are = grind arith
 misses_unread late requests (suc misses) told older reads last unread are =
     let before = misses_unread late requests misses are.1 older reads last unread are.4 in
     subst (λ (t : List Exchange). AllUnread (t ++ older)) (sym are.2)
@@ -131,7 +126,7 @@ write_requests_unread unit location byte = λ asked. (tt, (tt, (tt, (tt, (tt, (t
 read_requests_late : (unit location : ℕ) → Reading 1 (read_requests unit location)
 read_requests_late unit location = λ asked. (tt, (tt, (tt, (tt, (tt, (tt, ((refl, omega arith), tt)))))))
 
-write_unread : (unit location byte : ℕ) (outcome : Option ℕ) (told : List Exchange)
+write_unread : (unit location byte : ℕ) (outcome : Option (List ℕ)) (told : List Exchange)
     → Succeeds (write_requests unit location byte) outcome told ⊎ Fails (write_requests unit location byte) outcome told
     → AllUnread told
 write_unread unit location byte outcome told (inl done) =
@@ -150,24 +145,27 @@ write_unread unit location byte outcome told (inr failed) =
 read_unread : (unit location : ℕ) (told older : List Exchange)
     → Succeeds (read_requests unit location) None told ⊎ Fails (read_requests unit location) None told
     → AllUnread older → AllUnread (told ++ older)
-read_unread unit location told older (inl done) unread = absurd (has_byte unit (ReadFrom location) told done)
+read_unread unit location told older (inl done) unread = let never = done.5 in cc
 read_unread unit location told older (inr failed) unread =
     misses_unread 1 (read_requests unit location) most_tries told older (read_requests_late unit location) (omega arith)
     unread failed.1
 
 -- so it is in the two accesses of a closing session that ended as NotClosed
-read_closed_unread : (unit : ℕ) (outcomes : List (Option ℕ)) (told older : List Exchange)
+read_closed_unread : (unit : ℕ) (outcomes : List (Option (List ℕ))) (told older : List Exchange)
     → Walk unit (read_closed Closed NotClosed) outcomes told (Finish NotClosed)
     → AllUnread older → AllUnread (told ++ older)
 read_closed_unread unit [] told older walk unread = let differs = walk.1 in cc
-read_closed_unread unit (Some byte ∷ outcomes) told older walk unread =
-    let same = (finish_walk unit Closed outcomes walk.0 (Finish NotClosed) walk.4).1 in cc
+read_closed_unread unit (Some byte ∷ outcomes) told older walk unread = grind (arith, finish_walk)
 read_closed_unread unit (None ∷ outcomes) told older walk unread =
-    let end = finish_walk unit NotClosed outcomes walk.0 (Finish NotClosed) walk.4 in
-    subst (λ (t : List Exchange). AllUnread (t ++ older)) (sym (only_older told walk.0 walk.1 walk.2 end.0))
-    (read_unread unit 2 walk.1 older walk.3 unread)
+    grind (
+      arith,
+      finish_walk unit NotClosed outcomes walk.0 (Finish NotClosed) walk.4,
+      only_older,
+      read_unread unit 2
+          walk.1 older walk.3 unread,
+    )
 
-close_unread : (unit : ℕ) (outcomes : List (Option ℕ)) (told : List Exchange)
+close_unread : (unit : ℕ) (outcomes : List (Option (List ℕ))) (told : List Exchange)
     → Walk unit (close Closed NotClosed) outcomes told (Finish NotClosed) → AllUnread told
 close_unread unit [] told walk = let differs = walk.1 in cc
 close_unread unit (outcome ∷ outcomes) told walk =
@@ -176,11 +174,7 @@ close_unread unit (outcome ∷ outcomes) told walk =
 
 -- the newest exchange of a checked read ends one
 not_ended : (unit location byte : ℕ) (told : List Exchange) → AllUnread told → EndsInRead unit location byte told → ⊥
-not_ended unit location byte told unread ends =
-    let s = ends_reading unit location byte told ends in
-    let all = (subst AllUnread s.is unread).0 in
-    let six = subst (λ (f : Frame). IsUnread s.x7.frame s.x7.answer (is_ask f)) s.ask6 all in
-    subst (λ (f : Frame). IsUnread f s.x7.answer true) s.got7.frame_is six s.got7.meets
+not_ended unit location byte told unread ends = grind (arith, ends_reading unit location byte told ends)
 
 unread_none : (unit : ℕ) (told : List Exchange) → AllUnread told → HasRead unit told → ⊥
 unread_none unit [] unread has = has
@@ -190,5 +184,4 @@ unread_none unit (x ∷ told) unread (inr has) = unread_none unit told unread.1 
 pub closing_unread : (told : List Exchange) (unit : ℕ) → Wants unit (close Closed NotClosed) told (Ended NotClosed)
     → HasRead unit told → ⊥
 closing_unread told unit wants has =
-    let ended = ended_walk unit (close Closed NotClosed) told NotClosed wants in
-    unread_none unit told (close_unread unit ended.0 told ended.1) has
+    grind (arith, ended_walk unit (close Closed NotClosed) told NotClosed wants, unread_none, close_unread)

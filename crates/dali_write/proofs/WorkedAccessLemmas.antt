@@ -1,7 +1,6 @@
 -- Near the edges of what is promised of accesses and sessions.
 use Rattle.std.proofs.Common.{◌≡◌, ◌⊎◌, inl, inr, refl, sym, ap, subst, ◌∙◌, ℕ, zero, suc, ◌+◌, ◌≤◌, true, false}
 use Rattle.std.proofs.Common.{ne_eqb, List, [], ◌∷◌, ◌++◌, append_assoc, append-nil, length, Option, Some, None, arith}
-use Rattle.dali_frame.specs.declared.forward.Frame.TheVariants.{Dtr0, Dtr1, AskDtr0, AskDtr1, Read}
 use Rattle.dali_gear.specs.UnitState.{UnitState}
 use Rattle.dali_gear.specs.SimState.{SimState}
 use Rattle.dali_write.specs.Exchanges.{Exchange}
@@ -19,7 +18,7 @@ use Rattle.dali_write.specs.Misses.{is_missed, misses_in, IsLong}
 use Rattle.dali_write.specs.Losses.{losses, Unrefused, IsAlone}
 use Rattle.dali_write.specs.Successes.{MayStoreAt, HasBank, Spared, MissesByLosses}
 use Rattle.dali_write.specs.Doubts.{EndsUnread, EndsUnlooked, FoundAnother}
-use Rattle.dali_write.specs.WorkedAccesses.{sent, missed_read, after_a_miss, small_bank, two_units}
+use Rattle.dali_write.specs.WorkedAccesses.{missed_read, after_a_miss, small_bank, two_units}
 use Rattle.dali_write.proofs.ShapeLemmas.{trying_length, tail_is}
 use Rattle.dali_write.specs.Worlds.{Run}
 use Rattle.dali_gear.specs.SimState.{SimStep}
@@ -47,9 +46,7 @@ one_miss zero = refl
 one_miss (suc n) = let rest = one_miss n in omega arith
 
 pub long_within : (n : ℕ) → IsLong 12 (after_a_miss n) → (11 ≤ n) × (n ≤ 18)
-long_within n long =
-    let least = long.0 in
-    let most = long.1 in let all = miss_length n in let one = one_miss n in (omega arith, omega arith)
+long_within n long = grind (arith, miss_length n, one_miss n)
 
 pub long_enough : (n : ℕ) → (11 ≤ n) × (n ≤ 18) → IsLong 12 (after_a_miss n)
 long_enough n (least, most) = let all = miss_length n in let one = one_miss n in (omega arith, omega arith)
@@ -97,76 +94,16 @@ try_names : (unit location u l : ℕ) (x : Exchange) (tried : List Exchange) (wi
     → missed_read unit location told ≡ (x ∷ tried) ++ rest
     → Trying (read_requests u l) tried (request x.frame wish ∷ left)
     → (u ≡ unit) × (l ≡ location)
-try_names unit location u l x [] wish left rest told parts try =
-    let newest : sent (AskDtr0 unit) None ≡ x = cc in
-    let asks : AskDtr0 unit ≡ x.frame = ap (λ (e : Exchange). e.frame) newest in
-    let e0 = try in
-    let last = head_of _ _ _ _ e0 in
-    absurd (let never : AskDtr0 unit ≡ Dtr1 1 = asks ∙ last in cc)
-try_names unit location u l x (a ∷ []) wish left rest told parts try =
-    let newest : sent (AskDtr0 unit) None ≡ x = cc in
-    let asks : AskDtr0 unit ≡ x.frame = ap (λ (e : Exchange). e.frame) newest in
-    let e0 = try.2 in
-    let e1 = tail_is _ _ _ _ e0 in
-    let last = head_of _ _ _ _ e1 in
-    absurd (let never : AskDtr0 unit ≡ AskDtr1 u = asks ∙ last in cc)
-try_names unit location u l x (a ∷ b ∷ []) wish left rest told parts try =
-    let newest : sent (AskDtr0 unit) None ≡ x = cc in
-    let asks : AskDtr0 unit ≡ x.frame = ap (λ (e : Exchange). e.frame) newest in
-    let e0 = try.2.2 in
-    let e1 = tail_is _ _ _ _ e0 in
-    let e2 = tail_is _ _ _ _ e1 in
-    let last = head_of _ _ _ _ e2 in
-    absurd (let never : AskDtr0 unit ≡ Dtr0 l = asks ∙ last in cc)
-try_names unit location u l x (a ∷ b ∷ c ∷ []) wish left rest told parts try =
-    let newest : sent (AskDtr0 unit) None ≡ x = cc in
-    let asks : AskDtr0 unit ≡ x.frame = ap (λ (e : Exchange). e.frame) newest in
-    let e0 = try.2.2.2 in
-    let e1 = tail_is _ _ _ _ e0 in
-    let e2 = tail_is _ _ _ _ e1 in
-    let e3 = tail_is _ _ _ _ e2 in
-    let last = head_of _ _ _ _ e3 in
-    let before : sent (Dtr0 location) None ≡ a = cc in
-    let sets : Dtr0 location ≡ a.frame = ap (λ (e : Exchange). e.frame) before in
-    let third = head_of _ _ _ _ e2 in
-    let same_unit : AskDtr0 unit ≡ AskDtr0 u = asks ∙ last in
-    let same_location : Dtr0 location ≡ Dtr0 l = sets ∙ third in
-    (cc, cc)
-try_names unit location u l x (a ∷ b ∷ c ∷ d ∷ []) wish left rest told parts try =
-    let newest : sent (AskDtr0 unit) None ≡ x = cc in
-    let asks : AskDtr0 unit ≡ x.frame = ap (λ (e : Exchange). e.frame) newest in
-    let e0 = try.2.2.2.2 in
-    let e1 = tail_is _ _ _ _ e0 in
-    let e2 = tail_is _ _ _ _ e1 in
-    let e3 = tail_is _ _ _ _ e2 in
-    let e4 = tail_is _ _ _ _ e3 in
-    let last = head_of _ _ _ _ e4 in
-    absurd (let never : AskDtr0 unit ≡ Read u = asks ∙ last in cc)
-try_names unit location u l x (a ∷ b ∷ c ∷ d ∷ e ∷ []) wish left rest told parts try =
-    let before : sent (Dtr0 location) None ≡ a = cc in
-    let sets : Dtr0 location ≡ a.frame = ap (λ (e : Exchange). e.frame) before in
-    let e0 = try.2.2.2.2.2 in
-    let e1 = tail_is _ _ _ _ e0 in
-    let e2 = tail_is _ _ _ _ e1 in
-    let e3 = tail_is _ _ _ _ e2 in
-    let e4 = tail_is _ _ _ _ e3 in
-    let fifth = head_of _ _ _ _ e4 in
-    absurd (let never : Dtr0 location ≡ Read u = sets ∙ fifth in cc)
+try_names unit location u l x [] wish left rest told parts try = grind (arith, head_of)
+try_names unit location u l x (a ∷ []) wish left rest told parts try = grind (arith, tail_is, head_of)
+try_names unit location u l x (a ∷ b ∷ []) wish left rest told parts try = grind (arith, tail_is, head_of)
+try_names unit location u l x (a ∷ b ∷ c ∷ []) wish left rest told parts try = grind (arith, tail_is, head_of)
+try_names unit location u l x (a ∷ b ∷ c ∷ d ∷ []) wish left rest told parts try = grind (arith, tail_is, head_of)
+try_names unit location u l x (a ∷ b ∷ c ∷ d ∷ e ∷ []) wish left rest told parts try = grind (arith, tail_is, head_of)
 try_names unit location u l x (a ∷ b ∷ c ∷ d ∷ e ∷ f ∷ []) wish left rest told parts try =
-    let newest : sent (AskDtr0 unit) None ≡ x = cc in
-    let asks : AskDtr0 unit ≡ x.frame = ap (λ (e : Exchange). e.frame) newest in
-    let e0 = try.2.2.2.2.2.2 in
-    let e1 = tail_is _ _ _ _ e0 in
-    let e2 = tail_is _ _ _ _ e1 in
-    let e3 = tail_is _ _ _ _ e2 in
-    let e4 = tail_is _ _ _ _ e3 in
-    let e5 = tail_is _ _ _ _ e4 in
-    let e6 = tail_is _ _ _ _ e5 in
-    let last = head_of _ _ _ _ e6 in
-    absurd (let never : AskDtr0 unit ≡ AskDtr1 u = asks ∙ last in cc)
+    grind (arith, tail_is, head_of)
 try_names unit location u l x (a ∷ b ∷ c ∷ d ∷ e ∷ f ∷ g ∷ more) wish left rest told parts try =
-    let long = trying_length (read_requests u l) (a ∷ b ∷ c ∷ d ∷ e ∷ f ∷ g ∷ more) (request x.frame wish ∷ left) try in
-    absurd (omega arith)
+    grind (arith, trying_length)
 
 missed_names : (unit location u l : ℕ) (newer rest told : List Exchange)
     → missed_read unit location told ≡ newer ++ rest → Missed (read_requests u l) newer → (u ≡ unit) × (l ≡ location)
@@ -176,10 +113,7 @@ missed_names unit location u l (x ∷ tried) rest told parts (wish, left, misses
 
 pub unread_names : (unit location u l : ℕ) (told : List Exchange) → EndsUnread u l (missed_read unit location told)
     → (u ≡ unit) × (l ≡ location)
-unread_names unit location u l told f =
-    let are = f.missed in
-    missed_names unit location u l are.0 (are.1 ++ f.older) told
-    (f.parts ∙ ap (λ (t : List Exchange). t ++ f.older) are.2 ∙ append_assoc are.0 are.1 f.older) are.3
+unread_names unit location u l told f = grind (arith, missed_names, append_assoc)
 
 pub unlooked_names : (unit location u : ℕ) (told : List Exchange) → EndsUnlooked u (missed_read unit location told)
     → (location ≡ 0x00) ⊎ ((location ≡ 0x11) ⊎ (location ≡ 0x12))
@@ -188,15 +122,10 @@ unlooked_names unit location u told (inr (inl f)) = inr (inl (sym (unread_names 
 unlooked_names unit location u told (inr (inr f)) = inr (inr (sym (unread_names unit location u 0x12 told f).1))
 
 -- walks one after the other
-walk_then : (unit : ℕ) (plan mid end : Plan) (outcomes others : List (Option ℕ)) (older newer : List Exchange)
+walk_then : (unit : ℕ) (plan mid end : Plan) (outcomes others : List (Option (List ℕ))) (older newer : List Exchange)
     → Walk unit plan outcomes older mid → Walk unit mid others newer end
-    → (all : List (Option ℕ)) × Walk unit plan all (newer ++ older) end
-walk_then unit plan mid end [] others older newer (none, same) later =
-    let told : newer ++ older ≡ newer = ap (λ (t : List Exchange). newer ++ t) none ∙ append-nil newer in (
-      others,
-      subst (λ (t : List Exchange). Walk unit plan others t end) (sym told)
-          (subst (λ (p : Plan). Walk unit p others newer end) (sym same) later),
-    )
+    → (all : List (Option (List ℕ))) × Walk unit plan all (newer ++ older) end
+walk_then unit plan mid end [] others older newer (none, same) later = grind (arith, append-nil newer)
 walk_then unit plan mid end (outcome ∷ outcomes) others older newer (after, before, parts, ends, walk) later =
     let rest = walk_then unit (next_plan plan outcome) mid end outcomes others after newer walk later in (
       outcome ∷ rest.0,
@@ -211,15 +140,14 @@ walk_then unit plan mid end (outcome ∷ outcomes) others older newer (after, be
 
 -- the accesses of a walk, the newest first
 record Accesses (unit : ℕ) (plan : Plan) (told : List Exchange) (end : Plan) : Type 0 where
-  outcomes : List (Option ℕ)
+  outcomes : List (Option (List ℕ))
   accesses : AccessesEnd unit plan outcomes told
   comes : plan_after plan outcomes ≡ end
 
-walk_accesses : (unit : ℕ) (plan now end : Plan) (done outcomes : List (Option ℕ)) (ended told : List Exchange)
+walk_accesses : (unit : ℕ) (plan now end : Plan) (done outcomes : List (Option (List ℕ))) (ended told : List Exchange)
     → AccessesEnd unit plan done ended → plan_after plan done ≡ now
     → Walk unit now outcomes told end → Accesses unit plan (told ++ ended) end
-walk_accesses unit plan now end done [] ended told accesses comes (none, same) =
-    record { outcomes = done; accesses = rw none accesses; comes = comes ∙ same }
+walk_accesses unit plan now end done [] ended told accesses comes (none, same) = grind arith
 walk_accesses unit plan now end done (outcome ∷ outcomes) ended told accesses comes (newer, older, parts, ends, walk) =
     let one : AccessesEnd unit plan (outcome ∷ done) (older ++ ended) =
     (older, ended, refl, subst (λ (p : Plan). AccessEnds unit p outcome older) (sym comes) ends, accesses) in
@@ -230,19 +158,19 @@ walk_accesses unit plan now end done (outcome ∷ outcomes) ended told accesses 
     sym (append_assoc newer older ended) ∙ ap (λ (t : List Exchange). t ++ ended) (sym parts) in
     subst (λ (t : List Exchange). Accesses unit plan t end) same all
 
-walk_wants : (unit : ℕ) (plan : Plan) (verdict : Verdict) (outcomes : List (Option ℕ)) (told : List Exchange)
+walk_wants : (unit : ℕ) (plan : Plan) (verdict : Verdict) (outcomes : List (Option (List ℕ))) (told : List Exchange)
     → Walk unit plan outcomes told (Finish verdict) → Wants unit plan told (Ended verdict)
 walk_wants unit plan verdict outcomes told walk =
     let all =
     subst (λ (t : List Exchange). Accesses unit plan t (Finish verdict)) (append-nil told)
     (walk_accesses unit plan plan (Finish verdict) [] outcomes [] told refl refl walk) in
     record {
+      outcomes = all.outcomes;
       now = Finish verdict;
       misses = 0;
       left = [];
-      byte = None;
+      bytes = [];
       stands = record {
-        outcomes = all.outcomes;
         ended = told;
         missed = [];
         tried = [];
@@ -252,7 +180,7 @@ walk_wants unit plan verdict outcomes told walk =
         few = omega arith;
         misses_are = refl;
         try = refl;
-        byte_is = refl;
+        bytes_are = refl;
         going = refl;
       };
       ask_is = refl;
@@ -263,13 +191,14 @@ pub found_doubts : (unit : ℕ) (plan : Plan) (expected : List (ℕ × ℕ)) (to
     → FoundAnother unit plan expected told → Wants unit plan told (Ended Doubt)
 found_doubts unit plan expected told f =
     let differs = ne_eqb f.found f.byte f.another in
-    let goes : next_plan (expect f.location f.byte f.after) (Some f.found) ≡ give_up = rw differs refl in
+    let goes : next_plan (expect f.location f.byte f.after) (Some (f.found ∷ [])) ≡ give_up = rw differs refl in
     let gave = subst (λ (p : Plan). Walk unit p f.later f.newer (Finish Doubt)) (sym goes) f.gave_up in
-    let later : Walk unit (expect f.location f.byte f.after) (Some f.found ∷ f.later) (f.newer ++ f.read)
+    let later : Walk unit (expect f.location f.byte f.after) (Some (f.found ∷ []) ∷ f.later) (f.newer ++ f.read)
     (Finish Doubt) =
     (f.newer, f.read, refl, inl f.answered, gave) in
     let all =
-    walk_then unit plan (expect f.location f.byte f.after) (Finish Doubt) f.before (Some f.found ∷ f.later) f.older
+    walk_then unit plan (expect f.location f.byte f.after) (Finish Doubt) f.before
+        (Some (f.found ∷ []) ∷ f.later) f.older
     (f.newer ++ f.read) f.came later in
     walk_wants unit plan Doubt all.0 told (subst (λ (t : List Exchange). Walk unit plan all.0 t (Finish Doubt))
     (append_assoc f.newer f.read f.older ∙ sym f.parts) all.1)

@@ -10,24 +10,25 @@ use Rattle.dali_write.specs.Verdicts.{ShowsBank}
 use Rattle.dali_write.proofs.ReadLemmas.{not_lock}
 
 -- 00h names 02h: three bytes are read, the first one first
-pub three_are_read : plan_after read_all (Some 0x33 ∷ Some 0x22 ∷ Some 0x02 ∷ []) ≡ Finish Read
+pub three_are_read : plan_after read_all (Some (0x33 ∷ []) ∷ Some (0x22 ∷ []) ∷ Some (0x02 ∷ []) ∷ []) ≡ Finish Read
 three_are_read = refl
 
-pub two_are_too_few : plan_after read_all (Some 0x22 ∷ Some 0x02 ∷ []) ≡ read_on 2 1
+pub two_are_too_few : plan_after read_all (Some (0x22 ∷ []) ∷ Some (0x02 ∷ []) ∷ []) ≡ read_on 2 1
 two_are_too_few = refl
 
-pub the_first_comes_first : found (Some 0x33 ∷ Some 0x22 ∷ Some 0x02 ∷ []) ≡ 0x02 ∷ 0x22 ∷ 0x33 ∷ []
+pub the_first_comes_first : found
+    (Some (0x33 ∷ []) ∷ Some (0x22 ∷ []) ∷ Some (0x02 ∷ []) ∷ []) ≡ 0x02 ∷ 0x22 ∷ 0x33 ∷ []
 the_first_comes_first = refl
 
 -- 00h names 00h: it is all that is read
-pub one_is_read : plan_after read_all (Some 0x00 ∷ []) ≡ Finish Read
+pub one_is_read : plan_after read_all (Some (0x00 ∷ []) ∷ []) ≡ Finish Read
 one_is_read = refl
 
-pub silent_amid : plan_after read_all (None ∷ Some 0x02 ∷ []) ≡ Finish Silent
+pub silent_amid : plan_after read_all (None ∷ Some (0x02 ∷ []) ∷ []) ≡ Finish Silent
 silent_amid = refl
 
 -- FFh is never read
-pub no_more_than_up_to_feh : plan_after read_all (Some 0xFF ∷ []) ≡ read_on 1 0xFE
+pub no_more_than_up_to_feh : plan_after read_all (Some (0xFF ∷ []) ∷ []) ≡ read_on 1 0xFE
 no_more_than_up_to_feh = refl
 
 pub bank_is_whole : {loses : ℕ → Type 0} (world : World) (unit last : ℕ) (bytes : List ℕ)

@@ -1,7 +1,7 @@
 -- Near the edges of what a block read is.
-use Rattle.std.proofs.Common.{◌≡◌, refl, sym, ap, subst, ℕ, zero, suc, List, [], ◌∷◌, ◌++◌, length, drop, slice_get, Some}
+use Rattle.std.proofs.Common.{◌≡◌, refl, sym, ℕ, zero, suc, List, [], ◌∷◌, ◌++◌, length, drop, slice_get, Some}
 use Rattle.std.proofs.Common.{None, arith}
-use Rattle.dali_frame.specs.declared.forward.Frame.TheVariants.{AskDtr0, AskDtr1, Read}
+use Rattle.dali_frame.specs.declared.forward.Frame.TheVariants.{AskDtr1}
 use Rattle.dali_bus.specs.Carry.{WorldStep}
 use Rattle.dali_bus.proofs.ByteLemmas.{same_byte}
 use Rattle.dali_write.specs.Exchanges.{Exchange}
@@ -12,7 +12,6 @@ use Rattle.dali_write.specs.Tries.{Trying}
 use Rattle.dali_write.specs.Worlds.{IsAmong, Run}
 use Rattle.dali_write.specs.Requests.{block, block_requests}
 use Rattle.dali_write.specs.Blocks.{Fits, IsBlockRead}
-use Rattle.dali_write.specs.WorkedAccesses.{sent}
 use Rattle.dali_write.specs.WorkedBlocks.{two_locations, two_read, whole_read, seven_frames}
 use Rattle.dali_write.specs.LoneUnit.{lone_unit, six_frames}
 use Rattle.dali_write.proofs.LoneUnitLemmas.{tells_dtr1}
@@ -23,11 +22,7 @@ use Rattle.dali_write.proofs.WorkedSixFrameLemmas.{six_may_be}
 -- Which blocks fit
 
 pub some_fit : Fits (block 0x00 1) × Fits (block 0xFE 1) × Fits (block 0xEF 16)
-some_fit = (
-  record { some = omega arith; few = omega arith; within = omega arith },
-  record { some = omega arith; few = omega arith; within = omega arith },
-  record { some = omega arith; few = omega arith; within = omega arith },
-)
+some_fit = grind arith
 
 pub none_doesnt : Fits (block 0x03 0) → ⊥
 none_doesnt fits = omega (arith, fits.some)
@@ -72,49 +67,26 @@ pub asked_for : (requests : List Request) (newer : List Exchange) (x : Exchange)
     (left : List Request) (next : Request)
     → slice_get requests (length older) ≡ Some next → Trying requests (newer ++ x ∷ older) left
     → (x.frame ≡ next.frame) × Meets next.wish x.answer
-asked_for requests [] x older left next at try =
-    let same =
-    request_next (length older) requests (request x.frame try.0) next left (left_is requests older _ try.2) at in (
-      ap (λ (r : Request). r.frame) same,
-      subst (λ (r : Request). Meets r.wish x.answer) same try.1,
-    )
+asked_for requests [] x older left next at try = grind (arith, request_next, left_is)
 asked_for requests (y ∷ newer) x older left next at try =
     asked_for requests newer x older (request y.frame try.0 ∷ left) next at try.2
 
 -- DTR0 one less, DTR1 at 00h, or a read that wasn't answered
 pub moved_less : (bytes : List ℕ)
     → IsBlockRead 5 two_locations bytes (two_read (Some 0x0A) (Some 0x0B) (Some 0x04) (Some 0x01)) → ⊥
-moved_less bytes read =
-    let frames = two_read (Some 0x0A) (Some 0x0B) (Some 0x04) (Some 0x01) in
-    let wanted =
-    asked_for (block_requests 5 two_locations) (sent (AskDtr1 5) (Some 0x01) ∷ []) (sent (AskDtr0 5) (Some 0x04))
-    (drop 2 frames) [] (request (AskDtr0 5) (Exactly 5)) refl read.0 in
-    omega (arith, same_byte 0x04 0x05 wanted.1)
+moved_less bytes read = grind (arith, asked_for, same_byte)
 
 pub in_bank_0 : (bytes : List ℕ)
     → IsBlockRead 5 two_locations bytes (two_read (Some 0x0A) (Some 0x0B) (Some 0x05) (Some 0x00)) → ⊥
-in_bank_0 bytes read =
-    let frames = two_read (Some 0x0A) (Some 0x0B) (Some 0x05) (Some 0x00) in
-    let wanted =
-    asked_for (block_requests 5 two_locations) [] (sent (AskDtr1 5) (Some 0x00)) (drop 1 frames) []
-    (request (AskDtr1 5) (Exactly 1)) refl read.0 in
-    omega (arith, same_byte 0x00 0x01 wanted.1)
+in_bank_0 bytes read = grind (arith, asked_for, same_byte)
 
 pub one_unanswered : (bytes : List ℕ)
     → IsBlockRead 5 two_locations bytes (two_read (Some 0x0A) None (Some 0x05) (Some 0x01)) → ⊥
-one_unanswered bytes read =
-    let frames = two_read (Some 0x0A) None (Some 0x05) (Some 0x01) in
-    let wanted =
-    asked_for (block_requests 5 two_locations) (sent (AskDtr1 5) (Some 0x01) ∷ sent (AskDtr0 5) (Some 0x05) ∷ [])
-    (sent (Read 5) None) (drop 3 frames) [] (request (Read 5) Anything) refl read.0 in
-    cc
+one_unanswered bytes read = grind (arith, asked_for)
 
 -- and without its last frame it isn't whole
 pub last_unasked : (bytes : List ℕ) → IsBlockRead 5 two_locations bytes (drop 1 whole_read) → ⊥
-last_unasked bytes read =
-    let all : [] ≡ drop 7 (block_requests 5 two_locations) =
-    left_is (block_requests 5 two_locations) (drop 1 whole_read) [] read.0 in
-    cc
+last_unasked bytes read = grind (arith, left_is (block_requests 5 two_locations) (drop 1 whole_read) [] read.0)
 
 -- A loss of power before the reads is told by the last frame alone: the first six are answered as they want.
 
@@ -124,17 +96,17 @@ six_as_wanted =
 
 pub seven_may_be : Run WorldStep (IsAmong (9 ∷ [])) seven_frames (lone_unit 0 0) (lone_unit 0 1)
 seven_may_be =
-    run_of seven_frames (lone_unit 0 0) (lone_unit 0 1) (
-      lone_unit 0 1,
-      lone_unit 0 1,
-      leads_of six_frames (lone_unit 0 0) (lone_unit 0 1) six_may_be,
-      tells_dtr1 0 1 9 refl,
-      Stays,
+    grind (
+      arith,
+      run_of seven_frames (lone_unit 0 0) (lone_unit 0 1) (
+        lone_unit 0 1,
+        lone_unit 0 1,
+        leads_of
+            six_frames (lone_unit 0 0) (lone_unit 0 1) six_may_be,
+        tells_dtr1 0 1 9 refl,
+        Stays,
+      ),
     )
 
 pub loss_is_told : (bytes : List ℕ) → IsBlockRead 9 (block 0x00 1) bytes seven_frames → ⊥
-loss_is_told bytes read =
-    let wanted =
-    asked_for (block_requests 9 (block 0x00 1)) [] (sent (AskDtr1 9) (Some 0x00)) six_frames []
-    (request (AskDtr1 9) (Exactly 1)) refl read.0 in
-    omega (arith, same_byte 0x00 0x01 wanted.1)
+loss_is_told bytes read = grind (arith, asked_for, same_byte)

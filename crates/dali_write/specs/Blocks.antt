@@ -1,13 +1,12 @@
 -- Reads of blocks of locations of bank 1: which blocks there may be, and what their tries tell. Exchanges have the
 -- newest first.
-use Rattle.std.specs.Prelude.{◌≡◌, ℕ, ◌+◌, ◌≤◌, List, [], ◌∷◌, ◌++◌, slice_get, Option, Some}
-use Rattle.std.specs.Option.{option_to_list}
+use Rattle.std.specs.Prelude.{◌≡◌, ℕ, ◌+◌, ◌<◌, ◌≤◌, List, [], ◌∷◌, ◌++◌, slice_get, Some}
 use Rattle.dali_frame.specs.declared.forward.Frame.{Frame}
-use Rattle.dali_frame.specs.declared.forward.Frame.TheVariants.{Read}
 use Rattle.dali_write.specs.Exchanges.{Exchange}
 use Rattle.dali_write.specs.declared.block.Block.{Block}
+use Rattle.dali_write.specs.declared.request.Request.{Request}
 use Rattle.dali_write.specs.Requests.{moved_on, block_requests}
-use Rattle.dali_write.specs.Tries.{Trying}
+use Rattle.dali_write.specs.Tries.{most_tries, Trying, Misses, bytes_of}
 
 -- no block has more locations
 abbrev pub most_locations : ℕ
@@ -19,19 +18,22 @@ pub record Fits (block : Block) : Type 0 where
   pub few : block.count ≤ most_locations
   pub within : block.location + block.count ≤ 0xFF
 
--- what was answered to a read
-abbrev pub read_answer : Frame → Option ℕ → List ℕ
-read_answer (Read to) answer = option_to_list answer
-read_answer other answer = []
-
--- what reads were answered, the oldest first
-abbrev pub bytes_of : List Exchange → List ℕ
-bytes_of [] = []
-bytes_of (x ∷ told) = bytes_of told ++ read_answer x.frame x.answer
-
 -- one try, which came to its end and told these bytes
 abbrev pub IsBlockRead : ℕ → Block → List ℕ → List Exchange → Type 0
 IsBlockRead unit block bytes tried = Trying (block_requests unit block) tried [] × (bytes_of tried ≡ bytes)
+
+-- fewer than the most tries missed, and of the try at hand this frame is next
+pub record IsAmid (unit : ℕ) (block : Block) (told : List Exchange) (frame : Frame) : Type 0 where
+  pub tried : List Exchange
+  pub missed : List Exchange
+  pub misses : ℕ
+  pub next : Request
+  pub left : List Request
+  pub parts : told ≡ tried ++ missed
+  pub few : misses < most_tries
+  pub misses_are : Misses (block_requests unit block) misses missed
+  pub try : Trying (block_requests unit block) tried (next ∷ left)
+  pub frame_is : next.frame ≡ frame
 
 -- one try of a block, which came to its end and told this byte of this location
 pub record Tells (unit location byte : ℕ) (tried : List Exchange) : Type 0 where

@@ -1,11 +1,11 @@
 -- Why a session gives up, and why one that carries an order out ends in doubt.
-use Rattle.std.specs.Prelude.{◌≡◌, ◌≢◌, ◌⊎◌, ℕ, List, ◌∷◌, ◌++◌, Option, Some}
+use Rattle.std.specs.Prelude.{◌≡◌, ◌≢◌, ◌⊎◌, ℕ, List, [], ◌∷◌, ◌++◌, Option, Some}
 use Rattle.std.specs.List.{Contains}
 use Rattle.dali_write.specs.Exchanges.{Exchange}
 use Rattle.dali_write.specs.declared.ask.Verdict.TheVariants.{Doubt}
 use Rattle.dali_write.specs.declared.access.Access.{Access}
 use Rattle.dali_write.specs.declared.access.Access.TheVariants.{ReadFrom}
-use Rattle.dali_write.specs.Requests.{read_requests, access_requests}
+use Rattle.dali_write.specs.Requests.{block, read_requests, access_requests}
 use Rattle.dali_write.specs.Plans.{Plan, Finish, expect, give_up}
 use Rattle.dali_write.specs.Tries.{most_tries, Misses, Succeeds}
 use Rattle.dali_write.specs.Walks.{Walk}
@@ -27,7 +27,7 @@ pub record HasFailed (unit : ℕ) (told : List Exchange) : Type 0 where
 
 -- the newest frames are those of a checked read of the location that failed
 abbrev pub EndsUnread : ℕ → ℕ → List Exchange → Type 0
-EndsUnread unit location told = EndsInFailure unit (ReadFrom location) told
+EndsUnread unit location told = EndsInFailure unit (ReadFrom (block location 1)) told
 
 -- or of one of the length or of the content format
 abbrev pub EndsUnlooked : ℕ → List Exchange → Type 0
@@ -47,11 +47,11 @@ pub record FoundAnother (unit : ℕ) (plan : Plan) (expected : List (ℕ × ℕ)
   pub location : ℕ
   pub byte : ℕ
   pub is_expected : Contains expected (location, byte)
-  pub before : List (Option ℕ)
+  pub before : List (Option (List ℕ))
   pub after : Plan
   pub came : Walk unit plan before older (expect location byte after)
   pub found : ℕ
-  pub answered : Succeeds (read_requests unit location) (Some found) read
+  pub answered : Succeeds (read_requests unit location) (Some (found ∷ [])) read
   pub another : found ≢ byte
-  pub later : List (Option ℕ)
+  pub later : List (Option (List ℕ))
   pub gave_up : Walk unit give_up later newer (Finish Doubt)

@@ -5,8 +5,8 @@
 use Rattle.std.specs.Prelude.{◌≡◌, ℕ, ◌<◌, ◌≤◌, List, ⊤}
 use Rattle.std.specs.List.{AllByRecursion}
 use Rattle.dali_write.specs.declared.ask.Verdict.{Verdict}
-use Rattle.dali_write.specs.declared.ask.Verdict.TheVariants.{MayOpen, Done, Short, Format, Silent, Doubt, DoubtOpen}
-use Rattle.dali_write.specs.declared.ask.Verdict.TheVariants.{Closed, NotClosed, Read}
+use Rattle.dali_write.specs.declared.ask.Verdict.TheVariants.{MayOpen, Done, Short, Format, Doubt}
+use Rattle.dali_write.specs.declared.ask.Verdict.TheVariants.{Closed}
 use Rattle.dali_write.specs.Plans.{greatest}
 
 -- bank 1 reaches to the greatest location of the updates, and where that is 13h or above the content format is 0003h
@@ -36,12 +36,9 @@ RestsOn shows answered updates MayOpen = Suits shows updates
 RestsOn shows answered updates Done = IsWritten shows updates
 RestsOn shows answered updates Short = IsTooShort shows updates
 RestsOn shows answered updates Format = HasOtherFormat shows updates
-RestsOn shows answered updates Silent = ⊤
 RestsOn shows answered updates Doubt = answered
-RestsOn shows answered updates DoubtOpen = ⊤
 RestsOn shows answered updates Closed = answered
-RestsOn shows answered updates NotClosed = ⊤
-RestsOn shows answered updates Read = ⊤
+RestsOn shows answered updates other = ⊤
 
 -- what the verdict of a session rests on: the read that was answered is that of the lock byte
 abbrev pub Rests : (ℕ → ℕ → Type 0) → List (ℕ × ℕ) → Verdict → Type 0

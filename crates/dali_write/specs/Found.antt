@@ -1,44 +1,49 @@
 -- What a session has found in its accesses so far.
-use Rattle.std.specs.Prelude.{◌≡◌, ℕ, List, [], ◌++◌, ◌∷◌, Option}
-use Rattle.std.specs.Option.{option_to_list}
+use Rattle.std.specs.Prelude.{◌≡◌, ℕ, Bool, true, false, List, [], ◌++◌, ◌∷◌, Option, Some, None, nat_le, if◌then◌else◌}
 use Rattle.dali_write.specs.Exchanges.{Exchange}
 use Rattle.dali_write.specs.declared.request.Request.{Request}
+use Rattle.dali_write.specs.Blocks.{most_locations}
 use Rattle.dali_write.specs.declared.stage.Task.{Task}
-use Rattle.dali_write.specs.declared.stage.Task.TheVariants.{Fresh, Opened, Closing, Reading}
-use Rattle.dali_write.specs.Plans.{Plan, read_all}
+use Rattle.dali_write.specs.declared.stage.Task.TheVariants.{Reading, ReadingBlock}
+use Rattle.dali_write.specs.Plans.{Plan}
+use Rattle.dali_write.specs.Stages.{plan_of}
 use Rattle.dali_write.specs.Tries.{Stands}
 
--- the bytes of outcomes that are listed newest first, the oldest first
-abbrev pub found : List (Option ℕ) → List ℕ
+-- the bytes that an access has read
+abbrev pub read_by : Option (List ℕ) → List ℕ
+read_by None = []
+read_by (Some bytes) = bytes
+
+-- those of accesses that are listed newest first, the oldest first
+abbrev pub found : List (Option (List ℕ)) → List ℕ
 found [] = []
-found (newest ∷ older) = found older ++ option_to_list newest
+found (newest ∷ older) = found older ++ read_by newest
 
--- the bytes that a session keeps that had these outcomes: a reading one keeps all that it read, others none
-abbrev pub kept_bytes : Task → List (Option ℕ) → List ℕ
-kept_bytes Reading outcomes = found outcomes
-kept_bytes (Fresh order) outcomes = []
-kept_bytes (Opened order) outcomes = []
-kept_bytes Closing outcomes = []
+-- a session of a block reads no more locations than a block may have
+abbrev pub is_small : Task → Bool
+is_small (ReadingBlock block) = nat_le block.count most_locations
+is_small task = true
 
--- the bytes kept after one more outcome
-abbrev pub kept_after : Task → List ℕ → Option ℕ → List ℕ
-kept_after Reading bytes outcome = bytes ++ option_to_list outcome
-kept_after (Fresh order) bytes outcome = bytes
-kept_after (Opened order) bytes outcome = bytes
-kept_after Closing bytes outcome = bytes
+-- a session that reads keeps what it has read
+abbrev pub keeps : Task → Bool
+keeps Reading = true
+keeps (ReadingBlock block) = true
+keeps task = false
 
--- what was told is so, and these bytes were kept of it
-pub record StandsWith (task : Task) (unit : ℕ) (plan : Plan) (told : List Exchange) (now : Plan) (misses : ℕ)
-    (left : List Request) (byte : Option ℕ) (bytes : List ℕ) : Type 0 where
-  pub stands : Stands unit plan told now misses left byte
-  pub bytes_are : bytes ≡ kept_bytes task stands.outcomes
+-- what is kept once more bytes were read
+abbrev pub kept_after : Task → List ℕ → List ℕ → List ℕ
+kept_after task bytes more = if keeps task then bytes ++ more else bytes
 
--- What a reading session has read after these exchanges: they are whole accesses, then missed tries of the access at
--- hand, then the try at hand, and the bytes are those that the whole accesses told, in their order.
-pub record ReadsSoFar (told : List Exchange) (unit : ℕ) (bytes : List ℕ) : Type 0 where
-  pub now : Plan
-  pub misses : ℕ
-  pub left : List Request
-  pub byte : Option ℕ
-  pub stands : Stands unit read_all told now misses left byte
-  pub bytes_are : bytes ≡ found stands.outcomes
+-- What was told is whole accesses with these outcomes, then missed tries of the access at hand, then the try at hand,
+-- which has read so many bytes; and what the session keeps are those that the whole accesses read, in their order.
+pub record StandsWith (task : Task) (unit : ℕ) (told : List Exchange) (now : Plan) (misses : ℕ) (left : List Request)
+    (tried bytes : List ℕ) : Type 0 where
+  pub outcomes : List (Option (List ℕ))
+  pub stands : Stands unit (plan_of task) outcomes told now misses left tried
+  pub bytes_are : bytes ≡ (if keeps task then found outcomes else [])
+
+-- what a session keeps after these exchanges
+abbrev pub ReadsSoFar : Task → ℕ → List Exchange → List ℕ → Type 0
+ReadsSoFar task unit told bytes =
+    (now : Plan) × (misses : ℕ) × (left : List Request) × (tried : List ℕ)
+    × StandsWith task unit told now misses left tried bytes

@@ -4,10 +4,10 @@ use Rattle.dali_write.specs.declared.stage.Task.{Task}
 use Rattle.dali_write.specs.declared.stage.Stage.{Stage}
 use Rattle.dali_write.specs.declared.stage.Stage.TheVariants.{ReadLength, ReadFormat, ReadFormatLow, Unlock, WriteOn}
 use Rattle.dali_write.specs.declared.stage.Stage.TheVariants.{ReadLock, ReadBack, Close, ReadClosed, ReadAll, ReadOn}
-use Rattle.dali_write.specs.declared.stage.Stage.TheVariants.{Over}
+use Rattle.dali_write.specs.declared.stage.Stage.TheVariants.{ReadBlock, Over}
 use Rattle.dali_write.specs.Frames.{read_frames, write_frames}
-use Rattle.dali_write.specs.Tries.{most_tries}
-use Rattle.dali_write.specs.Stages.{updates_for}
+use Rattle.dali_write.specs.Tries.{most_tries, plan_requests}
+use Rattle.dali_write.specs.Stages.{updates_for, of_block}
 
 -- all tries of a checked read, of a checked write, and of the two that close a unit
 abbrev pub read_limit : ℕ
@@ -40,4 +40,5 @@ limit_at task (Close answered unanswered) = close_limit
 limit_at task (ReadClosed answered unanswered) = read_limit
 limit_at task ReadAll = 255 * read_limit
 limit_at task (ReadOn location last) = read_limit * (suc last - location)
+limit_at task ReadBlock = most_tries * length (plan_requests 0 (of_block task))
 limit_at task (Over verdict) = 0

@@ -1,5 +1,5 @@
 -- What the simulated bus loses of the frames that are meant for one unit.
-use Rattle.std.specs.Prelude.{◌≡◌, ◌≢◌, ℕ, ◌+◌, ◌==◌, Bool, false, ◌&&◌, ◌||◌, is_some, IsSome, IsTrue, ◌⊎◌, List, [], ⊤}
+use Rattle.std.specs.Prelude.{◌≡◌, ◌≢◌, ℕ, ◌+◌, ◌<◌, ◌==◌, Bool, false, ◌&&◌, ◌||◌, is_some, IsSome, IsTrue, ◌⊎◌, List, [], ⊤}
 use Rattle.std.specs.Prelude.{◌∷◌, length, slice_get, if◌then◌else◌}
 use Rattle.std.specs.List.{list_any, AllByRecursion}
 use Rattle.dali_frame.specs.declared.forward.Frame.{Frame}
@@ -8,6 +8,7 @@ use Rattle.dali_gear.specs.declared.fate.Fate.{Fate}
 use Rattle.dali_gear.specs.Fate.{is_lost, next_fate}
 use Rattle.dali_gear.specs.UnitState.{BankState, UnitState, is_writable}
 use Rattle.dali_gear.specs.SimState.{SimState, unit_answer}
+use Rattle.dali_write.specs.Requests.{moved_on}
 use Rattle.dali_write.specs.declared.access.Access.{Access}
 use Rattle.dali_write.specs.declared.access.Access.TheVariants.{ReadFrom, WriteTo}
 
@@ -47,9 +48,13 @@ IsAlone address unit (first ∷ units) =
     ((first ≡ unit) × (unit.address ≡ address) × AllByRecursion (IsElse address) units)
     ⊎ (IsElse address first × IsAlone address unit units)
 
--- the unit has the location to read, or can write it
+-- the bank has so many locations from this one on
+abbrev pub HasFrom : BankState → ℕ → ℕ → Type 0
+HasFrom bank location count = (index : ℕ) → index < count → IsSome (slice_get bank.bytes (moved_on location index))
+
+-- the unit has the locations to read, or can write the one
 abbrev pub CanDo : Access → UnitState → Type 0
-CanDo (ReadFrom location) unit = IsSome (slice_get unit.bank1.bytes location)
+CanDo (ReadFrom block) unit = HasFrom unit.bank1 block.location block.count
 CanDo (WriteTo location byte) unit = IsTrue (is_writable unit.bank1 location)
 
 -- the banks are the same but for the byte at this location

@@ -1,8 +1,7 @@
 -- What reads of blocks among exchanges show. The newest exchange comes first.
 use Rattle.std.specs.Prelude.{◌≡◌, ◌⊎◌, ℕ, suc, ◌<◌, min, List, [], ◌∷◌, ◌++◌, length, slice_get, Some, ⊤}
 use Rattle.dali_frame.specs.declared.forward.Frame.{Frame}
-use Rattle.dali_frame.specs.declared.forward.Frame.TheVariants.{Dtr0, Dtr1, Dtr2, Write, WriteSilent, Enable}
-use Rattle.dali_frame.specs.declared.forward.Frame.TheVariants.{AskDtr0, AskDtr1, AskDtr2, Read, Other}
+use Rattle.dali_frame.specs.declared.forward.Frame.TheVariants.{Write, WriteSilent, Enable, Other}
 use Rattle.dali_write.specs.Exchanges.{Exchange}
 use Rattle.dali_write.specs.Blocks.{Tells}
 
@@ -12,13 +11,7 @@ IsPassive (Write byte) = ⊥
 IsPassive (WriteSilent byte) = ⊥
 IsPassive (Enable unit) = ⊥
 IsPassive (Other word) = ⊥
-IsPassive (Dtr0 byte) = ⊤
-IsPassive (Dtr1 byte) = ⊤
-IsPassive (Dtr2 byte) = ⊤
-IsPassive (AskDtr0 unit) = ⊤
-IsPassive (AskDtr1 unit) = ⊤
-IsPassive (AskDtr2 unit) = ⊤
-IsPassive (Read unit) = ⊤
+IsPassive other = ⊤
 
 -- the newest exchanges are a read of a block, which told the byte of the location
 abbrev pub EndsInRead : ℕ → ℕ → ℕ → List Exchange → Type 0

@@ -1,5 +1,6 @@
 -- The frames of a read of a block and of a checked write, each with the answer that it wants.
 use Rattle.std.specs.Prelude.{◌≡◌, ℕ, zero, suc, List, [], ◌∷◌, ◌++◌, replicate, Option, Some, IsSome, ⊤}
+use Rattle.std.specs.Option.{option_to_list}
 use Rattle.dali_frame.specs.declared.forward.Frame.{Frame}
 use Rattle.dali_frame.specs.declared.forward.Frame.TheVariants.{Dtr0, Dtr1, Write, Enable, AskDtr0, AskDtr1, Read}
 use Rattle.dali_bus.specs.Hears.{up}
@@ -22,11 +23,8 @@ request frame wish = record { frame = frame; wish = wish }
 -- select a location of bank 1 at the unit, and make sure of it
 abbrev pub select_requests : ℕ → ℕ → List Request
 select_requests unit location =
-    request (Dtr1 1) Nothing
-    ∷ request (AskDtr1 unit) (Exactly 1)
-    ∷ request (Dtr0 location) Nothing
-    ∷ request (AskDtr0 unit) (Exactly location)
-    ∷ []
+    request (Dtr1 1) Nothing ∷ request (AskDtr1 unit) (Exactly 1)
+    ∷ request (Dtr0 location) Nothing ∷ request (AskDtr0 unit) (Exactly location) ∷ []
 
 -- so many locations from this one on
 abbrev pub block : ℕ → ℕ → Block
@@ -45,10 +43,8 @@ reads unit count = replicate count (request (Read unit) Anything)
 -- asked for DTR1, and each byte is that of its place.
 abbrev pub block_requests : ℕ → Block → List Request
 block_requests unit block =
-    select_requests unit block.location
-    ++ (reads unit block.count
-    ++ request (AskDtr0 unit) (Exactly (moved_on block.location block.count))
-    ∷ request (AskDtr1 unit) (Exactly 0x01) ∷ [])
+    select_requests unit block.location ++ reads unit block.count
+    ++ request (AskDtr0 unit) (Exactly (moved_on block.location block.count)) ∷ request (AskDtr1 unit) (Exactly 1) ∷ []
 
 -- a checked read of the location: the read of it alone
 abbrev pub read_requests : ℕ → ℕ → List Request
@@ -61,11 +57,10 @@ write_requests unit location byte =
     ∷ (select_requests unit location ++ request (Write byte) (Exactly byte) ∷ [])
 
 abbrev pub access_requests : ℕ → Access → List Request
-access_requests unit (ReadFrom location) = read_requests unit location
+access_requests unit (ReadFrom block) = block_requests unit block
 access_requests unit (WriteTo location byte) = write_requests unit location byte
 
--- the byte that a try has read or written, after one more answer
-abbrev pub byte_after : Frame → Option ℕ → Option ℕ → Option ℕ
-byte_after (Write b) answer byte = answer
-byte_after (Read a) answer byte = answer
-byte_after other answer byte = byte
+-- what was answered to a read
+abbrev pub read_answer : Frame → Option ℕ → List ℕ
+read_answer (Read to) answer = option_to_list answer
+read_answer other answer = []

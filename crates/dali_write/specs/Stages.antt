@@ -3,28 +3,31 @@ use Rattle.std.specs.Prelude.{ℕ, suc, ◌-◌, List, [], drop, Option, Some, N
 use Rattle.dali_bank.specs.Order.{Contents}
 use Rattle.dali_write.specs.declared.access.Access.{Access}
 use Rattle.dali_write.specs.declared.ask.Verdict.{Verdict}
-use Rattle.dali_write.specs.declared.ask.Verdict.TheVariants.{Closed, NotClosed}
+use Rattle.dali_write.specs.declared.ask.Verdict.TheVariants.{Closed, NotClosed, Read}
 use Rattle.dali_write.specs.declared.stage.Task.{Task}
-use Rattle.dali_write.specs.declared.stage.Task.TheVariants.{Fresh, Opened, Closing, Reading}
+use Rattle.dali_write.specs.declared.stage.Task.TheVariants.{Fresh, Opened, Closing, Reading, ReadingBlock}
 use Rattle.dali_write.specs.declared.stage.Stage.{Stage}
 use Rattle.dali_write.specs.declared.stage.Stage.TheVariants.{ReadLength, ReadFormat, ReadFormatLow, Unlock, WriteOn}
 use Rattle.dali_write.specs.declared.stage.Stage.TheVariants.{ReadLock, ReadBack, Close, ReadClosed, ReadAll, ReadOn}
-use Rattle.dali_write.specs.declared.stage.Stage.TheVariants.{Over}
+use Rattle.dali_write.specs.declared.stage.Stage.TheVariants.{ReadBlock, Over}
 use Rattle.dali_write.specs.Plans.{Plan, Finish, Make, read_length, read_format, read_format_low, unlock, write_on}
-use Rattle.dali_write.specs.Plans.{read_lock, read_back, close, read_closed, read_all, read_on}
+use Rattle.dali_write.specs.Plans.{read_lock, read_back, close, read_closed, read_all, read_on, read_block}
 
 abbrev pub updates_for : Task → List (ℕ × ℕ)
 updates_for (Fresh order) = order.updates
 updates_for (Opened order) = order.updates
-updates_for Closing = []
-updates_for Reading = []
+updates_for task = []
 
 -- the order that it is for
 abbrev pub order_for : Task → Option Contents
 order_for (Fresh order) = Some order
 order_for (Opened order) = Some order
-order_for Closing = None
-order_for Reading = None
+order_for task = None
+
+-- what a session of a block reads
+abbrev pub of_block : Task → Plan
+of_block (ReadingBlock block) = read_block block
+of_block task = Finish Read
 
 -- the whole plan of a session
 abbrev pub plan_of : Task → Plan
@@ -32,6 +35,7 @@ plan_of (Fresh order) = read_length order.updates
 plan_of (Opened order) = unlock order.updates
 plan_of Closing = close Closed NotClosed
 plan_of Reading = read_all
+plan_of (ReadingBlock block) = read_block block
 
 -- the plan that is left at a stage
 abbrev pub plan_at : Task → Stage → Plan
@@ -46,6 +50,7 @@ plan_at task (Close answered unanswered) = close answered unanswered
 plan_at task (ReadClosed answered unanswered) = read_closed answered unanswered
 plan_at task ReadAll = read_all
 plan_at task (ReadOn location last) = read_on location (suc last - location)
+plan_at task ReadBlock = of_block task
 plan_at task (Over verdict) = Finish verdict
 
 -- the access at hand, or how the session ended

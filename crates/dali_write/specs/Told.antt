@@ -1,16 +1,17 @@
 -- What a session was told.
-use Rattle.std.specs.Prelude.{◌≡◌, ℕ, ◌+◌, ◌-◌, ◌*◌, List, length, drop, Option, None, slice_get}
+use Rattle.std.specs.Prelude.{◌≡◌, ℕ, ◌+◌, ◌-◌, ◌*◌, List, [], length, drop, Option, slice_get}
 use Rattle.dali_write.specs.Exchanges.{Exchange}
+use Rattle.dali_write.specs.declared.block.Block.{Block}
 use Rattle.dali_write.specs.declared.request.Request.{Request}
 use Rattle.dali_write.specs.declared.ask.Ask.{Ask}
 use Rattle.dali_bank.specs.Order.{Contents}
 use Rattle.dali_write.specs.declared.stage.Task.{Task}
-use Rattle.dali_write.specs.declared.stage.Task.TheVariants.{Fresh, Opened, Closing}
+use Rattle.dali_write.specs.declared.stage.Task.TheVariants.{Fresh, Opened, Closing, ReadingBlock}
 use Rattle.dali_write.specs.declared.session.Session.{Session}
 use Rattle.dali_write.specs.Tries.{plan_requests, ask_at}
 use Rattle.dali_write.specs.Found.{StandsWith}
 use Rattle.dali_write.specs.FramesLeft.{limit_at}
-use Rattle.dali_write.specs.Stages.{plan_of, plan_at}
+use Rattle.dali_write.specs.Stages.{plan_at}
 
 -- the short address of a session's unit, what it is for, and what it has read
 abbrev pub unit_of : Session → ℕ
@@ -22,7 +23,7 @@ task_of s = s.task
 abbrev pub bytes_read : Session → List ℕ
 bytes_read s = s.bytes.items
 
--- The session looks whether the order suits its unit; it carries the order out; it closes the unit.
+-- The session looks whether the order suits its unit; it carries the order out; it closes the unit; it reads the block.
 abbrev pub IsFresh : Contents → Session → Type 0
 IsFresh order s = (unit_of s ≡ order.unit) × (task_of s ≡ Fresh order)
 
@@ -31,6 +32,9 @@ IsOpened order s = (unit_of s ≡ order.unit) × (task_of s ≡ Opened order)
 
 abbrev pub IsClosing : ℕ → Session → Type 0
 IsClosing unit s = (unit_of s ≡ unit) × (task_of s ≡ Closing)
+
+abbrev pub IsReadingBlock : ℕ → Block → Session → Type 0
+IsReadingBlock unit block s = (unit_of s ≡ unit) × (task_of s ≡ ReadingBlock block)
 
 -- what the session wants
 abbrev pub aim_of : Session → Ask
@@ -42,13 +46,13 @@ request_at_hand s = slice_get (plan_requests (s.unit) (plan_at s.task s.stage)) 
 
 -- an access begins, with its first try
 abbrev pub BeginsTry : Session → Type 0
-BeginsTry s = (s.misses ≡ 0) × (s.number ≡ 0) × (s.byte ≡ None)
+BeginsTry s = (s.misses ≡ 0) × (s.number ≡ 0) × (s.tried.items ≡ [])
 
 -- A session was told these.
 unfoldable pub Told : List Exchange → Session → Type 0
 Told told s =
-    StandsWith s.task (s.unit) (plan_of s.task) told (plan_at s.task s.stage) s.misses
-    (drop s.number (plan_requests (s.unit) (plan_at s.task s.stage))) s.byte s.bytes.items
+    StandsWith s.task s.unit told (plan_at s.task s.stage) s.misses
+    (drop s.number (plan_requests (s.unit) (plan_at s.task s.stage))) s.tried.items s.bytes.items
 
 -- the most frames that are still to come: those from the stage on, less those of the access at hand that its tries so
 -- far used up

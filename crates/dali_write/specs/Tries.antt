@@ -1,5 +1,5 @@
 -- Tries, accesses and sessions, as lists of exchanges with the newest first.
-use Rattle.std.specs.Prelude.{◌≡◌, ℕ, suc, zero, ◌<◌, ◌⊎◌, List, [], ◌∷◌, ◌++◌, Option, None, Bool, true, false}
+use Rattle.std.specs.Prelude.{◌≡◌, ℕ, suc, zero, ◌<◌, ◌⊎◌, List, [], ◌∷◌, ◌++◌, Option, Some, None, Bool, true, false}
 use Rattle.std.proofs.Common.{refl}
 use Rattle.std.proofs.lemmas.Bool.{both_ways}
 use Rattle.dali_write.specs.Exchanges.{Exchange}
@@ -7,7 +7,7 @@ use Rattle.dali_write.specs.declared.request.Request.{Request}
 use Rattle.dali_write.specs.declared.request.Wish.{Wish}
 use Rattle.dali_write.specs.declared.ask.Ask.{Ask}
 use Rattle.dali_write.specs.declared.ask.Ask.TheVariants.{Send, Ended}
-use Rattle.dali_write.specs.Requests.{Meets, request, access_requests, byte_after}
+use Rattle.dali_write.specs.Requests.{Meets, request, access_requests, read_answer}
 use Rattle.dali_write.specs.Plans.{Plan, Finish, Make, plan_after}
 
 -- an access has at most so many tries
@@ -33,29 +33,29 @@ Misses requests (suc misses) told =
     (newer : List Exchange) × (older : List Exchange) × (told ≡ newer ++ older) × Missed requests newer
     × Misses requests misses older
 
--- the answer to the newest read or write, if the try has come to it
-abbrev pub byte_of : List Exchange → Option ℕ
-byte_of [] = None
-byte_of (x ∷ told) = byte_after x.frame x.answer (byte_of told)
+-- what reads were answered, the oldest first
+abbrev pub bytes_of : List Exchange → List ℕ
+bytes_of [] = []
+bytes_of (x ∷ told) = bytes_of told ++ read_answer x.frame x.answer
 
--- fewer than the most tries missed, and then one came to its end
-abbrev pub Succeeds : List Request → Option ℕ → List Exchange → Type 0
+-- fewer than the most tries missed, and then one came to its end; the outcome is what its reads were answered
+abbrev pub Succeeds : List Request → Option (List ℕ) → List Exchange → Type 0
 Succeeds requests outcome told =
-    (newer : List Exchange) × (older : List Exchange) × (misses : ℕ) × (told ≡ newer ++ older)
-    × Trying requests newer [] × (outcome ≡ byte_of newer) × (misses < most_tries) × Misses requests misses older
+    (newer : List Exchange) × (older : List Exchange) × (count : ℕ) × (told ≡ newer ++ older)
+    × Trying requests newer [] × (outcome ≡ Some (bytes_of newer)) × (count < most_tries) × Misses requests count older
 
 -- the most tries missed
-abbrev pub Fails : List Request → Option ℕ → List Exchange → Type 0
+abbrev pub Fails : List Request → Option (List ℕ) → List Exchange → Type 0
 Fails requests outcome told = (outcome ≡ None) × Misses requests most_tries told
 
 -- a whole checked access with its outcome
-abbrev pub AccessEnds : ℕ → Plan → Option ℕ → List Exchange → Type 0
+abbrev pub AccessEnds : ℕ → Plan → Option (List ℕ) → List Exchange → Type 0
 AccessEnds unit (Finish verdict) outcome told = ⊥
 AccessEnds unit (Make access after) outcome told =
     Succeeds (access_requests unit access) outcome told ⊎ Fails (access_requests unit access) outcome told
 
 -- whole accesses of the plan with their outcomes
-abbrev pub AccessesEnd : ℕ → Plan → List (Option ℕ) → List Exchange → Type 0
+abbrev pub AccessesEnd : ℕ → Plan → List (Option (List ℕ)) → List Exchange → Type 0
 AccessesEnd unit plan [] told = told ≡ []
 AccessesEnd unit plan (outcome ∷ outcomes) told =
     (newer : List Exchange) × (older : List Exchange) × (told ≡ newer ++ older)
@@ -68,17 +68,15 @@ plan_requests unit (Make access after) = access_requests unit access
 
 -- while an access is at hand, a frame of it is left
 abbrev pub is_going : Plan → List Request → Bool
-is_going (Finish verdict) left = true
 is_going (Make access after) [] = false
-is_going (Make access after) (next ∷ left) = true
+is_going plan left = true
 
 abbrev pub IsGoing : Plan → List Request → Type 0
 IsGoing plan left = is_going plan left ≡ true
 
 -- What was told is whole accesses, then missed tries of the access at hand, then the try at hand.
-pub record Stands (unit : ℕ) (plan : Plan) (told : List Exchange) (now : Plan) (misses : ℕ) (left : List Request)
-    (byte : Option ℕ) : Type 0 where
-  pub outcomes : List (Option ℕ)
+pub record Stands (unit : ℕ) (plan : Plan) (outcomes : List (Option (List ℕ))) (told : List Exchange) (now : Plan)
+    (misses : ℕ) (left : List Request) (bytes : List ℕ) : Type 0 where
   pub ended : List Exchange
   pub missed : List Exchange
   pub tried : List Exchange
@@ -88,7 +86,7 @@ pub record Stands (unit : ℕ) (plan : Plan) (told : List Exchange) (now : Plan)
   pub few : misses < most_tries
   pub misses_are : Misses (plan_requests unit now) misses missed
   pub try : Trying (plan_requests unit now) tried left
-  pub byte_is : byte_of tried ≡ byte
+  pub bytes_are : bytes_of tried ≡ bytes
   pub going : IsGoing now left
 
 -- the next frame of the try, or the end
@@ -99,9 +97,10 @@ ask_at (Make access after) (next ∷ left) going = Send next.frame
 
 -- What a session with this plan wants, or how it ends, after these exchanges.
 pub record Wants (unit : ℕ) (plan : Plan) (told : List Exchange) (ask : Ask) : Type 0 where
+  pub outcomes : List (Option (List ℕ))
   pub now : Plan
   pub misses : ℕ
   pub left : List Request
-  pub byte : Option ℕ
-  pub stands : Stands unit plan told now misses left byte
+  pub bytes : List ℕ
+  pub stands : Stands unit plan outcomes told now misses left bytes
   pub ask_is : ask_at now left stands.going ≡ ask

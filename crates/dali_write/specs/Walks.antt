@@ -10,20 +10,20 @@ use Rattle.dali_write.specs.Plans.{Plan, Finish, Make, next_plan, read_all}
 use Rattle.dali_write.specs.Tries.{most_tries, AccessEnds}
 
 -- whole accesses lead from the plan to what is left of it
-abbrev pub Walk : ℕ → Plan → List (Option ℕ) → List Exchange → Plan → Type 0
+abbrev pub Walk : ℕ → Plan → List (Option (List ℕ)) → List Exchange → Plan → Type 0
 Walk unit plan [] told end = (told ≡ []) × (plan ≡ end)
 Walk unit plan (outcome ∷ outcomes) told end =
     (newer : List Exchange) × (older : List Exchange) × (told ≡ newer ++ older) × AccessEnds unit plan outcome older
     × Walk unit (next_plan plan outcome) outcomes newer end
 
 -- so many tries of an access missed
-abbrev pub access_misses : (unit : ℕ) (plan : Plan) (outcome : Option ℕ) (told : List Exchange)
+abbrev pub access_misses : (unit : ℕ) (plan : Plan) (outcome : Option (List ℕ)) (told : List Exchange)
     → AccessEnds unit plan outcome told → ℕ
 access_misses unit (Finish verdict) outcome told ends = 0
 access_misses unit (Make access after) outcome told (inl done) = done.2
 access_misses unit (Make access after) outcome told (inr failed) = most_tries
 
-abbrev pub misses_of : (unit : ℕ) (plan : Plan) (outcomes : List (Option ℕ)) (told : List Exchange) (end : Plan)
+abbrev pub misses_of : (unit : ℕ) (plan : Plan) (outcomes : List (Option (List ℕ))) (told : List Exchange) (end : Plan)
     → Walk unit plan outcomes told end → ℕ
 misses_of unit plan [] told end walk = 0
 misses_of unit plan (outcome ∷ outcomes) told end walk =
@@ -32,7 +32,7 @@ misses_of unit plan (outcome ∷ outcomes) told end walk =
 -- The plan ended so. It took this many frames where no try missed, and for each that did at most the frames of a try
 -- more.
 pub record Took (unit : ℕ) (plan : Plan) (told : List Exchange) (verdict : Verdict) (frames : ℕ) : Type 0 where
-  pub outcomes : List (Option ℕ)
+  pub outcomes : List (Option (List ℕ))
   pub walk : Walk unit plan outcomes told (Finish verdict)
   pub more : ℕ
   pub took : length told ≡ frames + more
@@ -42,5 +42,5 @@ pub record Took (unit : ℕ) (plan : Plan) (told : List Exchange) (verdict : Ver
 pub record TookAll (unit : ℕ) (told : List Exchange) : Type 0 where
   pub last : ℕ
   pub took : Took unit read_all told Read (read_all_frames last)
-  pub rest : List (Option ℕ)
-  pub first : took.outcomes ≡ Some last ∷ rest
+  pub rest : List (Option (List ℕ))
+  pub first : took.outcomes ≡ Some (last ∷ []) ∷ rest

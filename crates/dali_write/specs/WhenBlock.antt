@@ -6,7 +6,8 @@ use Rattle.dali_write.specs.Exchanges.{Exchange}
 use Rattle.dali_write.specs.Worlds.{Run}
 use Rattle.dali_write.specs.declared.block.Block.{Block}
 use Rattle.dali_write.specs.Requests.{moved_on}
-use Rattle.dali_write.specs.Blocks.{bytes_of, IsBlockRead}
+use Rattle.dali_write.specs.Tries.{bytes_of}
+use Rattle.dali_write.specs.Blocks.{IsBlockRead}
 
 -- the address is one of these, and another than the unit's
 abbrev pub AllBut : ℕ → (ℕ → Type 0) → ℕ → Type 0

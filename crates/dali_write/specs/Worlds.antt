@@ -7,7 +7,7 @@ use Rattle.dali_bus.specs.Carry.{BusEvent, HasLostPower}
 use Rattle.dali_bus.specs.Chain.{Chain}
 use Rattle.dali_write.specs.Exchanges.{Exchange, exchanges_of}
 use Rattle.dali_write.specs.Requests.{read_requests, select_requests}
-use Rattle.dali_write.specs.Tries.{Trying, byte_of}
+use Rattle.dali_write.specs.Tries.{Trying, bytes_of}
 
 -- the address is one of these
 abbrev pub IsAmong : List ℕ → ℕ → Type 0
@@ -38,7 +38,7 @@ pub record KeepsAt (loses : ℕ → Type 0) (first last : World) (address : ℕ)
 
 -- a checked read, answered by the byte
 abbrev pub IsCheckedRead : ℕ → ℕ → ℕ → List Exchange → Type 0
-IsCheckedRead unit location byte tried = Trying (read_requests unit location) tried [] × (byte_of tried ≡ Some byte)
+IsCheckedRead unit location byte tried = Trying (read_requests unit location) tried [] × (bytes_of tried ≡ byte ∷ [])
 
 -- the unit has the byte at the location of bank 1, or its lock byte is FFh since it lost its power, and it isn't
 -- enabled

@@ -1,14 +1,15 @@
 ghost use Rattle.std.specs.Prelude.{◌≡◌, ◌≤◌, slice_get, IfSome, All};
 ghost use Rattle.dali_frame.specs.Frame.{IsProper};
-ghost use Rattle.dali_write.specs.Requests.{select_requests, read_requests, write_requests, access_requests};
+ghost use Rattle.dali_write.specs.Requests.{select_requests, write_requests, access_requests};
 
+use crate::block::Block;
 use crate::request::{Request, Wish};
 use dali_frame::Frame;
 
-/// A checked access at a location of bank 1.
+/// An access to bank 1: a read of a block, or a checked write of a byte to a location.
 #[derive(Clone, Copy, Debug, PartialEq, Eq)]
 pub(crate) enum Access {
-    ReadFrom(u8),
+    ReadFrom(Block),
     WriteTo(u8, u8),
 }
 
@@ -19,7 +20,7 @@ impl Access {
         ensures proper { unit ≤ 63 → IfSome result (λ request. IsProper request.frame) }
     {
         match self {
-            Access::ReadFrom(location) => checked_read(unit, location).get(number).copied(),
+            Access::ReadFrom(block) => block.request(unit, number),
             Access::WriteTo(location, byte) => {
                 checked_write(unit, location, byte).get(number).copied()
             }
@@ -40,22 +41,6 @@ pub fn selection(unit: u8, location: u8) -> [Request; 4]
         request(Frame::AskDtr1(unit), Wish::Exactly(1)),
         request(Frame::Dtr0(location), Wish::Nothing),
         request(Frame::AskDtr0(unit), Wish::Exactly(location)),
-    ]
-}
-
-// The frames of a checked read.
-fn checked_read(unit: u8, location: u8) -> [Request; 7]
-    ensures requests { result ≡ read_requests unit location }
-    ensures proper { unit ≤ 63 → All (λ request. IsProper request.frame) result }
-{
-    let [bank, bank_back, place, place_back] = selection(unit, location);
-    let read = request(Frame::Read(unit), Wish::Anything);
-    let moved_on = request(
-        Frame::AskDtr0(unit),
-        Wish::Exactly(location.saturating_add(1)),
-    );
-    [
-        bank, bank_back, place, place_back, read, moved_on, bank_back,
     ]
 }
 

@@ -1,7 +1,8 @@
 //! Laws of checked accesses and sessions. Each is the contract of a function that does nothing.
-ghost use Rattle.std.specs.Prelude.{◌↔◌, ◌≡◌, ◌∷◌, ◌≤◌, ◌<◌, ◌⊎◌, ◌+◌, ◌*◌, List, [], length, slice_get, Some, ℕ};
-ghost use Rattle.std.specs.Prelude.{Option, ◌≢◌};
-ghost use Rattle.dali_write.specs.Found.{ReadsSoFar};
+ghost use Rattle.std.specs.Prelude.{◌↔◌, ◌≡◌, ◌≢◌, ◌∷◌, ◌≤◌, ◌<◌, ◌⊎◌, ◌+◌, ◌*◌, List, [], length, slice_get, Some, ℕ};
+ghost use Rattle.std.specs.Prelude.{Option, false};
+ghost use Rattle.dali_write.specs.Found.{ReadsSoFar, keeps};
+ghost use Rattle.dali_write.specs.declared.block.Block.{Block};
 ghost use Rattle.dali_frame.specs.declared.forward.Frame.{Frame};
 ghost use Rattle.dali_frame.specs.declared.forward.Frame.TheVariants.{Write};
 ghost use Rattle.dali_write.specs.declared.ask.Ask.{Ask};
@@ -10,19 +11,19 @@ ghost use Rattle.dali_bus.specs.Carry.{Carry, WorldStep};
 ghost use Rattle.dali_write.specs.Exchanges.{Exchange};
 ghost use Rattle.dali_write.specs.declared.session.Session.{Session};
 ghost use Rattle.dali_write.specs.declared.ask.Verdict.{Verdict};
-ghost use Rattle.dali_write.specs.Plans.{Plan, greatest, unlock, close, read_length, read_all};
+ghost use Rattle.dali_write.specs.Plans.{Plan, greatest, unlock, close, read_length, read_all, read_block};
 ghost use Rattle.dali_write.specs.Tries.{Wants};
 ghost use Rattle.dali_write.specs.Verdicts.{Says, ShowsBank, EndsFresh, EndsOpened, EndsClosing, EndsReading};
 ghost use Rattle.dali_write.specs.declared.stage.Task.{Task};
 ghost use Rattle.dali_write.specs.Stages.{plan_of};
-ghost use Rattle.dali_write.specs.Told.{Told, unit_of, task_of, bytes_read, aim_of};
+ghost use Rattle.dali_write.specs.Told.{Told, unit_of, task_of, bytes_read, aim_of, IsReadingBlock};
 ghost use Rattle.dali_write.specs.Frames.{read_frames, write_frames};
 ghost use Rattle.dali_write.specs.Counts.{done_frames, frame_limit};
 ghost use Rattle.dali_gear.specs.SimState.{SimState, SimStep, AreApart, world_of};
 ghost use Rattle.dali_gear.specs.UnitState.{UnitState, gear_of};
 ghost use Rattle.dali_write.specs.declared.access.Access.{Access};
 ghost use Rattle.dali_write.specs.declared.access.Access.TheVariants.{ReadFrom, WriteTo};
-ghost use Rattle.dali_write.specs.Requests.{access_requests};
+ghost use Rattle.dali_write.specs.Requests.{block_requests, access_requests};
 ghost use Rattle.dali_write.specs.Tries.{most_tries, Missed, Misses, Succeeds, Fails};
 ghost use Rattle.dali_write.specs.Walks.{Walk, misses_of, Took, TookAll};
 ghost use Rattle.dali_write.specs.Misses.{misses_in};
@@ -37,6 +38,7 @@ ghost use Rattle.dali_write.specs.Reads.{StillRead, HasRead, ReadsBank};
 ghost use Rattle.dali_write.specs.Worlds.{IsAmong, Run, IsCheckedRead, Shows, KeepsAt, Selects, OnlyEnabled};
 ghost use Rattle.dali_write.specs.Worlds.{MayWrite};
 ghost use Rattle.dali_write.specs.WhenBlock.{WhenTold};
+ghost use Rattle.dali_write.specs.Blocks.{IsAmid};
 
 /// A session wants what its plan asks after what it was told, and ends so.
 pub fn sessions_follow_their_plans()
@@ -96,6 +98,8 @@ pub fn sessions_end_by_their_kind()
         → Wants unit (close Verdict.Closed Verdict.NotClosed) told (Ask.Ended verdict) → EndsClosing verdict }
     ensures reading { (told : List Exchange) (unit : ℕ) (verdict : Verdict)
         → Wants unit read_all told (Ask.Ended verdict) → EndsReading verdict }
+    ensures block { (told : List Exchange) (unit : ℕ) (block : Block) (verdict : Verdict)
+        → Wants unit (read_block block) told (Ask.Ended verdict) → EndsReading verdict }
 {}
 
 /// What a session's verdict rests on: checked reads of its own that still stand.
@@ -114,11 +118,24 @@ pub fn verdicts_rest_on_reads()
 /// What a reading session has read at each moment: the bytes that its accesses so far told, in their order, at most
 /// 255. The others have read nothing.
 pub fn sessions_keep_what_they_read()
-    ensures reading { (told : List Exchange) (s : Session) → Told told s → task_of s ≡ Task.Reading
-        → ReadsSoFar told (unit_of s) (bytes_read s) }
+    ensures reading { (told : List Exchange) (s : Session) → Told told s
+        → ReadsSoFar (task_of s) (unit_of s) told (bytes_read s) }
     ensures few { (told : List Exchange) (s : Session) → Told told s → length (bytes_read s) ≤ 255 }
-    ensures others { (told : List Exchange) (s : Session) → Told told s → task_of s ≢ Task.Reading
+    ensures others { (told : List Exchange) (s : Session) → Told told s → keeps (task_of s) ≡ false
         → bytes_read s ≡ [] }
+{}
+
+/// What a session of a block comes to: the bytes that it keeps are those of one access, the read of its block, which
+/// succeeded; or each try of it missed.
+pub fn sessions_read_blocks()
+    ensures read { (told : List Exchange) (s : Session) (unit : ℕ) (block : Block) → Told told s
+        → IsReadingBlock unit block s → aim_of s ≡ Ask.Ended Verdict.Read
+        → Succeeds (block_requests unit block) (Some (bytes_read s)) told }
+    ensures silent { (told : List Exchange) (s : Session) (unit : ℕ) (block : Block) (verdict : Verdict) → Told told s
+        → IsReadingBlock unit block s → aim_of s ≡ Ask.Ended verdict → verdict ≢ Verdict.Read
+        → Misses (block_requests unit block) most_tries told }
+    ensures amid { (told : List Exchange) (s : Session) (unit : ℕ) (block : Block) (frame : Frame) → Told told s
+        → IsReadingBlock unit block s → aim_of s ≡ Ask.Send frame → IsAmid unit block told frame }
 {}
 
 /// What a session's verdict says of the world, whichever units lose their power meanwhile.
@@ -149,6 +166,9 @@ pub fn readers_are_quiet()
         → (address : ℕ) → KeepsAt (IsAmong loses) first last address }
     ensures reading { (loses : List ℕ) (told : List Exchange) (first last : World) (unit : ℕ) (ask : Ask)
         → Run WorldStep (IsAmong loses) told first last → Wants unit read_all told ask
+        → (address : ℕ) → KeepsAt (IsAmong loses) first last address }
+    ensures block { (loses : List ℕ) (told : List Exchange) (first last : World) (unit : ℕ) (block : Block) (ask : Ask)
+        → Run WorldStep (IsAmong loses) told first last → Wants unit (read_block block) told ask
         → (address : ℕ) → KeepsAt (IsAmong loses) first last address }
 {}
 
@@ -184,6 +204,8 @@ pub fn wanted_frames_are_guarded()
         → IsGuarded ((2, 0xFF) ∷ []) unit told frame }
     ensures reading { (told : List Exchange) (unit : ℕ) (frame : Frame) → Wants unit read_all told (Ask.Send frame)
         → IsGuarded [] unit told frame }
+    ensures block { (told : List Exchange) (unit : ℕ) (block : Block) (frame : Frame)
+        → Wants unit (read_block block) told (Ask.Send frame) → IsGuarded [] unit told frame }
 {}
 
 /// What the simulated bus does with exchanges, while units of these addresses may lose their power, is what its units
@@ -213,7 +235,7 @@ pub fn accesses_outlive_losses()
         → (IsAmong loses at → ⊥) → IsAlone at unit first.units → CanDo access unit
         → Unrefused run.past run.chain.states
         → Misses (access_requests at access) misses told → misses ≤ losses at run.past run.chain.states }
-    ensures succeeds { (loses : List ℕ) (at : ℕ) (access : Access) (unit : UnitState) (outcome : Option ℕ)
+    ensures succeeds { (loses : List ℕ) (at : ℕ) (access : Access) (unit : UnitState) (outcome : Option (List ℕ))
         (told : List Exchange) (first last : SimState) (run : Run SimStep (IsAmong loses) told first last)
         → (IsAmong loses at → ⊥) → IsAlone at unit first.units → CanDo access unit
         → Unrefused run.past run.chain.states
@@ -296,8 +318,8 @@ pub fn doubts_have_a_cause()
 /// On the simulated bus a checked write that succeeded has stored its byte and nothing else,
 /// whatever was lost or refused before, and whichever other units lost their power.
 pub fn successful_writes_are_stored()
-    ensures { (loses : List ℕ) (at location byte : ℕ) (unit : UnitState) (outcome : Option ℕ) (told : List Exchange)
-        (first last : SimState)
+    ensures { (loses : List ℕ) (at location byte : ℕ) (unit : UnitState) (outcome : Option (List ℕ))
+        (told : List Exchange) (first last : SimState)
         → Run SimStep (IsAmong loses) told first last → (IsAmong loses at → ⊥)
         → IsAlone at unit first.units → Succeeds (access_requests at (WriteTo location byte)) outcome told
         → (now : UnitState) × IsAlone at now last.units × OnlyDiffers unit.bank1 location now.bank1
@@ -305,17 +327,17 @@ pub fn successful_writes_are_stored()
 {}
 
 /// On the simulated bus an access leaves its unit alone at its address, whatever is lost or refused, and
-/// whichever other units lose their power. A checked read leaves bank 1 as it was, and so does a checked write but
+/// whichever other units lose their power. A read leaves bank 1 as it was, and so does a checked write but
 /// for its location.
 pub fn accesses_keep_the_bank()
-    ensures read { (loses : List ℕ) (at location : ℕ) (unit : UnitState) (outcome : Option ℕ) (told : List Exchange)
-        (first last : SimState)
+    ensures read { (loses : List ℕ) (at : ℕ) (block : Block) (unit : UnitState) (outcome : Option (List ℕ))
+        (told : List Exchange) (first last : SimState)
         → Run SimStep (IsAmong loses) told first last → (IsAmong loses at → ⊥)
         → IsAlone at unit first.units
-        → Succeeds (access_requests at (ReadFrom location)) outcome told
-        ⊎ Fails (access_requests at (ReadFrom location)) outcome told
+        → Succeeds (access_requests at (ReadFrom block)) outcome told
+        ⊎ Fails (access_requests at (ReadFrom block)) outcome told
         → (now : UnitState) × IsAlone at now last.units × (now.bank1 ≡ unit.bank1) }
-    ensures write { (loses : List ℕ) (at location byte : ℕ) (unit : UnitState) (outcome : Option ℕ)
+    ensures write { (loses : List ℕ) (at location byte : ℕ) (unit : UnitState) (outcome : Option (List ℕ))
         (told : List Exchange) (first last : SimState)
         → Run SimStep (IsAmong loses) told first last → (IsAmong loses at → ⊥)
         → IsAlone at unit first.units
@@ -350,7 +372,7 @@ pub fn misses_are_those_of_the_tries()
     ensures failed { (unit : ℕ) (told : List Exchange) → HasFailed unit told → most_tries ≤ misses_in told }
     ensures unread { (unit location : ℕ) (told : List Exchange) → EndsUnread unit location told
         → most_tries ≤ misses_in told }
-    ensures walk { (unit : ℕ) (plan : Plan) (outcomes : List (Option ℕ)) (told : List Exchange) (end : Plan)
+    ensures walk { (unit : ℕ) (plan : Plan) (outcomes : List (Option (List ℕ))) (told : List Exchange) (end : Plan)
         (walk : Walk unit plan outcomes told end)
         → misses_in told ≡ misses_of unit plan outcomes told end walk }
 {}

@@ -1,5 +1,5 @@
 ghost use Rattle.std.specs.Prelude.{◌≡◌, ◌↔◌, IsTrue};
-ghost use Rattle.dali_write.specs.Requests.{Meets, byte_after as next_byte};
+ghost use Rattle.dali_write.specs.Requests.{Meets};
 
 use dali_frame::Frame;
 
@@ -34,14 +34,4 @@ pub struct Request {
     pub frame: Frame,
     /// The answer without which the try misses.
     pub wish: Wish,
-}
-
-// The byte that a try has read or written, after one more answer.
-pub(crate) fn byte_after(frame: &Frame, answer: Option<u8>, byte: Option<u8>) -> Option<u8>
-    ensures { result ≡ next_byte frame.now answer byte }
-{
-    match frame {
-        Frame::Read(_) | Frame::Write(_) => answer,
-        _ => byte,
-    }
 }

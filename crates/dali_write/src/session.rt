@@ -1,28 +1,33 @@
 ghost use Rattle.std.specs.Prelude.{◌≡◌, ◌∷◌, ◌≤◌, ◌<◌, ◌+◌, ◌*◌, [], List, ℕ, Option, IsSome, IsNone, IfSome, IfOk};
-ghost use Rattle.std.specs.Prelude.{drop, length, slice_get};
+ghost use Rattle.std.specs.Prelude.{◌++◌, drop, length, slice_get, get_or, Some, true};
 ghost use Rattle.dali_frame.specs.declared.forward.Frame.{Frame};
 ghost use Rattle.dali_frame.specs.Frame.{IsProper};
 ghost use Rattle.dali_write.specs.Exchanges.{Exchange};
-ghost use Rattle.dali_write.specs.Requests.{Meets, request, access_requests};
+ghost use Rattle.dali_write.specs.Requests.{Meets, request, access_requests, read_answer};
+ghost use Rattle.dali_write.specs.Blocks.{Fits};
 ghost use Rattle.dali_write.specs.Plans.{next_plan};
 ghost use Rattle.dali_write.specs.Tries.{most_tries, plan_requests, IsGoing};
 ghost use Rattle.dali_write.specs.declared.request.Wish.{Wish};
 ghost use Rattle.dali_write.specs.declared.ask.Verdict.{Verdict};
 ghost use Rattle.dali_write.specs.declared.stage.Task.{Task};
 ghost use Rattle.dali_write.specs.Stages.{plan_of, order_for, plan_at, access_of};
-ghost use Rattle.dali_write.specs.Found.{kept_after};
+ghost use Rattle.dali_write.specs.Found.{kept_after, is_small};
 ghost use Rattle.dali_write.specs.FramesLeft.{limit_at};
 ghost use Rattle.dali_write.specs.Counts.{fresh_limit, opened_limit, closing_limit, reading_limit};
 
 use crate::ask::{Ask, Verdict};
-use crate::request::{Request, byte_after};
+use crate::block::Block;
+use crate::request::Request;
 use crate::stage::{Stage, Task};
 use arrayvec::ArrayVec;
 use dali_bank::Order;
 use dali_frame::Frame;
 
-/// The most tries of an access (profile).
-pub const MOST_TRIES: u8 = 8;
+// The most tries of an access.
+const MOST_TRIES: u8 = 8;
+
+// The most frames of a try: those of a read of sixteen locations.
+const MOST_FRAMES: usize = 22;
 
 /// A session with one unit (profile): it goes through a plan of checked reads and writes, frame by
 /// frame.
@@ -42,13 +47,16 @@ pub struct Session {
     misses: u8,
     // the number of the frame in the try at hand
     number: usize,
-    // the byte that the try at hand has read or written
-    byte: Option<u8>,
+    // what the try at hand has read
+    tried: ArrayVec<u8, MOST_FRAMES>,
     // what a reading session has read so far
     bytes: ArrayVec<u8, 255>,
     ghost short: { unit ≤ 63 },
     ghost few: { misses < most_tries },
     ghost going: { IsGoing (plan_at task stage) (drop number (plan_requests unit (plan_at task stage))) },
+    ghost small: { is_small task ≡ true },
+    ghost room: { length tried.items ≤ number },
+    ghost held: { length bytes.items ≤ 255 },
 }
 
 impl Session {
@@ -106,8 +114,21 @@ impl Session {
         Session::begun(unit, Task::Reading, Stage::ReadAll)
     }
 
+    /// Reads a block of locations of bank 1 of the unit at a short address, at most 63. Ends as `Read` or `Silent`.
+    pub fn reading_block(unit: u8, block: Block) -> Session
+        requires unit { unit ≤ 63 }
+        requires block { Fits block }
+        ensures unit { unit_of result ≡ unit }
+        ensures task { task_of result ≡ Task.ReadingBlock block }
+        ensures told { Told [] result }
+        ensures left { frames_left result ≡ 8 * (block.count + 6) }
+    {
+        Session::begun(unit, Task::ReadingBlock(block), Stage::ReadBlock)
+    }
+
     fn begun(unit: u8, task: Task, stage: Stage) -> Session
         requires short { unit ≤ 63 }
+        requires small { is_small task ≡ true }
         requires stage { plan_at task stage ≡ plan_of task }
         ensures unit { unit_of result ≡ unit }
         ensures task { task_of result ≡ task }
@@ -120,7 +141,7 @@ impl Session {
             stage,
             misses: 0,
             number: 0,
-            byte: None,
+            tried: ArrayVec::new(),
             bytes: ArrayVec::new(),
         }
     }
@@ -155,12 +176,12 @@ impl Session {
     {
         match &self.task {
             Task::Fresh(order) | Task::Opened(order) => Some(order),
-            Task::Closing | Task::Reading => None,
+            Task::Closing | Task::Reading | Task::ReadingBlock(_) => None,
         }
     }
 
-    /// What a reading session has read so far: bank 1 from location 00h on, at most 255 bytes. Empty
-    /// for the others.
+    /// What a reading session has read so far, at most 255 bytes: bank 1 from location 00h on, or its block. Empty for
+    /// the others.
     pub fn bytes(&self) -> &[u8]
         ensures value { result.now ≡ bytes_read self.now }
         ensures few { length result.now ≤ 255 }
@@ -215,12 +236,16 @@ impl Session {
             → Told (record { frame = frame.now; answer = answer } ∷ told) self.new }
         ensures falls { frames_left self.new < frames_left self.old }
     {
-        let byte = byte_after(frame, answer, self.byte);
-        if self.request_at(self.number + 1).is_some() {
-            self.byte = byte;
+        let more = self.request_at(self.number + 1).is_some();
+        keep_answer(&mut self.tried, frame, answer);
+        if more {
             self.number += 1;
         } else {
-            self.advance(byte);
+            keep_read(&mut self.bytes, &self.task, &self.tried);
+            self.stage = self.stage.told(&self.task, first_of(&self.tried));
+            self.misses = 0;
+            self.number = 0;
+            self.tried.clear();
         }
     }
 
@@ -236,38 +261,45 @@ impl Session {
         if self.misses + 1 < MOST_TRIES {
             self.misses += 1;
             self.number = 0;
-            self.byte = None;
+            self.tried.clear();
         } else {
-            self.advance(None);
+            self.stage = self.stage.failed(&self.task);
+            self.misses = 0;
+            self.number = 0;
+            self.tried.clear();
         }
-    }
-
-    // The access at hand ended with this outcome, and the next one begins.
-    fn advance(&mut self, outcome: Option<u8>)
-        ensures unit { self.new.unit ≡ self.old.unit }
-        ensures task { self.new.task ≡ self.old.task }
-        ensures plan { plan_at self.new.task self.new.stage ≡ next_plan (plan_at self.old.task self.old.stage) outcome }
-        ensures begins { BeginsTry self.new }
-        ensures limit { IfOk (access_of (plan_at self.old.task self.old.stage)) (λ access.
-            limit_at self.new.task self.new.stage + most_tries * length (access_requests self.old.unit access)
-            ≤ limit_at self.old.task self.old.stage) }
-        ensures bytes { length self.old.bytes.items < 255
-            → self.new.bytes.items ≡ kept_after self.old.task self.old.bytes.items outcome }
-    {
-        let stage = self.stage.next(&self.task, outcome);
-        keep_byte(&mut self.bytes, &self.task, outcome);
-        self.stage = stage;
-        self.misses = 0;
-        self.number = 0;
-        self.byte = None;
     }
 }
 
-// Keeps the byte that a reading session has read.
-fn keep_byte(bytes: &mut ArrayVec<u8, 255>, task: &Task, outcome: Option<u8>)
-    ensures { length bytes.old.items < 255 → bytes.new.items ≡ kept_after task.now bytes.old.items outcome }
+// Keeps what was answered to a read.
+fn keep_answer(tried: &mut ArrayVec<u8, MOST_FRAMES>, frame: &Frame, answer: Option<u8>)
+    requires { length tried.old.items < 22 }
+    ensures read { tried.new.items ≡ tried.old.items ++ read_answer frame.now answer }
+    ensures few { length tried.new.items ≤ length tried.old.items + 1 }
 {
-    if let (Task::Reading, Some(byte)) = (task, outcome) {
-        let _ = bytes.try_push(byte);
+    if let (Frame::Read(_), Some(byte)) = (frame, answer) {
+        let _fits = tried.try_push(byte);
+    }
+}
+
+// Keeps what a session that reads has read.
+fn keep_read(bytes: &mut ArrayVec<u8, 255>, task: &Task, tried: &[u8])
+    requires { length bytes.old.items ≤ 255 }
+    ensures few { length bytes.new.items ≤ 255 }
+    ensures read { length bytes.old.items + length tried.now ≤ 255
+        → bytes.new.items ≡ kept_after task.now bytes.old.items tried.now }
+{
+    if let Task::Reading | Task::ReadingBlock(_) = task {
+        let _fits = bytes.try_extend_from_slice(tried);
+    }
+}
+
+// The first byte, or 0.
+fn first_of(bytes: &[u8]) -> u8
+    ensures { result ≡ get_or bytes.now 0 0 }
+{
+    match bytes {
+        [byte, ..] => *byte,
+        [] => 0,
     }
 }

@@ -1,14 +1,17 @@
-ghost use Rattle.std.specs.Prelude.{◌≡◌, ◌≤◌, ◌+◌, ◌*◌, ℕ, IfOk, ◌==◌, if◌then◌else◌, length};
-ghost use Rattle.dali_write.specs.Requests.{access_requests};
-ghost use Rattle.dali_write.specs.Plans.{greatest, next_plan, either_way, give_up};
-ghost use Rattle.dali_write.specs.Tries.{most_tries};
+ghost use Rattle.std.specs.Prelude.{◌≡◌, ◌≤◌, ◌+◌, ◌*◌, ℕ, List, Some, None, ◌==◌, ◌&&◌, if◌then◌else◌};
+ghost use Rattle.std.specs.Prelude.{length, get_or};
+ghost use Rattle.dali_write.specs.Requests.{block};
+ghost use Rattle.dali_write.specs.Plans.{Finish, greatest, judge_length, next_plan};
+ghost use Rattle.dali_write.specs.Tries.{most_tries, plan_requests};
+ghost use Rattle.dali_write.specs.declared.ask.Verdict.{Verdict};
+ghost use Rattle.dali_write.specs.declared.access.Access.{Access};
 ghost use Rattle.dali_write.specs.declared.stage.Task.{Task};
-ghost use Rattle.dali_write.specs.declared.stage.Stage.TheVariants.{ReadOn};
 ghost use Rattle.dali_write.specs.Stages.{plan_at, access_of, updates_for};
-ghost use Rattle.dali_write.specs.FramesLeft.{limit_at, read_limit, close_limit};
+ghost use Rattle.dali_write.specs.FramesLeft.{limit_at, read_limit};
 
 use crate::access::Access;
 use crate::ask::Verdict;
+use crate::block::Block;
 use dali_bank::Order;
 
 /// What a session is for.
@@ -18,6 +21,7 @@ pub(crate) enum Task {
     Opened(Order),
     Closing,
     Reading,
+    ReadingBlock(Block),
 }
 
 impl Task {
@@ -27,9 +31,16 @@ impl Task {
     {
         match self {
             Task::Fresh(order) | Task::Opened(order) => order.updates(),
-            Task::Closing | Task::Reading => &[],
+            Task::Closing | Task::Reading | Task::ReadingBlock(_) => &[],
         }
     }
+}
+
+// A checked read of a location.
+fn read_at(location: u8) -> Access
+    ensures { result ≡ Access.ReadFrom (block location 1) }
+{
+    Access::ReadFrom(Block { location, count: 1 })
 }
 
 /// What a session is about to do.
@@ -51,6 +62,8 @@ pub(crate) enum Stage {
     ReadAll,
     /// Read this location and those after it, up to the last one.
     ReadOn(u8, u8),
+    /// Read the session's block.
+    ReadBlock,
     Over(Verdict),
 }
 
@@ -60,82 +73,106 @@ impl Stage {
         ensures { result ≡ access_of (plan_at task.now self) }
     {
         match self {
-            Stage::ReadLength | Stage::ReadAll => Ok(Access::ReadFrom(0x00)),
-            Stage::ReadFormat => Ok(Access::ReadFrom(0x11)),
-            Stage::ReadFormatLow(_) => Ok(Access::ReadFrom(0x12)),
+            Stage::ReadLength | Stage::ReadAll => Ok(read_at(0x00)),
+            Stage::ReadFormat => Ok(read_at(0x11)),
+            Stage::ReadFormatLow(_) => Ok(read_at(0x12)),
             Stage::Unlock => Ok(Access::WriteTo(0x02, 0x55)),
             Stage::WriteOn(index) => match task.updates().get(index).copied() {
                 Some((location, byte)) => Ok(Access::WriteTo(location, byte)),
                 None => Ok(Access::WriteTo(0x02, 0xFF)),
             },
-            Stage::ReadLock | Stage::ReadClosed(_, _) => Ok(Access::ReadFrom(0x02)),
+            Stage::ReadLock | Stage::ReadClosed(_, _) => Ok(read_at(0x02)),
             Stage::ReadBack(index) => match task.updates().get(index).copied() {
-                Some((location, _)) => Ok(Access::ReadFrom(location)),
+                Some((location, _)) => Ok(read_at(location)),
                 None => Err(Verdict::Done),
             },
             Stage::Close(_, _) => Ok(Access::WriteTo(0x02, 0xFF)),
             Stage::ReadOn(location, last) => {
                 if location <= last {
-                    Ok(Access::ReadFrom(location))
+                    Ok(read_at(location))
                 } else {
                     Err(Verdict::Read)
                 }
             }
+            Stage::ReadBlock => match task {
+                Task::ReadingBlock(block) => Ok(Access::ReadFrom(*block)),
+                _ => Err(Verdict::Read),
+            },
             Stage::Over(verdict) => Err(verdict),
         }
     }
 
-    // The stage after this one, whose access had this outcome: its byte, or none where it failed.
-    pub(crate) fn next(self, task: &Task, outcome: Option<u8>) -> Stage
-        ensures plan { plan_at task.now result ≡ next_plan (plan_at task.now self) outcome }
-        ensures limit { (unit : ℕ) → IfOk (access_of (plan_at task.now self)) (λ access.
-            limit_at task.now result + most_tries * length (access_requests unit access) ≤ limit_at task.now self) }
+    // The stage after this one, whose access came to its end: the first byte that it has read, or 0.
+    #[tactic(auto, using(crate::proofs::FramesLemmas::told_next))]
+    pub(crate) fn told(self, task: &Task, byte: u8) -> Stage
+        ensures plan { (bytes : List ℕ) → get_or bytes 0 0 ≡ byte
+            → plan_at task.now result ≡ next_plan (plan_at task.now self) (Some bytes) }
+        ensures limit { (unit : ℕ)
+            → limit_at task.now result + most_tries * length (plan_requests unit (plan_at task.now self))
+            ≤ limit_at task.now self }
     {
         match self {
-            Stage::ReadLength => judge_length(task.updates(), outcome),
-            Stage::ReadFormat => match outcome {
-                Some(high) => Stage::ReadFormatLow(high),
-                None => Stage::Over(Verdict::Silent),
-            },
-            Stage::ReadFormatLow(high) => judge_format(high, outcome),
-            Stage::Unlock => after_write(outcome, Stage::WriteOn(0)),
-            Stage::WriteOn(index) => {
-                if index < task.updates().len() {
-                    after_write(outcome, Stage::WriteOn(index + 1))
-                } else {
-                    after_write(outcome, Stage::ReadLock)
-                }
-            }
-            Stage::ReadLock => after_read(outcome, 0xFF, Stage::ReadBack(0)),
+            Stage::ReadLength => judge_length(task.updates(), byte),
+            Stage::ReadFormat => Stage::ReadFormatLow(byte),
+            Stage::ReadFormatLow(high) => judge_format(high, byte),
+            Stage::Unlock => Stage::WriteOn(0),
+            Stage::WriteOn(index) if index < task.updates().len() => Stage::WriteOn(index + 1),
+            Stage::WriteOn(_) => Stage::ReadLock,
+            Stage::ReadLock if byte == 0xFF => Stage::ReadBack(0),
+            Stage::ReadLock => GIVE_UP,
             Stage::ReadBack(index) => match task.updates().get(index).copied() {
-                Some((_, byte)) => after_read(outcome, byte, Stage::ReadBack(index + 1)),
+                Some((_, own)) if byte == own => Stage::ReadBack(index + 1),
+                Some(_) => GIVE_UP,
                 None => self,
             },
             Stage::Close(answered, unanswered) => Stage::ReadClosed(answered, unanswered),
-            Stage::ReadClosed(answered, unanswered) => Stage::Over(if outcome.is_some() {
-                answered
-            } else {
-                unanswered
-            }),
-            Stage::ReadAll => match outcome {
-                Some(last) => Stage::ReadOn(1, last.min(0xFE)),
-                None => Stage::Over(Verdict::Silent),
+            Stage::ReadClosed(answered, _) => Stage::Over(answered),
+            Stage::ReadAll => Stage::ReadOn(1, byte.min(0xFE)),
+            Stage::ReadOn(location, last) if location < last => Stage::ReadOn(location + 1, last),
+            Stage::ReadOn(_, _) | Stage::ReadBlock => Stage::Over(Verdict::Read),
+            Stage::Over(_) => self,
+        }
+    }
+
+    // The stage after this one, whose access failed.
+    #[tactic(auto, using(crate::proofs::FramesLemmas::failed_next))]
+    pub(crate) fn failed(self, task: &Task) -> Stage
+        ensures plan { plan_at task.now result ≡ next_plan (plan_at task.now self) None }
+        ensures limit { (unit : ℕ)
+            → limit_at task.now result + most_tries * length (plan_requests unit (plan_at task.now self))
+            ≤ limit_at task.now self }
+    {
+        match self {
+            Stage::ReadLength | Stage::ReadFormat | Stage::ReadFormatLow(_) | Stage::ReadAll =>
+                SILENT,
+            Stage::ReadOn(location, last) if location > last => Stage::Over(Verdict::Read),
+            Stage::ReadOn(_, _) => SILENT,
+            Stage::ReadBlock => match task {
+                Task::ReadingBlock(_) => SILENT,
+                _ => Stage::Over(Verdict::Read),
             },
-            Stage::ReadOn(location, last) => read_next(location, last, outcome),
+            Stage::Unlock | Stage::ReadLock => GIVE_UP,
+            Stage::WriteOn(_) => GIVE_UP,
+            Stage::ReadBack(index) if index < task.updates().len() => GIVE_UP,
+            Stage::ReadBack(_) => self,
+            Stage::Close(answered, unanswered) => Stage::ReadClosed(answered, unanswered),
+            Stage::ReadClosed(_, unanswered) => Stage::Over(unanswered),
             Stage::Over(_) => self,
         }
     }
 }
 
+// An opened session gives its order up, and a fresh or a reading one ends.
+const GIVE_UP: Stage = Stage::Close(Verdict::Doubt, Verdict::DoubtOpen);
+
+const SILENT: Stage = Stage::Over(Verdict::Silent);
+
 // What follows the read of the last location.
-fn judge_length(updates: &[(u8, u8)], outcome: Option<u8>) -> Stage
+fn judge_length(updates: &[(u8, u8)], last: u8) -> Stage
     ensures plan { (task : Task) → updates_for task ≡ updates.now
-        → plan_at task result ≡ next_plan (plan_at task Stage.ReadLength) outcome }
+        → plan_at task result ≡ judge_length updates.now last }
     ensures limit { (task : Task) → limit_at task result ≤ 2 * read_limit }
 {
-    let Some(last) = outcome else {
-        return Stage::Over(Verdict::Silent);
-    };
     let greatest = greatest_location(updates);
     if last < greatest {
         Stage::Over(Verdict::Short)
@@ -160,57 +197,14 @@ pub fn greatest_location(updates: &[(u8, u8)]) -> u8
 }
 
 // What follows the read of the content format's second byte.
-fn judge_format(high: u8, outcome: Option<u8>) -> Stage
-    ensures plan { (task : Task) → plan_at task result ≡ next_plan (plan_at task (Stage.ReadFormatLow high)) outcome }
+fn judge_format(high: u8, low: u8) -> Stage
+    ensures plan { (task : Task)
+        → plan_at task result ≡ Finish (if (high == 0) && (low == 3) then Verdict.MayOpen else Verdict.Format) }
     ensures limit { (task : Task) → limit_at task result ≡ 0 }
 {
-    Stage::Over(match outcome {
-        Some(low) if high == 0x00 && low == 0x03 => Verdict::MayOpen,
-        Some(_) => Verdict::Format,
-        None => Verdict::Silent,
-    })
-}
-
-// What follows a write in an opened unit.
-fn after_write(outcome: Option<u8>, next: Stage) -> Stage
-    ensures plan { (task : Task) → plan_at task result ≡ either_way give_up (λ byte. plan_at task next) outcome }
-    ensures limit { (task : Task) → close_limit ≤ limit_at task next → limit_at task result ≤ limit_at task next }
-{
-    match outcome {
-        Some(_) => next,
-        None => Stage::Close(Verdict::Doubt, Verdict::DoubtOpen),
-    }
-}
-
-// What follows a read in an opened unit, where the byte has to be this one.
-fn after_read(outcome: Option<u8>, byte: u8, next: Stage) -> Stage
-    ensures plan { (task : Task)
-        → plan_at task result
-        ≡ either_way give_up (λ found. if found == byte then plan_at task next else give_up) outcome }
-    ensures limit { (task : Task) → close_limit ≤ limit_at task next → limit_at task result ≤ limit_at task next }
-{
-    match outcome {
-        Some(found) if found == byte => next,
-        _ => Stage::Close(Verdict::Doubt, Verdict::DoubtOpen),
-    }
-}
-
-// What follows the read of a location, where those up to the last one are to be read.
-#[tactic(auto, using(crate::proofs::RequestLemmas::read_on_next))]
-fn read_next(location: u8, last: u8, outcome: Option<u8>) -> Stage
-    ensures plan { (task : Task) → plan_at task result ≡ next_plan (plan_at task (Stage.ReadOn location last)) outcome }
-    ensures limit { (task : Task) → location ≤ last
-        → limit_at task result + read_limit ≤ limit_at task (Stage.ReadOn location last) }
-{
-    if location > last {
-        return Stage::Over(Verdict::Read);
-    }
-    if outcome.is_none() {
-        return Stage::Over(Verdict::Silent);
-    }
-    if location < last {
-        Stage::ReadOn(location + 1, last)
+    Stage::Over(if high == 0x00 && low == 0x03 {
+        Verdict::MayOpen
     } else {
-        Stage::Over(Verdict::Read)
-    }
+        Verdict::Format
+    })
 }

@@ -194,7 +194,7 @@ def stop(process):
         process.kill()
 
 
-def judge(bench, buses=("bus1",), is_over=True):
+def judge(bench, buses=("bus1",)):
     """Raise unless each order that was answered as added has its one right end, and each done one its label."""
     stored = {row[0]: row for row in bench.rows(f"select {COLUMNS} from bench_orders")}
     want(sorted(set(bench.wanted) - set(stored)), [])
@@ -206,7 +206,7 @@ def judge(bench, buses=("bus1",), is_over=True):
         its_own = {number: row for number, row in stored.items() if row[1] == bus}
         want(sorted(set(begun) - set(its_own)), [])
         for number, (_, _, unit, fields, state, code, sent, told, report) in its_own.items():
-            assert not is_over or state not in LIVE, (number, state)
+            assert state not in LIVE, (number, state)
             group = begun.get(number)
             want((number, group and group.code), (number, code if state == "ended" else None))
             if group:

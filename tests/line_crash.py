@@ -33,10 +33,11 @@ class Calls:
             is_it = kind == self.kind and self.left == 0
             if is_it and self.is_before:
                 os.kill(os.getpid(), signal.SIGKILL)
-            answer = call(*arguments, **more)
-            if is_it:
-                os.kill(os.getpid(), signal.SIGKILL)
-            return answer
+            try:
+                return call(*arguments, **more)
+            finally:
+                if is_it:
+                    os.kill(os.getpid(), signal.SIGKILL)
 
         return made
 

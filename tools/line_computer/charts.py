@@ -27,7 +27,7 @@ def top_of(most: float) -> int:
     """Give a round number that isn't below this one, for the top of an axis."""
     size = 1
     while True:
-        for step in (1, 2, 4, 5):
+        for step in (1, 2, 3, 4, 6, 8):
             if step * size >= most:
                 return step * size
         size *= 10
@@ -43,7 +43,7 @@ def hours_picture(hours: list[Hour], last: int) -> str:
     counts = {hour: found for hour, found in hours}
     top = top_of(max([sum(found.values()) for found in counts.values()], default=1))
     wide, high = (WIDTH - LEFT - RIGHT) / HOURS, HEIGHT - TOP - BOTTOM
-    parts = [axis(high * (1 - share) + TOP, f"{top * share:g}") for share in (0, 0.5, 1) if top * share == int(top * share)]
+    parts = [axis(high * (1 - share) + TOP, f"{top * share:g}") for share in (0, 0.5, 1) if top * share % 1 == 0]
     for at, hour in enumerate(range(last - HOURS + 1, last + 1)):
         left, below = LEFT + at * wide, float(HEIGHT - BOTTOM)
         for end, count in sorted(counts.get(hour, {}).items(), key=lambda it: list(ENDS).index(it[0])):
@@ -69,15 +69,20 @@ def legend(ends: set) -> str:
     return f'<ul class="legend">{"".join(items)}</ul>' if items else ""
 
 
+def means_of(misses: list[int]) -> list[float]:
+    """Give the mean misses of an order, of some orders in a row each, so that there are at most BARS."""
+    size = -(-len(misses) // BARS)
+    return [sum(part) / len(part) for part in (misses[at:at + size] for at in range(0, len(misses), size))]
+
+
 def misses_picture(bus: str, misses: list[int], most: float) -> str:
     """Draw how many frames of an order missed, the oldest order first: a bar is the mean of some orders in a row."""
-    size = -(-len(misses) // BARS) or 1
-    means = [sum(part) / len(part) for part in (misses[at:at + size] for at in range(0, len(misses), size))]
+    means = means_of(misses)
     wide = SPARK_WIDTH / BARS
     parts = [f'<line class="grid" x1="0" x2="{SPARK_WIDTH}" y1="{SPARK_HEIGHT - 0.5}" y2="{SPARK_HEIGHT - 0.5}"/>']
     for at, mean in enumerate(means, BARS - len(means)):
-        tall = (SPARK_HEIGHT - 2) * mean / most
-        if tall:
+        if mean:
+            tall = (SPARK_HEIGHT - 2) * mean / most
             parts.append(f'<rect class="misses" x="{at * wide + 0.5:.1f}" y="{SPARK_HEIGHT - 1 - tall:.1f}"'
                          f' width="{wide - 1:.1f}" height="{tall:.1f}"><title>{mean:.1f} an order</title></rect>')
     return svg(SPARK_WIDTH, SPARK_HEIGHT, f"Misses by order, bus {bus}", parts)

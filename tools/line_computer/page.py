@@ -8,7 +8,7 @@ import time
 from html import escape
 from typing import Optional
 
-from .charts import ENDS, HOURS, LAST_ORDERS, Hour, hours_picture, misses_picture
+from .charts import ENDS, HOURS, LAST_ORDERS, Hour, hours_picture, means_of, misses_picture
 from .database import Database
 from .incoming import LENGTH_OF_GTIN
 from .orders import now
@@ -91,43 +91,45 @@ def buses_part(database: Database) -> str:
     return f"<h2>Buses</h2><table><tr><th>Bus</th><th>How it stands</th></tr>{''.join(rows)}</table>"
 
 
-def counts_part(database: Database) -> str:
-    """Count the orders by what is to be done with them."""
+def hours_of(database: Database, last: int) -> list[Hour]:
+    """Count the ends of the orders in each hour up to the last."""
+    found: dict = {}
+    for hour, state, code, count in database.rows(
+            "select ended / 3600, state, code, count(*) from bench_orders where ended / 3600 > ? and ended / 3600 <= ?"
+            " group by ended / 3600, state, code", last - HOURS, last):
+        if state != "cancelled":
+            found.setdefault(hour, {})[state if code is None else CODES[code]] = count
+    return [Hour(hour, counts) for hour, counts in found.items()]
+
+
+def counts_part(database: Database, hours: list[Hour]) -> str:
+    """Count what is to be done, and what was done in the hours that are drawn."""
     waiting = database.rows(f"select count(*) from bench_orders where {LIVE}")[0][0]
-    ends = database.rows("select state, code, count(*) from bench_orders where state not in"
-                         " ('added', 'sent', 'taken', 'blocked', 'full', 'cancelled') group by state, code")
-    done = sum(count for state, code, count in ends if state == "ended" and code == 0)
     left = database.rows("select count(*) from bench_labels where taken is null")[0][0]
-    counts = {"to do": waiting, "done": done, "not done": sum(it[2] for it in ends) - done, "labels left": left}
+    done = sum(it.counts.get("Done", 0) for it in hours)
+    ended = sum(sum(it.counts.values()) for it in hours)
+    counts = {"to do": waiting, f"done in {HOURS} hours": done, "not done in these": ended - done, "labels left": left}
     return '<ul class="counts">' + "".join(f"<li><b>{count}</b> {name}</li>" for name, count in counts.items()) + "</ul>"
 
 
 # Pictures
 
 
-def hours_part(database: Database) -> str:
-    """Draw the orders by hour and end."""
-    last = now() // 3600
-    found: dict = {}
-    for hour, state, code, count in database.rows(
-            "select ended / 3600, state, code, count(*) from bench_orders where ended >= ? and ended < ? and state <>"
-            " 'cancelled' group by ended / 3600, state, code", 3600 * (last - HOURS + 1), 3600 * (last + 1)):
-        found.setdefault(hour, {})[state if code is None else CODES[code]] = count
-    picture = hours_picture([Hour(hour, counts) for hour, counts in found.items()], last)
-    return f"<h2>Orders by hour and end</h2>{picture}"
-
-
 def misses_part(database: Database) -> str:
     """Draw the misses by order of each bus, over the last orders: a bus that gets worse is seen before it fails."""
     found = {}
     for bus, in database.rows("select bus from bench_buses order by number"):
-        rows = database.rows("select misses from bench_orders where bus = ? and misses is not null order by number desc"
-                             " limit ?", bus, LAST_ORDERS)
-        found[bus] = [misses for misses, in reversed(rows)]
-    most = max([1, *(max(misses, default=0) for misses in found.values())])
-    few = [f"<div><h3>{escape(bus)}</h3>{misses_picture(bus, misses, most)}<p class=\"soft\">the last {len(misses)}"
-           f" orders, {sum(misses) / len(misses):.1f} an order</p></div>" for bus, misses in found.items() if misses]
-    return f"<h2>Frames that missed, by order</h2><div class=\"few\">{''.join(few)}</div>" if few else ""
+        rows = database.rows("select misses, ended from bench_orders where bus = ? and misses is not null"
+                             " order by number desc limit ?", bus, LAST_ORDERS)
+        if rows:
+            found[bus] = [misses for misses, _ in reversed(rows)], rows[-1][1]
+    if not found:
+        return ""
+    most = max(max(means_of(misses)) for misses, _ in found.values())
+    few = [f"<div><h3>{escape(bus)}: {sum(misses) / len(misses):.1f} an order</h3>{misses_picture(bus, misses, most)}"
+           f'<p class="soft">{len(misses)} orders since {moment(since)}</p></div>'
+           for bus, (misses, since) in found.items()]
+    return f'<h2>Frames that missed, by order (a full bar: {most:.1f})</h2><div class="few">{"".join(few)}</div>'
 
 
 # Orders
@@ -196,13 +198,16 @@ def page_of(database: Database, query: dict) -> str:
     wanted = searched(query)
     is_search = any(query.get(key, "").strip() for key in SEARCHED)
     refresh = '<meta http-equiv="refresh" content="5">' if "refresh" in query else ""
-    parts = [buses_part(database), counts_part(database)]
+    hours = hours_of(database, last := now() // 3600)
+    parts = [buses_part(database), counts_part(database, hours)]
     if is_search:
         parts += [order_part(database, wanted["number"]) if "number" in wanted else "", form_part(query),
                   orders_part(database, wanted) if wanted else '<p class="soft">A search wants digits.</p>']
     else:
-        parts += [hours_part(database), misses_part(database), form_part(query), orders_part(database, {})]
-    head = f'<h1>Line computer</h1><p>{moment(now())} · <a href="/?refresh">refresh each 5 s</a></p>'
+        parts += [f"<h2>Orders by hour and end</h2>{hours_picture(hours, last)}", misses_part(database),
+                  form_part(query), orders_part(database, {})]
+    link = '<a href="/">stop refreshing</a>' if refresh else '<a href="/?refresh">refresh each 5 s</a>'
+    head = f"<h1>Line computer</h1><p>{moment(now())} · {link}</p>"
     return document(refresh, f"<header>{head}</header>{''.join(parts)}")
 
 

@@ -70,9 +70,9 @@ create table bench_orders (
 create index bench_orders_live on bench_orders (bus, number) where {LIVE};
 create index bench_orders_unit on bench_orders (unit, number);
 create index bench_orders_gtin on bench_orders (gtin, number);
-create index bench_orders_ended on bench_orders (ended, state, code);
+create index bench_orders_hour on bench_orders ((ended / 3600), state, code);
 create index bench_orders_state on bench_orders (state, number);
-create index bench_orders_bus on bench_orders (bus, number);
+create index bench_orders_misses on bench_orders (bus, number) where misses is not null;
 create table bench_labels (
     number bigint primary key references bench_orders,
     made   bigint not null,

@@ -3,6 +3,7 @@
 from __future__ import annotations
 
 import argparse
+import contextlib
 import os
 import pathlib
 import re
@@ -242,11 +243,11 @@ def main(arguments: list[str]) -> int:
 
 
 def told(fault: Refused | Failed) -> int:
-    """Tell what went wrong, and give its status."""
-    if getattr(fault, "lines", ""):
-        sys.stdout.write(fault.lines)
+    """Tell what went wrong, where standard error takes it, and give its status."""
+    lines = [f"error: {plain(line)}" for line in str(fault).splitlines()]
+    with contextlib.suppress(OSError):
+        sys.stdout.write(getattr(fault, "lines", ""))
         sys.stdout.flush()
-    words = str(fault)
-    if words:
-        print("\n".join(f"error: {plain(line)}" for line in words.splitlines()), file=sys.stderr)
+        sys.stderr.write("".join(f"{line}\n" for line in lines))
+        sys.stderr.flush()
     return fault.status

@@ -3,6 +3,7 @@
 import contextlib
 import json
 import os
+import pathlib
 import shutil
 import signal
 import sqlite3
@@ -365,6 +366,9 @@ def test_a_full_disk(folder):
         told = bench.log().count("tried again"), bench.log().count("drive fault 1 Journal")
         print(f"a full disk: adding refused {counts[2]}, the store lost {told[0]}, the journal unwritten {told[1]}", flush=True)
         assert counts[2] > 0 and sum(told) > 0, (counts, told)
+        # Each connection that was lost is closed.
+        files = [it.resolve().name for it in pathlib.Path(f"/proc/{process.pid}/fd").iterdir()]
+        want(files.count("orders.db"), 1)
         want((stop(process), len(bench.states())), (0, 18 + counts[0]))
         judge(bench)
     finally:

@@ -100,11 +100,12 @@ class BusProcess:
 
     def _open_again(self) -> None:
         """Open the store again, which was lost. Adapter and drive end where another process may have the bus now."""
-        self.database = schema.open_store(self.place)
-        if not self.database.lock(self.bus, schema.number_of_bus(self.database, self.bus)):
-            self._end_link()
-            raise StoreLost(f"the bus {self.bus} is locked by another process, or still by an earlier connection")
-        self.work = Work(self.database, self.bus)
+        database = schema.open_store(self.place)
+        with database.closing_on_fault():
+            if not database.lock(self.bus, schema.number_of_bus(database, self.bus)):
+                self._end_link()
+                raise StoreLost(f"the bus {self.bus} is locked by another process, or still by an earlier connection")
+        self.database, self.work = database, Work(database, self.bus)
         self.store_waits.reset()
 
     def _lose_store(self, fault: Exception) -> None:
@@ -288,7 +289,8 @@ class BusProcess:
             self.said_at = time.monotonic()
             self.work.say(self.state)
         self.look_at = time.monotonic() + IDLE
-        self.is_wanted = not self.is_until_empty
+        if self.is_until_empty:
+            self.is_wanted = False
 
     def _retire(self) -> None:
         """Let adapter and drive end, and retire the journal; both start again over a new one."""

@@ -146,7 +146,7 @@ def retire_here(database, bus: str, folder: str | None, program: Program) -> str
 def on_page(options) -> None:
     """Serve the page until an interrupt."""
     host, _, port = options.listen.rpartition(":")
-    if not re.fullmatch("[0-9]{1,5}", port) or int(port) > 65535:
+    if not host or not re.fullmatch("[0-9]{1,5}", port) or int(port) > 65535:
         raise Refused(f"--listen takes HOST:PORT, as 127.0.0.1:8080, and not {options.listen}")
     schema.open_store(options.store).close()
     for number in (signal.SIGTERM, signal.SIGINT):
@@ -243,11 +243,10 @@ def main(arguments: list[str]) -> int:
 
 
 def told(fault: Refused | Failed) -> int:
-    """Tell what went wrong, where standard error takes it, and give its status."""
-    lines = [f"error: {plain(line)}" for line in str(fault).splitlines()]
+    """Tell what went wrong, where the outputs take it, and give its status."""
+    with contextlib.suppress(Failed):
+        write(getattr(fault, "lines", []))
     with contextlib.suppress(OSError):
-        sys.stdout.write(getattr(fault, "lines", ""))
-        sys.stdout.flush()
-        sys.stderr.write("".join(f"{line}\n" for line in lines))
+        sys.stderr.write("".join(f"error: {plain(line)}\n" for line in str(fault).splitlines()))
         sys.stderr.flush()
     return fault.status

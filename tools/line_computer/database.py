@@ -42,15 +42,14 @@ class Database:
 
     def rows(self, statement: str, *values) -> list:
         """Give the rows that a statement answers."""
-        with self.telling():
-            cursor = self.connection.cursor()
+        # A cursor that stays open, as in the traces of a fault, keeps the files of a closed connection open too.
+        with self.telling(), contextlib.closing(self.connection.cursor()) as cursor:
             cursor.execute(self.spelled(statement), values)
             return cursor.fetchall()
 
     def change(self, statement: str, *values) -> int:
         """Carry out a statement that answers no rows; give how many it changed."""
-        with self.telling():
-            cursor = self.connection.cursor()
+        with self.telling(), contextlib.closing(self.connection.cursor()) as cursor:
             cursor.execute(self.spelled(statement), values)
             return cursor.rowcount
 
@@ -74,6 +73,15 @@ class Database:
         """End a transaction: its changes are durable behind it."""
         self.change("commit")
 
+    @contextlib.contextmanager
+    def closing_on_fault(self):
+        """Close the connection where what is done with it fails."""
+        try:
+            yield
+        except BaseException:
+            self.close()
+            raise
+
     def close(self) -> None:
         """Close the connection, and with it each lock."""
         with contextlib.suppress(*self.errors):
@@ -94,6 +102,7 @@ class SqliteDatabase(Database):
         with self.telling():
             self.connection = sqlite3.connect(f"file:{name}?mode={'rwc' if is_made else 'rw'}", uri=True,
                                               timeout=PATIENCE, isolation_level=None)
+        with self.closing_on_fault():
             self.change("pragma synchronous = full")
             self.change("pragma foreign_keys = on")
             if is_made:
@@ -137,6 +146,7 @@ class PostgresDatabase(Database):
             self.connection = psycopg2.connect(url, connect_timeout=5, application_name="line_computer",
                                                keepalives_idle=10, keepalives_interval=5, keepalives_count=3)
             self.connection.autocommit = True
+        with self.closing_on_fault():
             # A computer that has gone is noticed at both ends, so that its lock is free again.
             self.change(f"set lock_timeout = '{PATIENCE}s'; set synchronous_commit = on; set tcp_keepalives_idle = 10;"
                         " set tcp_keepalives_interval = 5; set tcp_keepalives_count = 3")

@@ -10,7 +10,7 @@ class Refused(Exception):
 
     status = 1
 
-    def __init__(self, why: str, lines: str = ""):
+    def __init__(self, why: str, lines: tuple = ()):
         super().__init__(why)
         self.lines = lines
 

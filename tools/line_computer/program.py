@@ -39,7 +39,7 @@ class Program:
         except OSError as fault:
             raise Failed(f"dali_bench can't be started: {words_of(fault)}") from fault
         ended.stdout, ended.stderr = (it.decode("utf-8", "replace") for it in (ended.stdout, ended.stderr))
-        if ended.returncode not in (0, 1):
+        if ended.returncode not in (0, 1) or not ended.stdout:
             last = (ended.stderr or ended.stdout).strip().splitlines()[-1:]
             raise Failed(f"dali_bench {words[0]} ended with status {ended.returncode}: {''.join(last)}")
         return ended
@@ -53,8 +53,8 @@ class Program:
         ended = self.ask("check", "-", given=text)
         lines = ended.stdout.splitlines()
         if ended.returncode:
-            faults = "".join(f"{line}\n" for line in lines if FAULT.fullmatch(line))
-            raise Refused(ended.stderr.strip() or faults.strip(), faults)
+            faults = tuple(line for line in lines if FAULT.fullmatch(line))
+            raise Refused(ended.stderr.strip() or "; ".join(faults), faults)
         accepted, at = [], 0
         while found := ACCEPTED.fullmatch(lines[at]):
             length = int(found[3])

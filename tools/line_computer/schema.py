@@ -92,12 +92,13 @@ def version_of(database: Database) -> int:
 def open_store(place: str) -> Database:
     """Open a store that is there, with the tables of this version."""
     database = opened(place)
-    version = version_of(database)
-    if version == 0:
-        raise Failed("there is no store in this database: `init` makes one")
-    if version != len(MIGRATIONS):
-        what = "`init` brings it up" if version < len(MIGRATIONS) else "use the line computer that made it"
-        raise Refused(f"the store has version {version}, and this line computer has {len(MIGRATIONS)}: {what}")
+    with database.closing_on_fault():
+        version = version_of(database)
+        if version == 0:
+            raise Failed("there is no store in this database: `init` makes one")
+        if version != len(MIGRATIONS):
+            what = "`init` brings it up" if version < len(MIGRATIONS) else "use the line computer that made it"
+            raise Refused(f"the store has version {version}, and this line computer has {len(MIGRATIONS)}: {what}")
     return database
 
 

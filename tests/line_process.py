@@ -291,17 +291,20 @@ def test_a_journal_is_retired_amid_orders(folder):
         names += bench.does("retire", "--bus", "bus1")
     wait_for(lambda: set(bench.states().values()) == {"ended"})
     want(stop(process), 0)
+    bench.add([(5, 32, 3)])
+    want(bench.run(), 0)
     names += bench.does("retire", "--bus", "bus1")
+    assert "the bus has none now" in bench.give("retire", "--bus", "bus1").told
     want(names, [f"retired bench_{place}.journal" for place in (1, 2, 3, 4)])
     bench.add([(5, 33, 3)])
     want(bench.run(), 0)
     judge(bench)
-    want(len(bench.groups("bus1")), 25)
+    want(len(bench.groups("bus1")), 26)
 
 
 def test_a_journal_that_is_not_idle_is_not_retired(folder):
     bench = Bench(folder)
-    want(bench.give("retire", "--bus", "bus1")[::2], (1, "error: the journal can't be retired: the bus has none yet\n"))
+    want(bench.give("retire", "--bus", "bus1")[::2], (1, "error: the journal can't be retired: the bus has none now\n"))
     bench.add([(5, 24, 1)])
     (folder / "bus1" / "unplugged").touch()
     process = bench.start(adapter=[PLUGGED, "bus1", "5"])

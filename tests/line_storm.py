@@ -74,12 +74,15 @@ class Storm:
                 time.sleep(self.chance.uniform(0, 0.3))
                 self.server.start()
         else:
-            chain = processes_of(self.processes[self.chance.choice(BUSES)])
+            process = self.processes[self.chance.choice(BUSES)]
+            chain = processes_of(process)
             chosen = {"all": chain, "own": chain[:1], "adapter": chain[1:2], "drive": chain[2:3]}[victim]
             if not chosen:
                 return
             for pid in chosen:
                 with_no_fault(os.kill, pid, signal.SIGKILL)
+            if process.pid in chosen:
+                process.wait()
         self.counts[victim] += 1
         self.left -= 1
 
@@ -91,6 +94,8 @@ class Storm:
         stored = judge(self.bench, BUSES)
         self.labels += self.bench.does("labels", "--take")
         self.counts["orders"], self.counts["labels"] = len(stored), len(self.labels)
+        again = self.bench.rows("select count(*) from bench_orders where sends > 1 and report like '%\"before\"%'")
+        self.counts["ended before they were asked for again"] = again[0][0]
         print(", ".join(f"{name} {count}" for name, count in sorted(self.counts.items())), flush=True)
 
 
@@ -136,7 +141,7 @@ def test_a_crash_at_each_call_of_a_bus(folder, part, count):
     kind, first = (("commit", "write", "read")[part % 3], 1 + part // 3)
     crashes = crash_points(Bench(folder), kind, first, count // 3)
     print(f"crashes at a {kind}, from {first} on: {crashes}", flush=True)
-    assert crashes >= {"commit": 4, "write": 1, "read": 8}[kind], (kind, crashes)
+    assert crashes >= {"commit": 4, "write": 1, "read": 4}[kind], (kind, crashes)
 
 
 def test_a_crash_at_each_call_of_a_bus_over_postgresql(folder):

@@ -15,11 +15,11 @@ from typing import Optional
 
 from . import journals, schema
 from .database import Database, StoreLost
-from .faults import Failed, Refused, plain, words_of
+from .faults import Failed, Refused, plain, why
 from .link import Link
 from .orders import Order, now
 from .program import Program
-from .told import Ready, Reported, Taken, Told, Trouble, Unaccepted, told_by
+from .told import Ready, Replied, Reported, Taken, Told, Trouble, Unaccepted, told_by
 from .work import BusState, Work
 
 POLL = 0.05  # seconds between two looks at what is told
@@ -30,11 +30,6 @@ SAY = 1  # seconds between two tellings of how far an order is
 SEEN = 10  # and of a bus that has nothing to do
 LOCKED = 2  # seconds for another process of this bus to end
 MOST_REASONS = 3
-
-
-def why(fault: Exception) -> str:
-    """Give the words of what went wrong."""
-    return words_of(fault) if isinstance(fault, OSError) else str(fault)
 
 
 class Waits:
@@ -198,6 +193,9 @@ class BusProcess:
             self.is_ready = True
         elif isinstance(it, Taken):
             self.is_taken = it.number == self.sent
+        elif isinstance(it, Replied):
+            # Where its report doesn't come, it is sent again.
+            self.is_taken, self.sent_at = False, time.monotonic()
         elif isinstance(it, Reported):
             self.sent = None if it.number == self.sent else self.sent
             if it.code is None:
@@ -233,12 +231,12 @@ class BusProcess:
             self._listen(lines)
         return link.adapter.returncode
 
-    def _wait_to_start(self, why: str) -> None:
+    def _wait_to_start(self, words: str) -> None:
         """Wait before adapter and drive are started, and say why."""
         seconds = self.start_waits.begin()
-        self.tell(f"{why}: started again in {seconds:.1f} s")
+        self.tell(f"{words}: started again in {seconds:.1f} s")
         self.state.state, self.state.number, self.state.frames = "waiting", None, None
-        self.state.is_in(why)
+        self.state.is_in(words)
         self.work.say(self.state)
 
     # Orders
@@ -297,14 +295,12 @@ class BusProcess:
         link, self.link = self.link, None
         self._listen(link.finish())
         try:
-            answer = f"retired {journals.retire(self.database, self.bus, self.folder, self.program)}"
+            self.tell(f"retired {journals.retire(self.database, self.bus, self.folder, self.program)}")
         except StoreLost:
             raise
         except (Refused, Failed, OSError) as fault:
-            answer = why(fault)
-            self._wait_to_start(answer)
-        self.work.answer_retire(answer)
-        self.tell(answer)
+            self.work.refuse_retire(why(fault))
+            self._wait_to_start(why(fault))
 
     def tell(self, words: str) -> None:
         """Tell a person, where standard error takes it."""

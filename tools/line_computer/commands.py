@@ -14,14 +14,13 @@ from typing import Iterable
 
 from . import incoming, journals, labels, orders, page, schema, server
 from .bus import BusProcess
-from .database import StoreLost
-from .faults import Failed, Refused, plain, words_of
+from .database import STORE, Database, StoreLost
+from .faults import Failed, Refused, plain, why
 from .program import Program
 from .schema import MIGRATIONS, MOST_NUMBER
 from .work import Work
 
 ROOT = pathlib.Path(__file__).resolve().parent.parent.parent
-STORE = "LINE_COMPUTER_STORE"
 STATES = ("added", "sent", "taken", "blocked", "full", *schema.ENDED)
 LONGEST_WAIT = 30.0
 ABOUT = """Bring orders to the drives of a bench's buses, one at a time, and their ends and labels back.
@@ -64,8 +63,8 @@ def on_add(options) -> None:
     items = incoming.items_of(incoming.read(options.file), options.latin_1, Program(options.program))
     given = orders.add(database, bus, items)
     new = sum(is_new for _, is_new in given)
-    write([*(f"item {at} order {number}" + ("" if is_new else " known") for at, (number, is_new) in enumerate(given, 1)),
-           f"added {new} known {len(given) - new}"])
+    lines = [f"item {at} order {number}" + ("" if is_new else " known") for at, (number, is_new) in enumerate(given, 1)]
+    write([*lines, f"added {new} known {len(given) - new}"])
 
 
 def on_run(options) -> None:
@@ -128,19 +127,19 @@ def on_retire(options) -> None:
     write([answer])
 
 
-def retire_here(database, bus: str, folder: str | None, program: Program) -> str:
+def retire_here(database: Database, bus: str, folder: str | None, program: Program) -> str:
     """Retire the journal of a bus that has no process now; give what became of it."""
-    if folder is None:
-        answer = "the journal can't be retired: the bus has none yet"
-    else:
-        try:
-            with journals.claim(database, bus, pathlib.Path(folder)):
-                journals.recover(database, bus, pathlib.Path(folder))
-                answer = f"retired {journals.retire(database, bus, pathlib.Path(folder), program)}"
-        except (Refused, OSError) as fault:
-            answer = words_of(fault) if isinstance(fault, OSError) else str(fault)
-    Work(database, bus).answer_retire(answer)
-    return answer
+    try:
+        if folder is None:
+            raise Refused("the journal can't be retired: the bus has none now")
+        with journals.claim(database, bus, pathlib.Path(folder)):
+            journals.recover(database, bus, pathlib.Path(folder))
+            return f"retired {journals.retire(database, bus, pathlib.Path(folder), program)}"
+    except StoreLost:
+        raise
+    except (Refused, Failed, OSError) as fault:
+        Work(database, bus).refuse_retire(why(fault))
+        return why(fault)
 
 
 def on_page(options) -> None:
@@ -189,8 +188,8 @@ def parser() -> Parser:
                               help="dali_bench (default: the one that this belongs to)")
         return made
 
-    made = command("init", on_init, "Make the store, or bring an older one up to this version, and make its buses. What "
-                   "is there stays.", bus={"action": "append", "help": "a bus of this name; may be given again"})
+    made = command("init", on_init, "Make the store, or bring an older one up to this version, and make its buses. What"
+                   " is there stays.", bus={"action": "append", "help": "a bus of this name; may be given again"})
     made.add_argument("--first", metavar="N", type=number_of, default=1, help="give no order a number below N")
     made = command("add", on_add, "Add the orders of FILE: all of them or none. FILE is JSON, as `dali_bench check` takes"
                    " it, or a table, as `orders_from_csv` takes it; - is standard input. `order` may be left out: the"
@@ -215,7 +214,7 @@ def parser() -> Parser:
                    " fields.")
     made.add_argument("--take", action="store_true", help="have them taken, so that they aren't printed again")
     command("retire", on_retire, "Retire the journal of a bus: it is moved, and named with --older from then on. Where"
-            " the bus is at work that waits for the end of its order.", bus={"required": True, "help": "the bus"},
+            " the bus is at work this waits for the end of its order.", bus={"required": True, "help": "the bus"},
             program=True)
     made = command("page", on_page, "Show all of it as a page for browsers, which changes nothing.")
     made.add_argument("--listen", metavar="HOST:PORT", default="127.0.0.1:8080",
@@ -238,7 +237,7 @@ def main(arguments: list[str]) -> int:
     except (Refused, Failed) as fault:
         return told(fault)
     except OSError as fault:
-        return told(Failed(words_of(fault)))
+        return told(Failed(why(fault)))
     return 0
 
 

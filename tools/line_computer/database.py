@@ -12,8 +12,10 @@ import re
 import sqlite3
 import urllib.parse
 
-from .faults import Failed, Refused, words_of
+from .faults import Failed, Refused, why
 
+# The variable that names the store.
+STORE = "LINE_COMPUTER_STORE"
 PATIENCE = 10  # seconds that a statement waits for one of another process
 URL = re.compile("([a-z0-9+]+)://", re.IGNORECASE)
 # The first of the two numbers of a lock in PostgreSQL, which other programs may use too; the second is the bus's.
@@ -117,7 +119,7 @@ class SqliteDatabase(Database):
         try:
             file = open(f"{self.path}.{bus}.lock", "ab")
         except OSError as fault:
-            raise StoreLost(words_of(fault)) from fault
+            raise StoreLost(why(fault)) from fault
         try:
             fcntl.flock(file, fcntl.LOCK_EX | fcntl.LOCK_NB)
         except BlockingIOError:

@@ -26,6 +26,8 @@ def plain(text: str) -> str:
     return re.sub("[^ -~]", lambda found: f"\\u{{{ord(found[0]):x}}}", text)
 
 
-def words_of(fault: OSError) -> str:
-    """Give what the system refused: the file, where it is about one, and the system's word."""
+def why(fault: Exception) -> str:
+    """Give the words of what went wrong; of what the system refused the file, where it is about one, and its word."""
+    if not isinstance(fault, OSError):
+        return str(fault)
     return ": ".join(str(it) for it in (fault.filename, fault.strerror) if it) or str(fault)

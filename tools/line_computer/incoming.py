@@ -8,7 +8,7 @@ import json
 import pathlib
 import sys
 
-from .faults import Failed, Refused, words_of
+from .faults import Failed, Refused, why
 from .orders import Item, spelled
 from .program import Program
 
@@ -26,7 +26,7 @@ def read(name: str) -> bytes:
         with open(name, "rb") as file:
             return file.read()
     except OSError as fault:
-        raise Failed(words_of(fault)) from fault
+        raise Failed(why(fault)) from fault
 
 
 def tables():

@@ -93,6 +93,8 @@ def retire(database: Database, bus: str, folder: pathlib.Path, program: Program)
 
     The name is kept before the journal is moved there, so that behind a stop it is moved once more.
     """
+    if not (folder / JOURNAL).exists():
+        raise Refused("the journal can't be retired: the bus has none now")
     standing, is_whole = program.standing(str(folder / JOURNAL))
     if standing != "idle" or not is_whole:
         raise Refused(f"the journal can't be retired now: it stands {standing if is_whole else 'cut'}")
@@ -112,5 +114,6 @@ def move(database: Database, bus: str, folder: pathlib.Path, place: int, name: s
     sync(folder)
     with database.transaction():
         database.change("update bench_journals set retired = ? where bus = ? and place = ?", now(), bus, place)
-        database.change("update bench_buses set has_journal = 0 where bus = ?", bus)
+        database.change("update bench_buses set has_journal = 0, retire = 0, answer = ? where bus = ?",
+                        f"retired {name}", bus)
         database.change("update bench_orders set state = 'sent' where bus = ? and state = 'full'", bus)

@@ -12,9 +12,10 @@ import subprocess
 import time
 from typing import Optional
 
-from .faults import Failed, words_of
+from .database import STORE
+from .faults import Failed, why
 
-JOURNAL, ORDERS, TOLD = "bench.journal", "orders", "told"
+JOURNAL, ORDERS, TOLD = "bench.journal", "line_computer.orders", "line_computer.told"
 PIECE = 65536
 PATIENCE = 5  # seconds for a drive to end whose orders have ended, and for the last of what was told
 # An answer's line: two characters and its line feed.
@@ -35,24 +36,26 @@ class Link:
         try:
             self.orders, self.told, writer = self._make_pipes()
         except OSError as fault:
-            raise Failed(words_of(fault)) from fault
+            raise Failed(why(fault)) from fault
         behind = [word for name in older for word in ("--older", str(folder / name))]
         words = [*with_parent(), *adapter, "--", *drive, "--follow", *behind, "--report", str(folder / TOLD),
                  str(folder / ORDERS), str(folder / JOURNAL)]
         try:
             self.adapter = subprocess.Popen(words, stdin=subprocess.DEVNULL, stdout=subprocess.DEVNULL, stderr=writer,
-                                            start_new_session=True)
+                                            start_new_session=True, env=environment())
         except OSError as fault:
             self._close()
-            raise Failed(f"the adapter can't be started: {words_of(fault)}") from fault
+            raise Failed(f"the adapter can't be started: {why(fault)}") from fault
         finally:
             os.close(writer)
 
     def _make_pipes(self) -> tuple[int, int, int]:
         """Make both pipes; give the orders' end to write to, and both ends of what is told."""
         for name in (ORDERS, TOLD):
-            (self.folder / name).unlink(missing_ok=True)
-            os.mkfifo(self.folder / name, 0o600)
+            path = self.folder / name
+            if path.is_fifo():
+                path.unlink()
+            os.mkfifo(path, 0o600)
         # Open to read too, so that it can be opened before the drive reads.
         orders = os.open(self.folder / ORDERS, os.O_RDWR | os.O_NONBLOCK)
         told = os.open(self.folder / TOLD, os.O_RDONLY | os.O_NONBLOCK)
@@ -146,6 +149,11 @@ class Link:
             lines += self.read(0.1)
         self._close()
         return lines
+
+
+def environment() -> dict:
+    """Give the variables for adapter and drive: the store's name may have a password in it."""
+    return {name: value for name, value in os.environ.items() if name != STORE}
 
 
 def with_parent() -> list[str]:

@@ -8,7 +8,7 @@ import re
 import subprocess
 from typing import NamedTuple
 
-from .faults import Failed, Refused, words_of
+from .faults import Failed, Refused, why
 
 ACCEPTED = re.compile("item ([0-9]+) order [0-9]+ unit ([0-9]+) bytes ([0-9]+)")
 FAULT = re.compile("(item [0-9]+ )?fault .*")
@@ -37,7 +37,7 @@ class Program:
         try:
             ended = subprocess.run([self.path, *words], input=given, capture_output=True, check=False)
         except OSError as fault:
-            raise Failed(f"dali_bench can't be started: {words_of(fault)}") from fault
+            raise Failed(f"dali_bench can't be started: {why(fault)}") from fault
         ended.stdout, ended.stderr = (it.decode("utf-8", "replace") for it in (ended.stdout, ended.stderr))
         if ended.returncode not in (0, 1) or not ended.stdout:
             last = (ended.stderr or ended.stdout).strip().splitlines()[-1:]

@@ -8,11 +8,11 @@ from typing import NamedTuple, Optional, Union
 
 ITEM = re.compile(r"item [0-9]+ (?:order ([0-9]+) )?fault ([0-9]+) [A-Za-z]+")
 TAKEN = re.compile("reply ([0-9]+) taken")
-REPLY = re.compile("reply [0-9]+ (kept [0-5] [A-Za-z]+|reused|full|blocked [0-9]+)")
+REPLY = re.compile("reply ([0-9]+) (?:kept [0-5] [A-Za-z]+|reused|full|blocked [0-9]+)")
 # The faults of an item that say nothing of the order, but of the line or of the memory that there was for it.
 FAULTS_OF_A_LINE = ("11", "12", "13", "20")
-KINDS = {"code": (int, type(None)), "ended": (str, type(None)), "frames": int, "misses": int,
-         "moment": (int, type(None)), "order": int, "reply": str}
+KINDS = {"code": (int, type(None)), "frames": int, "misses": int, "moment": (int, type(None)), "order": int,
+         "reply": str}
 
 
 class Ready(NamedTuple):
@@ -25,13 +25,18 @@ class Taken(NamedTuple):
     number: int
 
 
+class Replied(NamedTuple):
+    """The last reply to the order, of which a line of the report comes next."""
+
+    number: int
+
+
 class Reported(NamedTuple):
-    """A line of the report: the last reply to an order. It comes behind the same reply on standard error."""
+    """A line of the report: the last reply to an order, with all that has to be known of it."""
 
     number: int
     reply: str
     code: Optional[int]
-    is_now: bool  # whether this drive ended it
     moment: Optional[int]  # of the submission that began it
     frames: int
     misses: int
@@ -51,7 +56,7 @@ class Trouble(NamedTuple):
     line: str
 
 
-Told = Union[Ready, Taken, Reported, Unaccepted, Trouble]
+Told = Union[Ready, Taken, Replied, Reported, Unaccepted, Trouble]
 
 
 def told_by(line: str) -> Optional[Told]:
@@ -60,12 +65,14 @@ def told_by(line: str) -> Optional[Told]:
         return Ready()
     if taken := TAKEN.fullmatch(line):
         return Taken(int(taken[1]))
-    if not line.strip() or REPLY.fullmatch(line):
-        return None
+    if replied := REPLY.fullmatch(line):
+        return Replied(int(replied[1]))
     if item := ITEM.fullmatch(line):
         is_of_order = item[1] and item[2] not in FAULTS_OF_A_LINE
         return Unaccepted(int(item[1]) if is_of_order else None, line)
-    return reported(line) if line.startswith("{") else Trouble(line)
+    if line.startswith("{"):
+        return reported(line)
+    return Trouble(line) if line.strip() else None
 
 
 def reported(line: str) -> Optional[Told]:
@@ -78,5 +85,5 @@ def reported(line: str) -> Optional[Told]:
         return None
     if not all(isinstance(found.get(key), kind) for key, kind in KINDS.items()):
         return Trouble(line)
-    return Reported(found["order"], found["reply"], found["code"], found["ended"] == "now", found["moment"],
-                    found["frames"], found["misses"], line)
+    return Reported(found["order"], found["reply"], found["code"], found["moment"], found["frames"], found["misses"],
+                    line)

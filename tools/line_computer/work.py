@@ -9,7 +9,7 @@ from typing import Optional
 from .database import Database
 from .orders import Order, now
 from .schema import LIVE
-from .told import Ready, Reported, Taken, Told, Trouble, Unaccepted
+from .told import Ready, Reported, Taken, Told, Unaccepted
 
 # Orders that a drive may have: their lines were sent.
 SENT = "state in ('sent', 'taken', 'blocked', 'full')"
@@ -116,6 +116,6 @@ class Work:
         """Tell whether the journal is asked to be retired."""
         return bool(self.database.rows("select 1 from bench_buses where bus = ? and retire = 1", self.bus))
 
-    def answer_retire(self, answer: str) -> None:
-        """Keep what became of retiring the journal, for whoever asked."""
-        self.database.change("update bench_buses set retire = 0, answer = ? where bus = ?", answer, self.bus)
+    def refuse_retire(self, words: str) -> None:
+        """Keep why the journal isn't retired, for whoever asked."""
+        self.database.change("update bench_buses set retire = 0, answer = ? where bus = ?", words, self.bus)

@@ -16,6 +16,7 @@ import sqlite3
 import subprocess
 import sys
 import time
+import weakref
 from typing import NamedTuple
 
 from drive_desk import Skipped, settings, want
@@ -66,6 +67,8 @@ class Bench:
     def __init__(self, folder, store=None, buses=("bus1",)):
         self.folder, self.store, self.python = folder, store or str(folder / "orders.db"), python()
         self.wanted = {}  # by the number that was answered: bus, unit, year, week
+        self.processes = []
+        weakref.finalize(self, end_all, self.processes)
         for bus in buses:
             (folder / bus).mkdir(exist_ok=True)
             self.spoil_units(bus)
@@ -111,11 +114,11 @@ class Bench:
     def start(self, bus="bus1", *options, adapter=None, crash=()):
         """Start the process of a bus."""
         log = open(self.folder / f"{bus}.log", "ab")
-        try:
-            return subprocess.Popen(self.run_words(bus, *options, adapter=adapter, crash=crash), cwd=self.folder,
-                                    stdin=subprocess.DEVNULL, stdout=subprocess.DEVNULL, stderr=log)
-        finally:
-            log.close()
+        with log:
+            self.processes.append(subprocess.Popen(
+                self.run_words(bus, *options, adapter=adapter, crash=crash), cwd=self.folder, stdin=subprocess.DEVNULL,
+                stdout=subprocess.DEVNULL, stderr=log))
+        return self.processes[-1]
 
     def run(self, bus="bus1", adapter=None, crash=()):
         """Run the process of a bus until no order is left, or until it crashes; give its status."""
@@ -158,6 +161,13 @@ class Bench:
             f"select name from bench_journals where bus = '{bus}' order by place")]
         paths.append(self.folder / bus / "bench.journal")
         return [group for path in paths if path.exists() for group in groups_of(path.read_bytes())]
+
+
+def end_all(processes):
+    """End processes that a test has left behind."""
+    for process in processes:
+        process.kill()
+        process.wait()
 
 
 def wait_for(told, seconds=3 * PATIENCE):

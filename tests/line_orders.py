@@ -155,7 +155,7 @@ def mistakes(folder):
         (("status", "--store", str(folder / "text")), 2, "error: the store can't be used: file is not a database"),
         (("status", "--store", str(folder / "empty")), 2, "error: there is no store in this database: `init` makes one"),
         (("status", "--store", "mysql://host/db"), 1, "error: a store is a file, or postgresql://..., and not mysql://..."),
-        (("init", "--store", "/none/orders.db"), 2, "error: the store can't be used: unable to open database file"),
+        (("init", "--store", "/none/orders.db"), 2, "error: the store can't be used: /none/orders.db: No such file or"),
         (("init", "--bus", "../bus"), 1, "error: the name of a bus has 1 to 32 letters, digits, - and _: ../bus"),
         (("init", "--first", "x"), 1, "error: argument --first: 'x' is no whole number up to 9007199254740991"),
         (("orders", "--state", "done"), 1, "error: argument --state: invalid choice: 'done'"),

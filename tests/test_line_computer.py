@@ -16,8 +16,9 @@ sys.dont_write_bytecode = True
 import line_look  # noqa: E402
 import line_orders  # noqa: E402
 import line_process  # noqa: E402
+import line_service  # noqa: E402
 import line_storm  # noqa: E402
 import suite  # noqa: E402
 
 if __name__ == "__main__":
-    sys.exit(suite.main(__doc__, (line_look, line_orders, line_process, line_storm), sys.argv[1:]))
+    sys.exit(suite.main(__doc__, (line_look, line_orders, line_process, line_service, line_storm), sys.argv[1:]))

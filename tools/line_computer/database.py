@@ -101,6 +101,8 @@ class SqliteDatabase(Database):
         """Open the file, or make it."""
         self.path, self.locks = os.path.abspath(path), []
         name = urllib.parse.quote(self.path)
+        if is_made:
+            make(self.path)
         with self.telling():
             self.connection = sqlite3.connect(f"file:{name}?mode={'rwc' if is_made else 'rw'}", uri=True,
                                               timeout=PATIENCE, isolation_level=None)
@@ -132,6 +134,14 @@ class SqliteDatabase(Database):
         super().close()
         for file in self.locks:
             file.close()
+
+
+def make(path: str) -> None:
+    """Make a file that is to be a database, with the rights that the process gives: SQLite gives a group none."""
+    try:
+        os.close(os.open(path, os.O_RDWR | os.O_CREAT, 0o666))
+    except OSError as fault:
+        raise StoreLost(why(fault)) from fault
 
 
 class PostgresDatabase(Database):

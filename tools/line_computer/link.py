@@ -54,6 +54,8 @@ class Link:
         for name in (ORDERS, TOLD):
             path = self.folder / name
             if path.is_fifo():
+                # Who waits at its other end, as a drive whose line computer was killed, is let go.
+                os.close(os.open(path, os.O_RDWR | os.O_NONBLOCK))
                 path.unlink()
             os.mkfifo(path, 0o600)
         # Open to read too, so that it can be opened before the drive reads.
@@ -158,4 +160,7 @@ def environment() -> dict:
 
 def with_parent() -> list[str]:
     """Give the words in front of a command that have it end with this process, where the system has them."""
-    return ["setpriv", "--pdeathsig", "KILL", "--"] if shutil.which("setpriv") else []
+    if not shutil.which("setpriv"):
+        return []
+    # The shell ends at once where this process has ended before it could be followed.
+    return ["setpriv", "--pdeathsig", "KILL", "--", "sh", "-c", '[ "$PPID" = "$0" ] && exec "$@"', str(os.getpid())]

@@ -35,6 +35,14 @@ LIVE = ("added", "sent", "taken", "blocked", "full")
 COLUMNS = "number, bus, unit, fields, state, code, sent, told, report"
 
 
+def put_as_archive(folder):
+    """Put into a folder what an archive has of the line computer: that goes by where its own files are."""
+    (folder / "dali_bench").symlink_to(settings["program"])
+    (folder / "adapters").symlink_to(ROOT / "adapters")
+    shutil.copytree(ROOT / "tools", folder / "tools")
+    shutil.copy(PROGRAM, folder)
+
+
 class Ended(NamedTuple):
     """How a command ended."""
 

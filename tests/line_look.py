@@ -15,6 +15,7 @@ import urllib.error
 import urllib.request
 
 from drive_desk import Skipped, want
+from driven import ROOT
 from line_bench import ABSENT, Bench, Server, wait_for
 
 MANY = 100000
@@ -158,31 +159,11 @@ def test_the_page_tells_a_store_that_is_gone(folder):
         assert "Buses" in page.get()
 
 
-def test_a_hundred_thousand_orders(folder):
-    bench = Bench(folder, buses=("bus1", "bus2"))
-    fill(bench, MANY, ("bus1", "bus2"))
-    with Page(bench) as page:
-        slow = {}
-        for query in ("", "?unit=5", "?gtin=77777", "?number=500", "?number=99999&unit=31"):
-            page.get(query)
-            times = []
-            for _ in range(5):
-                began = time.perf_counter()
-                page.get(query)
-                times.append(time.perf_counter() - began)
-            slow[query] = min(times)
-    step = subprocess.run([bench.python, "-c", STEP, str(bench.folder.parent), bench.store], capture_output=True,
-                          check=True, text=True, cwd=folder).stdout
-    print(f"a page of {MANY} orders: {1000 * max(slow.values()):.0f} ms, a step: {1000 * float(step):.1f} ms", flush=True)
-    assert max(slow.values()) < MOST_PAGE, slow
-    assert float(step) < MOST_STEP, step
-
-
-# An order's next step in the store: which it is, that it is sent, that it is taken, that it has ended with its label.
-STEP = f"""
+# An order's steps in the store: which is next, that it is sent, that it is taken, that it has ended with its label.
+STEP = """
 import sys, time
 sys.dont_write_bytecode = True
-sys.path.insert(0, {str(Bench.__module__ and __import__('driven').ROOT / 'tools')!r})
+sys.path.insert(0, sys.argv[1])
 from line_computer import schema, told, work
 database = schema.open_store(sys.argv[2])
 bus, times = work.Work(database, "bus1"), []
@@ -190,10 +171,39 @@ for _ in range(5):
     began = time.perf_counter()
     order = bus.send(bus.next_order())
     bus.keep([told.Taken(order.number)], work.BusState("ready", order.number))
-    bus.keep([told.Reported(order.number, "kept 0 Done", 0, order.sent, 112, 0, "{{}}")], work.BusState("ready"))
+    bus.keep([told.Reported(order.number, "kept 0 Done", 0, order.sent, 112, 0, "{}")], work.BusState("ready"))
     times.append(time.perf_counter() - began)
 print(min(times))
 """
+
+
+def page_seconds(page):
+    """Measure the page and searches; give the least seconds of each."""
+    found = {}
+    for query in ("", "?unit=5", "?gtin=77777", "?number=500", "?number=99999&unit=31"):
+        times = []
+        for _ in range(5):
+            began = time.perf_counter()
+            page.get(query)
+            times.append(time.perf_counter() - began)
+        found[query] = min(times)
+    return found
+
+
+def step_seconds(bench):
+    """Measure the steps of orders that are to do; give the least seconds."""
+    words = [bench.python, "-c", STEP, ROOT / "tools", bench.store]
+    return float(subprocess.run(words, capture_output=True, check=True, text=True).stdout)
+
+
+def test_a_hundred_thousand_orders(folder):
+    bench = Bench(folder, buses=("bus1", "bus2"))
+    fill(bench, MANY, ("bus1", "bus2"))
+    with Page(bench) as page:
+        pages = page_seconds(page)
+    step = step_seconds(bench)
+    print(f"a page of {MANY} orders: {1000 * max(pages.values()):.0f} ms, a step: {1000 * step:.1f} ms", flush=True)
+    assert max(pages.values()) < MOST_PAGE and step < MOST_STEP, (pages, step)
 
 
 def test_a_browser_shows_the_page(folder):

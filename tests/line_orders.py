@@ -32,11 +32,11 @@ GOOD = {
 # What is refused: what `add` tells first on standard output and on standard error; then nothing is added.
 WRONG = {
     "a unit out of range": (b'[{"unit":5,"year":24},{"unit":64,"year":24}]', "item 2 fault 1 Unit",
-                            "error: item 2 order 2: unit: "),
-    "a wrong GTIN": (b'[{"unit":5,"gtin":"4006381333932"}]', "item 1 fault 4 Gtin", "error: item 1 order 1: gtin: "),
-    "a key that isn't known": (b'[{"unit":5,"yaer":24}]', "item 1 fault 10 Key", "error: item 1 order 1: yaer: "),
-    "no field": (b'[{"unit":5}]', "item 1 fault 8 Empty", "error: item 1 order 1: "),
-    "no unit": (b'[{"year":5}]', "item 1 fault 9 Shape", "error: item 1 order 1: "),
+                            "error: item 2: unit: "),
+    "a wrong GTIN": (b'[{"unit":5,"gtin":"4006381333932"}]', "item 1 fault 4 Gtin", "error: item 1: gtin: "),
+    "a key that isn't known": (b'[{"unit":5,"yaer":24}]', "item 1 fault 10 Key", "error: item 1: yaer: "),
+    "no field": (b'[{"unit":5}]', "item 1 fault 8 Empty", "error: item 1: "),
+    "no unit": (b'[{"year":5}]', "item 1 fault 9 Shape", "error: item 1: "),
     "a number that is none": (b'[{"order":-1,"unit":5,"year":2}]', "item 1 fault 9 Shape", "error: item 1: order: "),
     "one order": (b'{"unit":5,"year":24}', "fault 12 Document", "error: the input is "),
     "a list of numbers": (b"[1]", "item 1 fault 9 Shape", "error: item 1: "),

@@ -10,10 +10,11 @@ import stat
 import subprocess
 import time
 
-from drive_desk import Skipped, settings, want
+from drive_desk import Skipped, want
 from driven import PATIENCE, ROOT
-from line_bench import GOOD, PROGRAM, Bench, judge, wait_for
+from line_bench import GOOD, PROGRAM, Bench, judge, put_as_archive, wait_for
 from line_bench import processes_of as chain_of
+from test_bench import BLOCK, run_commands
 from test_service import PROGRAMS, STATES, VARIABLES, processes_of, settings_of, variables_of, words_of
 
 UNIT, PAGE = (ROOT / "service" / name for name in ("dali-bench@.service", "dali-bench-page.service"))
@@ -32,12 +33,8 @@ class Service:
         self.keys = settings_of(text.replace("%S", str(places[STATES])).replace("%i", name))
         for place in places.values():
             place.mkdir(exist_ok=True)
-        # As an archive has it: the line computer goes by where its own files are.
         if not (places[PROGRAMS] / "line_computer").exists():
-            (places[PROGRAMS] / "dali_bench").symlink_to(settings["program"])
-            (places[PROGRAMS] / "adapters").symlink_to(ROOT / "adapters")
-            shutil.copytree(ROOT / "tools", places[PROGRAMS] / "tools")
-            shutil.copy(PROGRAM, places[PROGRAMS])
+            put_as_archive(places[PROGRAMS])
         units = " ".join(f"--unit {unit}" for unit in GOOD)
         self.states = [places[STATES] / it for it in self.keys["StateDirectory"][0].split()]
         self.variables = {"ADAPTER": f"{places[PROGRAMS]}/adapters/simulated_link.py --folder {name} {units}",
@@ -90,6 +87,13 @@ def test_two_buses_of_the_service_are_killed(folder):
     for path in (store, store.parent, store.parent / "bus1" / "bench.journal"):
         mode = path.stat().st_mode
         want((path.name, bool(mode & stat.S_IWGRP), mode & 0o007), (path.name, True, 0))
+
+
+def test_the_commands_of_the_book(folder):
+    put_as_archive(folder)
+    run_commands(ROOT / "docs" / "LINE_COMPUTER.md", folder, 3)
+    kinds = [kind for kind, _ in BLOCK.findall((ROOT / "docs" / "LINE_COMPUTER.md").read_text())]
+    want([at for at, kind in enumerate(kinds) if kind == "text" and kinds[at - 1] != "sh"], [])
 
 
 def test_what_the_unit_files_say(folder):

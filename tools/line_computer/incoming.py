@@ -6,6 +6,7 @@ import importlib.machinery
 import importlib.util
 import json
 import pathlib
+import re
 import sys
 
 from .faults import Failed, Refused, why
@@ -69,13 +70,25 @@ def orders_of(data: bytes, is_latin_1: bool, program: Program) -> list[dict]:
     return orders
 
 
+def without_numbers(words: str, orders: list[dict]) -> str:
+    """Take the numbers out of what is told of orders that have none."""
+
+    def plainly(found: re.Match) -> str:
+        return found[0] if "order" in orders[int(found[2]) - 1] else found[1]
+
+    return re.sub("^(item ([0-9]+)) order [0-9]+", plainly, words, flags=re.MULTILINE)
+
+
 def items_of(data: bytes, is_latin_1: bool, program: Program) -> list[Item]:
     """Give the orders of a file, each accepted by `check`."""
     orders = orders_of(data, is_latin_1, program)
     if not orders:
         raise Refused("the file has no orders")
     numbered = [{"order": at, **order} for at, order in enumerate(orders, 1)]
-    accepted = program.check(numbered)
+    try:
+        accepted = program.check(numbered)
+    except Refused as fault:
+        raise Refused(without_numbers(str(fault), orders), fault.lines) from fault
     items = []
     for order, (unit, frames) in zip(orders, accepted):
         fields = {key: value for key, value in order.items() if key not in ("order", "unit")}

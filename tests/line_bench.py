@@ -116,7 +116,8 @@ class Bench:
     def run_words(self, bus, *options, adapter=None, crash=()):
         """Give the words of a bus's process, over simulated units that lose frames."""
         units = [word for unit in (*GOOD, FIXED, SHORT) for word in ("--unit", str(unit))]
-        adapter = adapter or [ADAPTER, "--folder", bus, *units, "--fixed", f"{FIXED}:{YEAR:02X}", "--lose-frame", LOSSES]
+        fates = ["--fixed", f"{FIXED}:{YEAR:02X}", "--lose-frame", LOSSES]
+        adapter = adapter or [ADAPTER, "--folder", bus, *units, *fates]
         return self.words("run", "--bus", bus, "--longest-wait", "0.2", *options, "--", *adapter, crash=crash)
 
     def start(self, bus="bus1", *options, adapter=None, crash=()):

@@ -69,8 +69,8 @@ def fill(bench, count, buses):
         labels += [(number, ended)] if code == 0 else []
     with sqlite3.connect(bench.store) as connection:
         connection.executemany(
-            "insert into bench_orders (number, bus, unit, fields, gtin, expected, state, code, added, sent, ended, sends,"
-            f" told, frames, misses) values ({', '.join('?' * 15)})", rows)
+            "insert into bench_orders (number, bus, unit, fields, gtin, expected, state, code, added, sent, ended,"
+            f" sends, told, frames, misses) values ({', '.join('?' * 15)})", rows)
         connection.executemany("insert into bench_labels (number, made) values (?, ?)", labels)
         connection.execute("update bench_store set following = ?", (count + 1,))
     connection.close()
@@ -92,8 +92,8 @@ def test_the_page_shows_buses_and_orders(folder):
     bench.add([(5, 25, 1)], "bus2")
     with Page(bench) as page:
         text = text_of(page.get())
-        for words in ("bus1 not running since", "1 to do", "1 done in 24 hours", "1 not done in these", "1 labels left", "kept 0 Done",
-                      "kept 3 Silent", "Orders by hour and end", "Frames that missed, by order"):
+        for words in ("bus1 not running since", "1 to do", "1 done in 24 hours", "1 not done in these",
+                      "1 labels left", "kept 0 Done", "kept 3 Silent", "Orders by hour and end", "Frames that missed, by order"):
             assert words in text, (words, text)
         want(numbers, [1, 2])
 
@@ -141,8 +141,8 @@ def test_the_page_changes_nothing(folder):
         # Nobody but this computer reaches it.
         port = int(host.rsplit(":", 1)[1])
         listening = subprocess.run(["ss", "-Hltn"], capture_output=True, text=True, check=False).stdout
-        assert not listening or [it.split()[3] for it in listening.splitlines() if it.split()[3].endswith(f":{port}")] == [
-            f"127.0.0.1:{port}"], listening
+        found = [it.split()[3] for it in listening.splitlines() if it.split()[3].endswith(f":{port}")]
+        assert not listening or found == [f"127.0.0.1:{port}"], listening
     want((bench.rows("select * from bench_orders"), bench.rows("select * from bench_states")), before)
 
 

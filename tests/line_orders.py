@@ -84,7 +84,8 @@ def test_an_order_that_is_added_again_is_one(folder):
     want(bench.does("add", "--bus", "bus1", "-", given=more), ["item 1 order 2 known", "item 2 order 4",
                                                                "added 1 known 1"])
     want(bench.does("add", "--bus", "bus2", "-", given=given)[-1], "added 2 known 0")
-    other = bench.give("add", "--bus", "bus1", "-", given=b'[{"order":9,"unit":5,"year":24},{"order":2,"unit":5,"year":9}]')
+    another = b'[{"order":9,"unit":5,"year":24},{"order":2,"unit":5,"year":9}]'
+    other = bench.give("add", "--bus", "bus1", "-", given=another)
     want((other.status, other.told),
          (1, "error: item 2 order 2: the number of order 2 of this store, which is another one\n"))
     want(len(bench.states()), 5)
@@ -119,8 +120,8 @@ def test_orders_status_and_cancelling(folder):
     want(bench.does("orders"), ["order 1 bus bus1 unit 5 added (was 4)", "order 2 bus bus1 unit 6 added"])
     want(bench.does("cancel", "1"), ["order 1 cancelled"])
     want(bench.does("orders", "--state", "cancelled"), ["order 1 bus bus1 unit 5 cancelled (was 4)"])
-    want(bench.does("status"), ["bus bus1 not running", "orders added 1 sent 0 taken 0 blocked 0 full 0 ended 0 refused 0"
-                                " reused 0 cancelled 1", "done 0", "labels left 0"])
+    want(bench.does("status"), ["bus bus1 not running", "orders added 1 sent 0 taken 0 blocked 0 full 0 ended 0 refused"
+                                " 0 reused 0 cancelled 1", "done 0", "labels left 0"])
     # One that was cancelled is known all the same.
     want(bench.does("add", "-", given=b'[{"order":4,"unit":5,"year":24}]')[-1], "added 0 known 1")
     want(bench.run(), 0)
@@ -153,8 +154,8 @@ def mistakes(folder):
         (("status", "--", "true"), 1, "error: `run` takes the adapter and its words behind --"),
         (("status", "--store", missing), 2, f"error: there is no store: {missing}: `init` makes one"),
         (("status", "--store", str(folder / "text")), 2, "error: the store can't be used: file is not a database"),
-        (("status", "--store", str(folder / "empty")), 2, "error: there is no store in this database: `init` makes one"),
-        (("status", "--store", "mysql://host/db"), 1, "error: a store is a file, or postgresql://..., and not mysql://..."),
+        (("status", "--store", str(folder / "empty")), 2, "error: there is no store in this database: `init` makes"),
+        (("status", "--store", "mysql://host/db"), 1, "error: a store is a file, or postgresql://..., and not mysql"),
         (("init", "--store", "/none/orders.db"), 2, "error: the store can't be used: /none/orders.db: No such file or"),
         (("init", "--bus", "../bus"), 1, "error: the name of a bus has 1 to 32 letters, digits, - and _: ../bus"),
         (("init", "--first", "x"), 1, "error: argument --first: 'x' is no whole number up to 9007199254740991"),
@@ -224,7 +225,8 @@ def judge_migration(bench):
                                cwd=bench.folder, capture_output=True, text=True, check=False)
         return ended.returncode, ended.stdout, ended.stderr
 
-    want(later("status"), (1, "", "error: the store has version 1, and this line computer has 2: `init` brings it up\n"))
+    older = "error: the store has version 1, and this line computer has 2: `init` brings it up\n"
+    want(later("status"), (1, "", older))
     process = bench.start()
     while bench.rows("select state from bench_states where bus = 'bus1'")[0][0] != "ready":
         pass
@@ -302,13 +304,13 @@ def test_labels_that_can_not_be_written_are_not_taken(folder):
     bench.add([(5, 24, 1), (60, 24, 2)])
     want(bench.run(), 0)
     with open("/dev/full", "wb") as full:
-        ended = subprocess.run(bench.words("labels", "--take"), cwd=folder, stdout=full, stderr=subprocess.PIPE, text=True,
-                               check=False)
+        ended = subprocess.run(bench.words("labels", "--take"), cwd=folder, stdout=full, stderr=subprocess.PIPE,
+                               text=True, check=False)
     want((ended.returncode, ended.stderr), (2, "error: the output can't be written: No space left on device\n"))
     reader, writer = os.pipe()
     os.close(reader)
-    ended = subprocess.run(bench.words("labels", "--take"), cwd=folder, stdout=writer, stderr=subprocess.PIPE, text=True,
-                           check=False)
+    ended = subprocess.run(bench.words("labels", "--take"), cwd=folder, stdout=writer, stderr=subprocess.PIPE,
+                           text=True, check=False)
     os.close(writer)
     want((ended.returncode, ended.stderr, len(bench.does("labels"))), (2, "", 2))
     want((len(bench.does("labels", "--take")), bench.does("labels", "--take")), (2, []))

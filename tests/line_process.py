@@ -12,8 +12,8 @@ import threading
 import time
 
 from drive_desk import Skipped, want
-from driven import HEADER, PATIENCE, ROOT
-from line_bench import (ABSENT, ADAPTER, FIXED, GOOD, SHORT, Bench, Server, judge, processes_of, stop, wait_for)
+from driven import HEADER, PATIENCE, ROOT, groups_of
+from line_bench import (ABSENT, ADAPTER, FIXED, SHORT, Bench, Server, judge, processes_of, stop, wait_for)
 
 PLUGGED = ROOT / "tests" / "line_adapter.py"
 ABSENT_RECORD = bytes.fromhex("09 01 1318 4503")
@@ -172,7 +172,7 @@ def test_two_processes_of_one_bus(folder):
     bench = Bench(folder, buses=("bus1", "bus2"))
     process = bench.start()
     wait_for(lambda: state_of(bench)[0] == "ready")
-    second = subprocess.run(bench.run_words("bus1"), cwd=folder, capture_output=True, text=True, timeout=60, check=False)
+    second = subprocess.run(bench.run_words("bus1"), cwd=folder, capture_output=True, text=True, check=False)
     want((second.returncode, second.stderr),
          (1, "error: the bus bus1 has another process: only one `run` of a bus may be at work\n"))
     other = bench.start("bus2")
@@ -188,7 +188,8 @@ def test_two_processes_of_one_bus(folder):
 
 def test_all_processes_end_together(folder):
     bench = Bench(folder)
-    for number, is_own in ((signal.SIGTERM, True), (signal.SIGINT, True), (signal.SIGKILL, True), (signal.SIGKILL, False)):
+    for number, is_own in ((signal.SIGTERM, True), (signal.SIGINT, True), (signal.SIGKILL, True),
+                           (signal.SIGKILL, False)):
         process = bench.start()
         chain = wait_for(lambda: state_of(bench)[0] == "ready" and len(processes_of(process)) == 3 and
                          processes_of(process))
@@ -266,8 +267,7 @@ def test_a_unit_that_was_left_blocks_the_next_order(folder):
     bench.add([(5, 24, 1), (60, 25, 2)])
     units = ["--unit", "5", "--unit", "60", "--lose-frame", ",".join(map(str, range(30, 560)))]
     process = bench.start(adapter=[ADAPTER, "--folder", "bus1", *units])
-    blocked = wait_for(lambda: bench.rows("select state, told from bench_orders where number = 2")[0][0] == "blocked" and
-                       state_of(bench))
+    blocked = wait_for(lambda: bench.states()[2] == "blocked" and state_of(bench))
     want(blocked, ("ready", None, "order 2 blocked 5"))
     assert "is at work" in bench.give("cancel", "2").told
     wait_for(lambda: bench.states()[2] == "ended")
@@ -326,6 +326,30 @@ def test_a_journal_that_is_not_idle_is_not_retired(folder):
     judge(bench)
 
 
+def test_a_journal_that_can_not_be_read_is_given_up(folder):
+    """As where a disk has failed: the power of all units was taken, and the order at work counts as in doubt."""
+    bench = Bench(folder)
+    bench.add([(5, 24, 1), (60, 25, 1)])
+    (folder / "bus1" / "unplugged").touch()
+    process = bench.start(adapter=[PLUGGED, "bus1", "5"])
+    wait_for(lambda: bench.states()[1] == "taken")
+    ended = bench.give("retire", "--bus", "bus1", "--power-was-taken")
+    want((ended.status, ended.told), (1, "error: the bus bus1 has a process: end its `run` first\n"))
+    want(stop(process), 0)
+    (folder / "bus1" / "bench.journal").write_bytes(b"DAMAGED")
+    told = bench.give("retire", "--bus", "bus1").told
+    assert told.startswith("error: the journal can't be read: "), told
+    want(bench.does("retire", "--bus", "bus1", "--power-was-taken"), ["retired bench_1.journal"])
+    want(bench.run(), 0)
+    want(bench.does("orders"), ["order 1 bus bus1 unit 5 ended: kept 4 Doubt, by hand",
+                                "order 2 bus bus1 unit 60 ended: kept 0 Done"])
+    want([group.number for group in groups_of((folder / "bus1" / "bench.journal").read_bytes())], [2])
+    want(len(bench.does("labels")), 1)
+    want(bench.does("retire", "--bus", "bus1"), ["retired bench_2.journal"])
+    bench.add([(60, 26, 1)])
+    want(bench.run(), 0)
+
+
 def test_a_full_journal_is_retired_by_itself(folder):
     bench = Bench(folder)
     records = (b"B" + number.to_bytes(8, "big") + bytes(8) + ABSENT_RECORD for number in range(MOST_ORDERS))
@@ -367,7 +391,8 @@ def test_a_full_disk(folder):
                 time.sleep(0.4)
             wait_for(lambda: set(bench.states().values()) <= {"ended"})
         told = bench.log().count("tried again"), bench.log().count("drive fault 1 Journal")
-        print(f"a full disk: adding refused {counts[2]}, the store lost {told[0]}, the journal unwritten {told[1]}", flush=True)
+        print(f"a full disk: adding refused {counts[2]}, the store lost {told[0]}, the journal unwritten {told[1]}",
+              flush=True)
         assert counts[2] > 0 and sum(told) > 0, (counts, told)
         # Each connection that was lost is closed.
         files = [it.resolve().name for it in pathlib.Path(f"/proc/{process.pid}/fd").iterdir()]

@@ -1,4 +1,4 @@
-"""Tests of the line computer: whatever is killed, and whenever, each order ends once and each done one has its label."""
+"""Tests of the line computer: whatever is killed, and whenever, each order ends once, and its label is there."""
 
 import collections
 import os
@@ -49,7 +49,7 @@ class Storm:
     def add(self, crash=()):
         """Add some orders to a bus."""
         units = (*GOOD, *GOOD, *GOOD, *GOOD, FIXED, SHORT, ABSENT)
-        orders = [(self.chance.choice(units), self.chance.randrange(100), self.chance.randint(1, 53)) for _ in range(4)]
+        orders = [(self.chance.choice(units), self.chance.randrange(100), self.chance.randint(1, 53)) for _ in range(6)]
         self.bench.add(orders, self.chance.choice(BUSES), crash=crash)
 
     def cancel_or_take(self):
@@ -89,6 +89,7 @@ class Storm:
     def end(self):
         """Have all orders end in quiet, and judge."""
         wait_for(lambda: self.keep_alive() or not any(it in LIVE for it in self.bench.states().values()), 8 * PATIENCE)
+        wait_for(lambda: all(len(processes_of(process)) == 3 for process in self.processes.values()))
         for process in self.processes.values():
             want(stop(process), 0)
         stored = judge(self.bench, BUSES)
@@ -156,7 +157,8 @@ def test_a_crash_at_each_call_of_adding(folder):
         for when in ("before", "behind"):
             before = len(bench.states())
             bench.add([(5, 24, 1), (60, 25, 2), (ABSENT, 26, 3)], crash=(kind, str(number), when))
-            want((kind, when, len(bench.states()) - before), (kind, when, 0 if (kind, when) == ("commit", "before") else 3))
+            added = 0 if (kind, when) == ("commit", "before") else 3
+            want((kind, when, len(bench.states()) - before), (kind, when, added))
     want(bench.run(), 0)
     stored = judge(bench)
     want((len(stored), sorted(set(stored))), (9, sorted(stored)))

@@ -36,6 +36,7 @@ class Waits:
     """How long to wait before what failed is tried again: longer each time."""
 
     def __init__(self, longest: float):
+        """Take the longest time, in seconds."""
         self.longest, self.next, self.until = longest, SHORTEST_WAIT, 0.0
 
     def begin(self) -> float:
@@ -58,6 +59,7 @@ class BusProcess:
 
     def __init__(self, place: str, bus: str, folder: pathlib.Path, adapter: list[str], program: Program,
                  longest_wait: float):
+        """Take what is to be opened and started."""
         self.place, self.bus, self.folder, self.adapter, self.program = place, bus, folder, adapter, program
         self.database: Optional[Database] = None
         self.link: Optional[Link] = None
@@ -246,6 +248,9 @@ class BusProcess:
         if self.sent is not None and (self.is_taken or time.monotonic() - self.sent_at < RESEND):
             self._say_how_far()
             return
+        if self.sent is not None:
+            self.tell(f"order {self.sent} is sent again: nothing was told of it in {RESEND} s")
+            self.sent = None
         order = self.work.next_order()
         is_asked = (order is None or order.state == "added") and self.work.is_asked_to_retire()
         if is_asked or order is not None and order.state == "full":

@@ -36,6 +36,7 @@ class Parser(argparse.ArgumentParser):
     """A parser that tells a wrong command line as dali_bench does."""
 
     def error(self, message):
+        """Tell what is wrong, and end with status 1."""
         self.exit(1, f"error: {plain(message)}\n{self.format_usage()}")
 
 
@@ -114,27 +115,31 @@ def on_retire(options) -> None:
     """Retire the journal of a bus: here, or by its process once the order at work has ended."""
     database = schema.open_store(options.store)
     number = schema.number_of_bus(database, options.bus)
-    database.change("update bench_buses set retire = 1, answer = null where bus = ?", options.bus)
+    database.change("update bench_buses set retire = ?, answer = null where bus = ?", int(not options.power_was_taken),
+                    options.bus)
     while True:
         answer, folder = database.rows("select answer, folder from bench_buses where bus = ?", options.bus)[0]
         if answer is None and database.lock(options.bus, number):
-            answer = retire_here(database, options.bus, folder, Program(options.program))
+            answer = retire_here(database, options, folder)
         if answer is not None:
             break
+        if options.power_was_taken:
+            raise Refused(f"the bus {options.bus} has a process: end its `run` first")
         time.sleep(0.1)
     if not answer.startswith("retired "):
         raise Refused(answer)
     write([answer])
 
 
-def retire_here(database: Database, bus: str, folder: str | None, program: Program) -> str:
-    """Retire the journal of a bus that has no process now; give what became of it."""
+def retire_here(database: Database, options, name: str | None) -> str:
+    """Retire the journal of a bus that has no process now, in the folder of this name; give what became of it."""
+    bus, folder, program = options.bus, pathlib.Path(name or ""), Program(options.program)
     try:
-        if folder is None:
+        if name is None:
             raise Refused("the journal can't be retired: the bus has none now")
-        with journals.claim(database, bus, pathlib.Path(folder)):
-            journals.recover(database, bus, pathlib.Path(folder))
-            return f"retired {journals.retire(database, bus, pathlib.Path(folder), program)}"
+        with journals.claim(database, bus, folder):
+            journals.recover(database, bus, folder)
+            return f"retired {journals.retire(database, bus, folder, program, options.power_was_taken)}"
     except StoreLost:
         raise
     except (Refused, Failed, OSError) as fault:
@@ -170,55 +175,69 @@ def seconds_of(text: str) -> float:
     return float(text)
 
 
-def parser() -> Parser:
-    """Give the parser of the command line."""
-    found = Parser("line_computer", description=ABOUT, formatter_class=argparse.RawDescriptionHelpFormatter,
-                   allow_abbrev=False)
-    commands = found.add_subparsers(metavar="COMMAND", required=True)
+def command(commands, act, about: str, bus: dict | None = None, has_program: bool = False) -> Parser:
+    """Make a command, with the options that several have. Its help begins with what stands before a colon or a dot."""
+    name = act.__name__.removeprefix("on_")
+    made = commands.add_parser(name, help=re.split("[:.]", about)[0], description=about, allow_abbrev=False)
+    made.set_defaults(act=act)
+    made.add_argument("--store", default=os.environ.get(STORE, "orders.db"), help=f"the store (default: {STORE}, or orders.db)")
+    if bus:
+        made.add_argument("--bus", metavar="B", **bus)
+    if has_program:
+        made.add_argument("--program", metavar="PATH", default=str(ROOT / "dali_bench"),
+                          help="dali_bench (default: the one that this belongs to)")
+    return made
 
-    def command(name, act, about, *, bus=None, program=False):
-        """Make a command with the options that several have."""
-        made = commands.add_parser(name, help=about.split(":")[0].split(".")[0], description=about, allow_abbrev=False)
-        made.add_argument("--store", default=os.environ.get(STORE, "orders.db"), help="the store")
-        made.set_defaults(act=act)
-        if bus:
-            made.add_argument("--bus", metavar="B", **bus)
-        if program:
-            made.add_argument("--program", metavar="PATH", default=str(ROOT / "dali_bench"),
-                              help="dali_bench (default: the one that this belongs to)")
-        return made
 
-    made = command("init", on_init, "Make the store, or bring an older one up to this version, and make its buses. What"
-                   " is there stays.", bus={"action": "append", "help": "a bus of this name; may be given again"})
+def make_order_commands(commands) -> None:
+    """Make the commands that are about orders and labels."""
+    made = command(commands, on_init, "Make the store, or bring an older one up to this version, and make its buses."
+                   " What is there stays.", {"action": "append", "help": "a bus of this name; may be given again"})
     made.add_argument("--first", metavar="N", type=number_of, default=1, help="give no order a number below N")
-    made = command("add", on_add, "Add the orders of FILE: all of them or none. FILE is JSON, as `dali_bench check` takes"
-                   " it, or a table, as `orders_from_csv` takes it; - is standard input. `order` may be left out: the"
-                   " store gives each order a number of its own, which is printed. Where it is there, an order that the"
-                   " bus knows by it is the same one, and isn't added again.",
-                   bus={"help": "the bus that they are for; may be left out where there is only one"}, program=True)
+    made = command(commands, on_add, "Add the orders of FILE: all of them or none. FILE is JSON, as `dali_bench check`"
+                   " takes it, or a table, as `orders_from_csv` takes it; - is standard input. `order` may be left out:"
+                   " the store gives each order a number of its own, which is printed. Where it is there, an order that"
+                   " the bus knows by it is the same one, and isn't added again.",
+                   {"help": "the bus that they are for; may be left out where there is only one"}, True)
     made.add_argument("--latin-1", action="store_true", help="the table is in Latin-1")
     made.add_argument("file", metavar="FILE")
-    made = command("run", on_run, "Carry out the orders of a bus, as they come: start ADAPTER with its words and a"
-                   " drive, and both again where they end.", bus={"required": True, "help": "the bus"}, program=True)
+    made = command(commands, on_orders, "List the orders: a line each, by their numbers.")
+    made.add_argument("--state", choices=STATES, metavar="S", help=f"those alone that are {', '.join(STATES)}")
+    made = command(commands, on_cancel, "Cancel an order that wasn't sent to a drive.")
+    made.add_argument("number", metavar="N", type=number_of)
+    made = command(commands, on_labels, "Print the labels that nobody has taken: a line of JSON each, with the order's"
+                   " fields.")
+    made.add_argument("--take", action="store_true", help="have them taken, so that they aren't printed again")
+
+
+def make_bus_commands(commands) -> None:
+    """Make the commands that are about buses."""
+    bus = {"required": True, "help": "the bus"}
+    made = command(commands, on_run, "Carry out the orders of a bus, as they come: start ADAPTER with its words and a"
+                   " drive, and both again where they end.", bus, True)
     made.usage = "line_computer run [options] --bus B -- ADAPTER [WORDS..]"
     made.add_argument("--folder", metavar="F", help="where the journal of the bus stands (default: B, in this folder)")
     made.add_argument("--until-empty", action="store_true", help="end once no order of the bus is left")
     made.add_argument("--longest-wait", metavar="SECONDS", type=seconds_of, default=LONGEST_WAIT,
                       help="the longest time before what failed is tried again (default: 30)")
-    command("status", on_status, "Tell how the buses stand, and how many orders and labels there are.")
-    made = command("orders", on_orders, "List the orders: a line each, by their numbers.")
-    made.add_argument("--state", choices=STATES, metavar="S", help=f"those alone that are {', '.join(STATES)}")
-    made = command("cancel", on_cancel, "Cancel an order that wasn't sent to a drive.")
-    made.add_argument("number", metavar="N", type=number_of)
-    made = command("labels", on_labels, "Print the labels that nobody has taken: a line of JSON each, with the order's"
-                   " fields.")
-    made.add_argument("--take", action="store_true", help="have them taken, so that they aren't printed again")
-    command("retire", on_retire, "Retire the journal of a bus: it is moved, and named with --older from then on. Where"
-            " the bus is at work this waits for the end of its order.", bus={"required": True, "help": "the bus"},
-            program=True)
-    made = command("page", on_page, "Show all of it as a page for browsers, which changes nothing.")
+    command(commands, on_status, "Tell how the buses stand, and how many orders and labels there are.")
+    made = command(commands, on_retire, "Retire the journal of a bus: it is moved, and named with --older from then on."
+                   " Where the bus is at work this waits for the end of its order.", bus, True)
+    made.add_argument("--power-was-taken", action="store_true",
+                      help="retire one that isn't idle or can't be read, now that all units of the bus have lost their"
+                           " power and have it again: the order at work counts as in doubt")
+    made = command(commands, on_page, "Show all of it as a page for browsers, which changes nothing.")
     made.add_argument("--listen", metavar="HOST:PORT", default="127.0.0.1:8080",
                       help="where the page is (default: 127.0.0.1:8080)")
+
+
+def parser() -> Parser:
+    """Give the parser of the command line."""
+    found = Parser("line_computer", description=ABOUT, formatter_class=argparse.RawDescriptionHelpFormatter,
+                   allow_abbrev=False)
+    commands = found.add_subparsers(metavar="COMMAND", required=True)
+    make_order_commands(commands)
+    make_bus_commands(commands)
     return found
 
 

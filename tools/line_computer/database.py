@@ -35,10 +35,10 @@ class Database:
 
     @contextlib.contextmanager
     def telling(self):
-        """Tell what the database refuses as `StoreLost`, by the first line of its words."""
+        """Tell what the database refuses, also a value that it can't hold, as `StoreLost`, by its words' first line."""
         try:
             yield
-        except self.errors as fault:
+        except (*self.errors, ValueError, OverflowError) as fault:
             words = str(fault).strip() or type(fault).__name__
             raise StoreLost(words.splitlines()[0]) from fault
 
@@ -131,6 +131,7 @@ class SqliteDatabase(Database):
         return True
 
     def close(self) -> None:
+        """Close the connection, and with it each lock."""
         super().close()
         for file in self.locks:
             file.close()
@@ -164,6 +165,7 @@ class PostgresDatabase(Database):
                         " set tcp_keepalives_interval = 5; set tcp_keepalives_count = 3")
 
     def spelled(self, statement: str) -> str:
+        """Spell a statement as the database's module wants it."""
         return statement.replace("?", "%s")
 
     def has_table(self, name: str) -> bool:

@@ -11,6 +11,7 @@ class Refused(Exception):
     status = 1
 
     def __init__(self, why: str, lines: tuple = ()):
+        """Take the words, and these lines."""
         super().__init__(why)
         self.lines = lines
 

@@ -74,6 +74,7 @@ def without_numbers(words: str, orders: list[dict]) -> str:
     """Take the numbers out of what is told of orders that have none."""
 
     def plainly(found: re.Match) -> str:
+        """Give the front of a line."""
         return found[0] if "order" in orders[int(found[2]) - 1] else found[1]
 
     return re.sub("^(item ([0-9]+)) order [0-9]+", plainly, words, flags=re.MULTILINE)

@@ -16,6 +16,7 @@ from .program import Program
 
 # Says of which store and bus a folder is: so none is taken for another's, whose journal has other orders.
 MARK = "line_computer.json"
+DOUBT = 4
 
 
 def sync(path: pathlib.Path) -> None:
@@ -38,10 +39,10 @@ def claim(database: Database, bus: str, folder: pathlib.Path) -> BinaryIO:
     Where a server forgets who had the bus's lock, the folder's keeps a second process away all the same.
     """
     mark, wanted = folder / MARK, mark_of(database, bus)
-    folder.mkdir(parents=True, exist_ok=True)
     if not mark.exists():
         if database.rows("select has_journal from bench_buses where bus = ?", bus)[0][0]:
             raise Refused(f"the bus {bus} has its journal in another folder, or its disk isn't there: {folder}")
+        folder.mkdir(parents=True, exist_ok=True)
         new = folder / f"{MARK}.new"
         new.write_text(wanted, encoding="ascii")
         sync(new)
@@ -73,8 +74,9 @@ def recover(database: Database, bus: str, folder: pathlib.Path) -> None:
 
 
 def older(database: Database, bus: str) -> list[str]:
-    """Give the names of the journals that were retired, the oldest first."""
-    return [name for name, in database.rows("select name from bench_journals where bus = ? order by place", bus)]
+    """Give the names of the journals that a drive has to know besides, the oldest first."""
+    return [name for name, in database.rows("select name from bench_journals where bus = ? and named = 1"
+                                            " order by place", bus)]
 
 
 def want_newer_store(database: Database, bus: str, folder: pathlib.Path, program: Program) -> None:
@@ -88,21 +90,28 @@ def want_newer_store(database: Database, bus: str, folder: pathlib.Path, program
                       f" {following - 1}: put the newer store back, or begin behind them with `init --first {free}`")
 
 
-def retire(database: Database, bus: str, folder: pathlib.Path, program: Program) -> str:
+def retire(database: Database, bus: str, folder: pathlib.Path, program: Program, has_lost_power=False) -> str:
     """Retire the journal of a bus whose drive has ended; give its name from now on.
 
-    The name is kept before the journal is moved there, so that behind a stop it is moved once more.
+    It has to stand idle, unless all units of the bus have lost their power: then none is write-enabled. What the journal
+    has of the order at work is given up, which counts as in doubt, and no drive has to know that journal any more.
     """
     if not (folder / JOURNAL).exists():
         raise Refused("the journal can't be retired: the bus has none now")
-    standing, is_whole = program.standing(str(folder / JOURNAL))
+    standing, is_whole = ("idle", True) if has_lost_power else program.standing(str(folder / JOURNAL))
     if standing != "idle" or not is_whole:
         raise Refused(f"the journal can't be retired now: it stands {standing if is_whole else 'cut'}")
-    place = 1 + len(older(database, bus))
+    place = 1 + database.rows("select count(*) from bench_journals where bus = ?", bus)[0][0]
     name = f"bench_{place}.journal"
     if (folder / name).exists():
         raise Refused(f"the journal can't be retired: this file is in its way: {folder / name}")
-    database.change("insert into bench_journals (bus, place, name) values (?, ?, ?)", bus, place, name)
+    # The name is kept before the journal is moved there, so that behind a stop it is moved once more.
+    with database.transaction():
+        database.change("insert into bench_journals (bus, place, name, named) values (?, ?, ?, ?)", bus, place, name,
+                        0 if has_lost_power else 1)
+        if has_lost_power:
+            database.change("update bench_orders set state = 'ended', code = ?, told = ?, ended = ? where bus = ? and"
+                            " state in ('sent', 'taken')", DOUBT, "kept 4 Doubt, by hand", now(), bus)
     move(database, bus, folder, place, name)
     return name
 

@@ -64,6 +64,7 @@ class Link:
         return orders, told, os.open(self.folder / TOLD, os.O_WRONLY)
 
     def _close(self) -> None:
+        """Close both pipes."""
         for pipe in (self.orders, self.told):
             with contextlib.suppress(OSError):
                 os.close(pipe)

@@ -30,13 +30,19 @@ class Order(NamedTuple):
 
     number: int
     unit: int
-    fields: dict
+    fields: str
     state: str
     sent: Optional[int]  # the moment of its submission, once it was sent
 
     def object(self) -> dict:
-        """Give the order as dali_bench reads it."""
-        return {"order": self.number, "unit": self.unit, **self.fields}
+        """Give the order as dali_bench reads it. Another program may have put it into the store."""
+        try:
+            fields = json.loads(self.fields)
+        except ValueError:
+            fields = None
+        if not isinstance(fields, dict):
+            raise Refused("the fields are no object of JSON")
+        return {**fields, "order": self.number, "unit": self.unit}
 
     def line(self) -> bytes:
         """Give its line for `drive --follow`."""

@@ -109,7 +109,8 @@ def counts_part(database: Database, hours: list[Hour]) -> str:
     done = sum(it.counts.get("Done", 0) for it in hours)
     ended = sum(sum(it.counts.values()) for it in hours)
     counts = {"to do": waiting, f"done in {HOURS} hours": done, "not done in these": ended - done, "labels left": left}
-    return '<ul class="counts">' + "".join(f"<li><b>{count}</b> {name}</li>" for name, count in counts.items()) + "</ul>"
+    items = "".join(f"<li><b>{count}</b> {name}</li>" for name, count in counts.items())
+    return f'<ul class="counts">{items}</ul>'
 
 
 # Pictures
@@ -188,8 +189,8 @@ def order_part(database: Database, number: int) -> str:
 
 def form_part(query: dict) -> str:
     """Show what may be searched for."""
-    inputs = "".join(f'<label>{name}<input name="{key}" inputmode="numeric" value="{escape(query.get(key, ""))}"></label>'
-                     for key, name in SEARCHED.items())
+    inputs = "".join(f'<label>{name}<input name="{key}" inputmode="numeric" value="{escape(query.get(key, ""))}">'
+                     "</label>" for key, name in SEARCHED.items())
     return f'<h2>Search</h2><form>{inputs}<button>Search</button> <a href="/">all</a></form>'
 
 

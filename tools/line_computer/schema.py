@@ -43,6 +43,7 @@ create table bench_journals (
     bus     text not null references bench_buses,
     place   integer not null,
     name    text not null,
+    named   integer not null,
     retired bigint,
     primary key (bus, place)
 );

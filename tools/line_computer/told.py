@@ -8,7 +8,8 @@ from typing import NamedTuple, Optional, Union
 
 ITEM = re.compile(r"item [0-9]+ (?:order ([0-9]+) )?fault ([0-9]+) [A-Za-z]+")
 TAKEN = re.compile("reply ([0-9]+) taken")
-REPLY = re.compile("reply ([0-9]+) (?:kept [0-5] [A-Za-z]+|reused|full|blocked [0-9]+)")
+LAST = re.compile("kept [0-5] [A-Za-z]+|reused|full|blocked [0-9]+")
+REPLY = re.compile(f"reply ([0-9]+) (?:{LAST.pattern})")
 # The faults of an item that say nothing of the order, but of the line or of the memory that there was for it.
 FAULTS_OF_A_LINE = ("11", "12", "13", "20")
 KINDS = {"code": (int, type(None)), "frames": int, "misses": int, "moment": (int, type(None)), "order": int,
@@ -83,7 +84,7 @@ def reported(line: str) -> Optional[Told]:
         return Trouble(line)
     if "answer" in found:
         return None
-    if not all(isinstance(found.get(key), kind) for key, kind in KINDS.items()):
+    if not all(isinstance(found.get(key), kind) for key, kind in KINDS.items()) or not LAST.fullmatch(found["reply"]):
         return Trouble(line)
     return Reported(found["order"], found["reply"], found["code"], found["moment"], found["frames"], found["misses"],
                     line)

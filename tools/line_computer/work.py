@@ -2,7 +2,6 @@
 
 from __future__ import annotations
 
-import json
 from dataclasses import dataclass
 from typing import Optional
 
@@ -38,13 +37,14 @@ class Work:
     """The orders of one bus, as its process has them."""
 
     def __init__(self, database: Database, bus: str):
+        """Take the store and the bus, whose lock the process has."""
         self.database, self.bus = database, bus
 
     def next_order(self) -> Optional[Order]:
         """Give the first order that has no end yet."""
         found = self.database.rows("select number, unit, fields, state, sent from bench_orders"
                                    f" where bus = ? and {LIVE} order by number limit 1", self.bus)
-        return Order(*found[0][:2], json.loads(found[0][2]), *found[0][3:]) if found else None
+        return Order(*found[0]) if found else None
 
     def send(self, order: Order) -> Optional[Order]:
         """Keep that an order is about to be sent, before its line is written; None where it was cancelled just now.
@@ -65,6 +65,7 @@ class Work:
             self._refuse(number, why)
 
     def _refuse(self, number: int, why: str) -> None:
+        """Refuse an order, within a transaction."""
         self.database.change("update bench_orders set state = 'refused', told = ?, ended = ?"
                              f" where number = ? and bus = ? and {LIVE}", why, now(), number, self.bus)
 
@@ -108,6 +109,7 @@ class Work:
             self._say(state)
 
     def _say(self, state: BusState) -> None:
+        """Keep what the bus says of itself, within a transaction."""
         self.database.change("update bench_states set state = ?, number = ?, frames = ?, trouble = ?, since = ?,"
                              " seen = ? where bus = ?", state.state, state.number, state.frames, state.trouble,
                              state.since, now(), self.bus)

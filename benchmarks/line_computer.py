@@ -34,20 +34,9 @@ from line_look import MANY, MOST_PAGE, MOST_STEP, Page, fill, page_seconds, step
 GTIN = "4006381333931"
 ORDERS = {1: 200, 10: 40, 50: 10}
 SLOW_ORDERS = 12
-PACE = 0.002
+PACE = 2
 # The link's words have "--" in front of the drive's, which the link in C doesn't know.
 WORDS = 'shift; exec "$0" "$@"'
-SLOW = """
-import sys, time
-sys.path[:0] = [{adapters!r}]
-import adapter, simulated_link
-bus = simulated_link.Bus([simulated_link.Unit(5)])
-def carry(digits):
-    time.sleep({pace})
-    answer = bus.carry(int(digits, 16))
-    return b"--" if answer is None else b"%02X" % answer
-sys.exit(adapter.serve(carry, sys.argv[2:]))
-"""
 
 
 class Line:
@@ -118,13 +107,13 @@ def measure_rates(place, link):
 
 def measure_kill(place):
     """Measure and print what a kill of the database costs."""
-    slow = [sys.executable, "-B", "-c", SLOW.format(adapters=str(REPOSITORY / "adapters"), pace=PACE)]
     for name, is_killed in (("no kill", False), ("a kill of the server", True)):
         with tempfile.TemporaryDirectory(dir=place) as folder:
             folder = pathlib.Path(folder)
             folder.chmod(0o755)
             with Server(folder) as server:
-                line, took = Line(folder, server.url, 10, SLOW_ORDERS, slow), []
+                line, took = Line(folder, server.url, 10, SLOW_ORDERS, None), []
+                line.bench.pace = PACE
 
                 def kill():
                     began = time.monotonic()

@@ -24,6 +24,7 @@ from driven import DONE, PATIENCE, ROOT, groups_of, load, possible_bytes, simula
 
 PROGRAM = ROOT / "line_computer"
 ADAPTER = ROOT / "adapters" / "simulated_link.py"
+SLOW = ROOT / "tests" / "line_slow.py"
 CRASHING = ROOT / "tests" / "line_crash.py"
 YEAR, WEEK = 0x13, 0x14
 # The units of a bus: two as they should be, one whose year is fixed, one whose bank 1 ends before it; 9 isn't there.
@@ -74,6 +75,7 @@ class Bench:
 
     def __init__(self, folder, store=None, buses=("bus1",)):
         self.folder, self.store, self.python = folder, store or str(folder / "orders.db"), python()
+        self.pace = 0  # milliseconds that a frame takes
         self.wanted = {}  # by the number that was answered: bus, unit, year, week
         self.processes = []
         weakref.finalize(self, end_all, self.processes)
@@ -117,7 +119,7 @@ class Bench:
         """Give the words of a bus's process, over simulated units that lose frames."""
         units = [word for unit in (*GOOD, FIXED, SHORT) for word in ("--unit", str(unit))]
         fates = ["--fixed", f"{FIXED}:{YEAR:02X}", "--lose-frame", LOSSES]
-        adapter = adapter or [ADAPTER, "--folder", bus, *units, *fates]
+        adapter = adapter or [*([SLOW, str(self.pace)] if self.pace else [ADAPTER]), "--folder", bus, *units, *fates]
         return self.words("run", "--bus", bus, "--longest-wait", "0.2", *options, "--", *adapter, crash=crash)
 
     def start(self, bus="bus1", *options, adapter=None, crash=()):

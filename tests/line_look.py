@@ -93,7 +93,8 @@ def test_the_page_shows_buses_and_orders(folder):
     with Page(bench) as page:
         text = text_of(page.get())
         for words in ("bus1 not running since", "1 to do", "1 done in 24 hours", "1 not done in these",
-                      "1 labels left", "kept 0 Done", "kept 3 Silent", "Orders by hour and end", "Frames that missed, by order"):
+                      "1 labels left", "kept 0 Done", "kept 3 Silent", "Orders by hour and end",
+                      "Frames that missed, by order"):
             assert words in text, (words, text)
         want(numbers, [1, 2])
 
@@ -107,7 +108,7 @@ def test_the_page_is_searched(folder):
         for query, wanted in {"?unit=5": {1, 3}, "?unit=9": {2}, "?gtin=4006381333931": {1}, "?gtin=96385074": {2},
                               "?gtin=00000096385074": {2}, "?number=3": {3}, "?unit=5&number=1": {1}, "?unit=63": set(),
                               "?number=99999999999999999999": set(), "?unit=%27%20or%201=1": set(),
-                              "?number=x&unit=5": {1, 3}, "": {1, 2, 3}}.items():
+                              "?number=x&unit=5": {1, 3}, "": set()}.items():
             found = set(map(int, re.findall(r'<a href="/\?number=([0-9]+)">', page.get(query))))
             want((query, found), (query, wanted))
         detail = page.get("?number=3")

@@ -13,7 +13,7 @@ import time
 
 from drive_desk import Skipped, want
 from driven import HEADER, PATIENCE, ROOT, groups_of
-from line_bench import (ABSENT, ADAPTER, FIXED, SHORT, Bench, Server, judge, processes_of, stop, wait_for)
+from line_bench import (ABSENT, ADAPTER, FIXED, SHORT, SLOW, Bench, Server, judge, processes_of, stop, wait_for)
 
 PLUGGED = ROOT / "tests" / "line_adapter.py"
 ABSENT_RECORD = bytes.fromhex("09 01 1318 4503")
@@ -71,11 +71,7 @@ def test_orders_come_while_it_runs(folder):
 def test_how_far_an_order_is(folder):
     bench = Bench(folder)
     bench.does("add", "-", given=b'[{"unit":5,"luminaire":"' + b"x" * 60 + b'"}]')
-    slow = folder / "slow.py"
-    text = PLUGGED.read_text().replace('"""Carry a frame; give its answer as the command reads it."""',
-                                       "import time; time.sleep(0.005)")
-    slow.write_text(text.replace("pathlib.Path(__file__).resolve().parent.parent", f"pathlib.Path({str(ROOT)!r})"))
-    process = bench.start(adapter=["python3", str(slow), "bus1", "5"])
+    process = bench.start(adapter=[SLOW, "5", "--folder", "bus1"])
     said = []
     wait_for(lambda: said.append(bench.rows("select frames from bench_states")[0][0]) or bench.states()[1] == "ended")
     want(stop(process), 0)

@@ -16,6 +16,7 @@ from line_bench import (ABSENT, FIXED, GOOD, LIVE, SHORT, Bench, Server, judge, 
 SEED = 20261129
 KILLS, SERVER_KILLS = 200, 60
 BUSES = ("bus1", "bus2")
+PACE = 2  # milliseconds that a frame takes, so that kills hit orders
 # What a storm kills: of a bus all processes, its own, its adapter, its drive; or a command that adds orders.
 VICTIMS = ("all", "own", "adapter", "drive", "add")
 
@@ -25,6 +26,7 @@ class Storm:
 
     def __init__(self, bench, chance, kills, server=None):
         self.bench, self.chance, self.left, self.server = bench, chance, kills, server
+        bench.pace = PACE
         self.processes, self.counts, self.labels = {}, collections.Counter(), []
 
     def keep_alive(self):
@@ -53,9 +55,10 @@ class Storm:
         self.bench.add(orders, self.chance.choice(BUSES), crash=crash)
 
     def cancel_or_take(self):
-        """Cancel the last order, which may be at work by now, or take the labels."""
+        """Cancel the last order that waits, which may be at work by now, or take the labels."""
         if self.chance.random() < 0.5:
-            number = max(self.bench.states(), default=1)
+            states = self.bench.states()
+            number = max((it for it, state in states.items() if state == "added"), default=max(states, default=1))
             ended = self.bench.give("cancel", str(number))
             assert ended.status == 0 or re.search("is at work|has ended", ended.told) or self.server, ended
             self.counts["cancelled"] += ended.status == 0
@@ -95,8 +98,9 @@ class Storm:
         stored = judge(self.bench, BUSES)
         self.labels += self.bench.does("labels", "--take")
         self.counts["orders"], self.counts["labels"] = len(stored), len(self.labels)
-        again = self.bench.rows("select count(*) from bench_orders where sends > 1 and report like '%\"before\"%'")
-        self.counts["ended before they were asked for again"] = again[0][0]
+        for name, is_so in (("sent again", "sends > 1"), ("answered from the journal", "report like '%\"before\"%'"),
+                            ("ended by a later drive", "code = 0 and frames < expected")):
+            self.counts[name] = self.bench.rows(f"select count(*) from bench_orders where {is_so}")[0][0]
         print(", ".join(f"{name} {count}" for name, count in sorted(self.counts.items())), flush=True)
 
 
@@ -104,8 +108,8 @@ def test_a_storm_over_sqlite(folder):
     storm = Storm(Bench(folder, buses=BUSES), random.Random(SEED), KILLS)
     storm.go_on()
     storm.end()
-    for victim in VICTIMS:
-        assert storm.counts[victim] > 10, storm.counts
+    for name in (*VICTIMS, "ended by a later drive"):
+        assert storm.counts[name] > 10, storm.counts
 
 
 def test_a_storm_over_postgresql(folder):

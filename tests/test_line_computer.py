@@ -21,4 +21,4 @@ import line_storm  # noqa: E402
 import suite  # noqa: E402
 
 if __name__ == "__main__":
-    sys.exit(suite.main(__doc__, (line_look, line_orders, line_process, line_service, line_storm), sys.argv[1:]))
+    sys.exit(suite.main(__doc__, (line_storm, line_process, line_look, line_orders, line_service), sys.argv[1:]))

@@ -180,7 +180,8 @@ def command(commands, act, about: str, bus: dict | None = None, has_program: boo
     name = act.__name__.removeprefix("on_")
     made = commands.add_parser(name, help=re.split("[:.]", about)[0], description=about, allow_abbrev=False)
     made.set_defaults(act=act)
-    made.add_argument("--store", default=os.environ.get(STORE, "orders.db"), help=f"the store (default: {STORE}, or orders.db)")
+    made.add_argument("--store", default=os.environ.get(STORE, "orders.db"),
+                      help=f"the store (default: {STORE}, or orders.db)")
     if bus:
         made.add_argument("--bus", metavar="B", **bus)
     if has_program:

@@ -93,8 +93,8 @@ def want_newer_store(database: Database, bus: str, folder: pathlib.Path, program
 def retire(database: Database, bus: str, folder: pathlib.Path, program: Program, has_lost_power=False) -> str:
     """Retire the journal of a bus whose drive has ended; give its name from now on.
 
-    It has to stand idle, unless all units of the bus have lost their power: then none is write-enabled. What the journal
-    has of the order at work is given up, which counts as in doubt, and no drive has to know that journal any more.
+    It has to stand idle, unless all units of the bus have lost their power: then none is write-enabled. What the
+    journal has of the order at work is given up, which counts as in doubt, and no drive is told of it any more.
     """
     if not (folder / JOURNAL).exists():
         raise Refused("the journal can't be retired: the bus has none now")

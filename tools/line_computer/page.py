@@ -147,9 +147,9 @@ def searched(query: dict) -> dict:
 
 
 def orders_part(database: Database, wanted: dict) -> str:
-    """Show the last orders, or the last of those that are searched for."""
-    where = " where " + " and ".join(f"{key} = ?" for key in wanted) if wanted else ""
-    rows = database.rows(f"select {ORDER_COLUMNS} from bench_orders{where} order by number desc limit ?",
+    """Show the last orders that were begun or ended, or the last of those that are searched for."""
+    where = " and ".join(f"{key} = ?" for key in wanted) or "state <> 'added'"
+    rows = database.rows(f"select {ORDER_COLUMNS} from bench_orders where {where} order by number desc limit ?",
                          *wanted.values(), SHOWN)
     head = "".join(f"<th{' class=n' if it[0] == '#' else ''}>{it.lstrip('#')}</th>" for it in (
         "#Order", "Bus", "#Unit", "GTIN", "End", "Sent", "Ended", "#Frames", "#Misses", "#Sends"))

@@ -144,7 +144,11 @@ def crash_points(bench, kind, first, step):
 @parts(6)
 def test_a_crash_at_each_call_of_a_bus(folder, part, count):
     kind, first = (("commit", "write", "read")[part % 3], 1 + part // 3)
-    crashes = crash_points(Bench(folder), kind, first, count // 3)
+    bench = Bench(folder)
+    crashes = crash_points(bench, kind, first, count // 3)
+    # One that had ended, and whose reply was lost with the crash, has its label.
+    known = bench.rows("select count(*) from bench_orders where code = 0 and report like '%\"before\"%'")[0][0]
+    assert known > 0 or kind == "write", (kind, known)
     print(f"crashes at a {kind}, from {first} on: {crashes}", flush=True)
     assert crashes >= {"commit": 4, "write": 1, "read": 4}[kind], (kind, crashes)
 

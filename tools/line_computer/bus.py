@@ -27,7 +27,7 @@ IDLE = 0.2  # and at the store, where there is no order
 SHORTEST_WAIT = 0.1
 RESEND = 60  # seconds behind which a line is sent again that no reply came to
 SAY = 1  # seconds between two tellings of how far an order is
-SEEN = 10  # and of a bus that has nothing to do
+SEEN = 10  # and that the process is there
 LOCKED = 2  # seconds for another process of this bus to end
 MOST_REASONS = 3
 
@@ -137,6 +137,8 @@ class BusProcess:
                 time.sleep(POLL)
                 return
             self._open_again()
+        if time.monotonic() - self.said_at > SEEN:
+            self._say()
         if self.link is None:
             self._start()
         else:
@@ -145,6 +147,11 @@ class BusProcess:
                 self._note_end()
             elif self.is_ready and self.order_waits.is_over() and time.monotonic() >= self.look_at:
                 self._go_on()
+
+    def _say(self) -> None:
+        """Have the store know how the bus stands."""
+        self.said_at = time.monotonic()
+        self.work.say(self.state)
 
     def _start(self) -> None:
         """Start adapter and drive, once the time to wait is over."""
@@ -162,7 +169,7 @@ class BusProcess:
             self._wait_to_start(why(fault))
             return
         self.state.state, self.state.number, self.state.frames = "starting", None, None
-        self.work.say(self.state)
+        self._say()
 
     def _listen(self, lines: list[str]) -> None:
         """Keep what was told, and then go by it."""
@@ -172,6 +179,7 @@ class BusProcess:
         for it in self.unkept:
             self._show(it)
         self.work.keep(self.unkept, self.state)
+        self.said_at = time.monotonic()
         told, self.unkept = self.unkept, []
         for it in told:
             self._follow(it)
@@ -239,7 +247,7 @@ class BusProcess:
         self.tell(f"{words}: started again in {seconds:.1f} s")
         self.state.state, self.state.number, self.state.frames = "waiting", None, None
         self.state.is_in(words)
-        self.work.say(self.state)
+        self._say()
 
     # Orders
 
@@ -275,22 +283,20 @@ class BusProcess:
         order = self.work.send(order)
         if order and self.link.write(order.line()):
             self.sent, self.is_taken, self.sent_at = order.number, False, time.monotonic()
-            self.said_at = self.sent_at
         elif order:
             self.order_waits.begin()
 
     def _say_how_far(self) -> None:
         """Say now and then how many frames of the order were answered."""
         if time.monotonic() - self.said_at > SAY:
-            self.state.frames, self.said_at = self.link.frames(), time.monotonic()
-            self.work.say(self.state)
+            self.state.frames = self.link.frames()
+            self._say()
 
     def _rest(self) -> None:
-        """Say now and then that the bus is there, where it has no order."""
-        if self.state.trouble or time.monotonic() - self.said_at > SEEN:
+        """Look for an order a little later, where there is none. Whatever was wrong is over."""
+        if self.state.trouble:
             self.state.is_well()
-            self.said_at = time.monotonic()
-            self.work.say(self.state)
+            self._say()
         self.look_at = time.monotonic() + IDLE
         if self.is_until_empty:
             self.is_wanted = False

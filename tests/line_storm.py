@@ -1,6 +1,7 @@
 """Tests of the line computer: whatever is killed, and whenever, each order ends once, and its label is there."""
 
 import collections
+import itertools
 import os
 import random
 import re
@@ -9,7 +10,7 @@ import subprocess
 import time
 
 from drive_desk import parts, want
-from driven import PATIENCE
+from driven import PATIENCE, ROOT
 from line_bench import (ABSENT, FIXED, GOOD, LIVE, SHORT, Bench, Server, judge, processes_of, stop, wait_for,
                         with_no_fault)
 
@@ -151,6 +152,26 @@ def test_a_crash_at_each_call_of_a_bus(folder, part, count):
     assert known > 0 or kind == "write", (kind, known)
     print(f"crashes at a {kind}, from {first} on: {crashes}", flush=True)
     assert crashes >= {"commit": 4, "write": 1, "read": 4}[kind], (kind, crashes)
+
+
+@parts(3)
+def test_a_crash_amid_the_calls_of_sqlite(folder, part, count):
+    """Before each call, of every third, with which SQLite changes its files: also amid what it commits."""
+    shim, bench, crashes = folder / "shim.so", Bench(folder), 0
+    subprocess.run(["cc", "-shared", "-fPIC", "-o", shim, ROOT / "tests" / "line_shim.c", "-ldl"], check=True)
+    for number in itertools.count(1 + part, 3 * count):
+        bench.add([(5, number % 100, 1)])
+        words = bench.run_words("bus1", "--until-empty")
+        ended = subprocess.run(words, cwd=folder, env={**os.environ, "LD_PRELOAD": str(shim), "LINE_SHIM": str(number)},
+                               capture_output=True, check=False)
+        crashes += ended.returncode == -signal.SIGKILL
+        want(bench.run(), 0)
+        judge(bench)
+        if ended.returncode == 0:
+            break
+        want((number, ended.returncode), (number, -signal.SIGKILL))
+    print(f"crashes amid the calls of SQLite, of which the last is number {number}: {crashes}", flush=True)
+    assert crashes > 3, crashes
 
 
 def test_a_crash_at_each_call_of_a_bus_over_postgresql(folder):

@@ -4,8 +4,8 @@
     line_crash.py KIND NUMBER WHEN COMMAND WORDS..
 
 KIND is `commit`, of a transaction or of a change by itself; `write` of a line to the pipe of orders, or to standard
-output; `read` of the pipe of what is told; `rename`, or `sync` of a file or a folder. It is killed by SIGKILL at the
-call of this number, counted from 1, `before` or `behind` it.
+output; `read` of the pipe of what is told; `rename`, or `sync` of a file or a folder; `label`, the making of one within
+a transaction. It is killed by SIGKILL at the call of this number, counted from 1, `before` or `behind` it.
 """
 
 import os
@@ -59,7 +59,9 @@ def main(arguments):
         self.is_inside = statement.startswith("begin") or getattr(self, "is_inside", False)
         if statement in ("commit", "rollback"):
             self.is_inside = False
-        return (calls.counted("commit", change) if is_alone else change)(self, statement, *values)
+        is_label = statement.startswith("insert into bench_labels")
+        kind = "label" if is_label else "commit" if is_alone else None
+        return (calls.counted(kind, change) if kind else change)(self, statement, *values)
 
     database.Database.change = changed
     database.Database.commit = calls.counted("commit", commit)

@@ -2,6 +2,7 @@
 
 import collections
 import itertools
+import json
 import os
 import random
 import re
@@ -145,13 +146,25 @@ def crash_points(bench, kind, first, step):
 @parts(6)
 def test_a_crash_at_each_call_of_a_bus(folder, part, count):
     kind, first = (("commit", "write", "read")[part % 3], 1 + part // 3)
-    bench = Bench(folder)
-    crashes = crash_points(bench, kind, first, count // 3)
-    # One that had ended, and whose reply was lost with the crash, has its label.
-    known = bench.rows("select count(*) from bench_orders where code = 0 and report like '%\"before\"%'")[0][0]
-    assert known > 0 or kind == "write", (kind, known)
+    crashes = crash_points(Bench(folder), kind, first, count // 3)
     print(f"crashes at a {kind}, from {first} on: {crashes}", flush=True)
     assert crashes >= {"commit": 4, "write": 1, "read": 4}[kind], (kind, crashes)
+
+
+def test_a_reply_that_a_crash_has_lost(folder):
+    """The order is done, and its end isn't in the store: answered from the journal, it has its label."""
+    bench = Bench(folder)
+    for turn, when in enumerate(("before", "behind")):
+        number, = bench.add([(5, 24 + turn, 1)])
+        want(bench.run(crash=("label", "1", when)), -signal.SIGKILL)
+        assert bench.states()[number] in ("sent", "taken"), bench.states()
+        want([group.code for group in bench.groups("bus1")], [0] * (turn + 1))
+        want(len(bench.does("labels")), turn)
+        time.sleep(1.1)  # its moment is a past one
+        want(bench.run(), 0)
+        report, sends = bench.rows(f"select report, sends from bench_orders where number = {number}")[0]
+        want((json.loads(report)["ended"], sends, len(bench.does("labels"))), ("before", 2, turn + 1))
+        judge(bench)
 
 
 @parts(3)

@@ -278,9 +278,9 @@ class Server:
         if os.geteuid() == 0:
             self.user = {"user": "postgres", "group": "postgres", "extra_groups": []}
             shutil.chown(self.folder, "postgres")
-            for path in (folder, *folder.parents):
-                if path.owner() == "root" and not path.stat().st_mode & 0o001:
-                    path.chmod(path.stat().st_mode | 0o011)
+            folder.chmod(0o711)
+            if not all(path.stat().st_mode & 0o001 for path in folder.parents):
+                raise Skipped(f"the user postgres can't come to {folder}")
         self.call("initdb", "-D", self.folder / "data", "-A", "trust", "-U", "bench", "-E", "UTF8")
         self.url = f"postgresql://bench@/postgres?host={self.folder}"
         self.process = None

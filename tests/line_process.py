@@ -102,15 +102,17 @@ def test_an_order_that_was_sent_is_not_cancelled(folder):
 
 def test_cancelling_races_with_sending(folder):
     bench = Bench(folder)
+    bench.pace = 2
     process = bench.start()
     counts = {0: 0, 1: 0}
     for year in range(12):
-        number, = bench.add([(5, year, 1)])
-        time.sleep(0.02 * (year % 5))
-        counts[bench.give("cancel", str(number)).status] += 1
-        state = wait_for(lambda: bench.states()[number] in ("ended", "cancelled") and bench.states()[number])
-        want((number, state), (number, "cancelled" if bench.groups("bus1")[-1:] == [] or
-                               bench.groups("bus1")[-1].number != number else "ended"))
+        number = bench.add([(5, year, 1), (5, year, 2), (5, year, 3)])[-1]
+        time.sleep(0.05 * (year % 6))
+        status = bench.give("cancel", str(number)).status
+        counts[status] += 1
+        wait_for(lambda: set(bench.states().values()) <= {"ended", "cancelled"})
+        want((number, bench.states()[number]), (number, "ended" if status else "cancelled"))
+        want((number, number in [group.number for group in bench.groups("bus1")]), (number, bool(status)))
     want(stop(process), 0)
     judge(bench)
     print(f"cancelled {counts[0]}, too late {counts[1]}", flush=True)

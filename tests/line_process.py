@@ -4,6 +4,7 @@ import contextlib
 import json
 import os
 import pathlib
+import random
 import shutil
 import signal
 import sqlite3
@@ -11,13 +12,14 @@ import subprocess
 import threading
 import time
 
-from drive_desk import Skipped, want
+from drive_desk import Skipped, parts, want
 from driven import HEADER, PATIENCE, ROOT, groups_of
 from line_bench import (ABSENT, ADAPTER, FIXED, SHORT, SLOW, Bench, Server, judge, processes_of, stop, wait_for)
 
 PLUGGED = ROOT / "tests" / "line_adapter.py"
 ABSENT_RECORD = bytes.fromhex("09 01 1318 4503")
 MOST_ORDERS = 100000
+SEED = 20261129
 
 
 def state_of(bench, bus="bus1"):
@@ -205,6 +207,37 @@ def test_all_processes_end_together(folder):
         with sqlite3.connect(bench.store) as connection:
             connection.execute("update bench_states set state = 'starting'")
         connection.close()
+
+
+@parts(2)
+def test_no_adapter_outlives_the_process_of_its_bus(folder, part, _):
+    """Killed at any moment of its start; in the second part by a path without setpriv, which has adapters end with it."""
+    bench, chance = Bench(folder), random.Random(SEED)
+    environment = dict(os.environ)
+    if part:
+        environment["PATH"] = str(folder / "programs")
+        (folder / "programs").mkdir()
+        for name in ("python3", "sh", "env"):
+            (folder / "programs" / name).symlink_to(f"/usr/bin/{name}")
+    for _ in range(20):
+        process = subprocess.Popen(bench.run_words("bus1"), cwd=folder, env=environment, stderr=subprocess.DEVNULL)
+        time.sleep(chance.uniform(0.1, 0.45))
+        process.kill()
+        process.wait()
+    bench.add([(5, 24, 1)])
+    want(bench.run(), 0)
+    judge(bench)
+    wait_for(lambda: not processes_in(folder))
+
+
+def processes_in(folder):
+    """Give the processes that work in a folder."""
+    found = []
+    for path in pathlib.Path("/proc").glob("[0-9]*/cwd"):
+        with contextlib.suppress(OSError):
+            if os.readlink(path) == str(folder) and not has_ended(int(path.parent.name)):
+                found.append(path.parent.name)
+    return found
 
 
 def test_a_folder_is_of_one_bus(folder):

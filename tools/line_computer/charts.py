@@ -6,7 +6,7 @@ import time
 from html import escape
 from typing import NamedTuple
 
-# The ends of an order as a picture stacks them, each with its class: done, nothing written, in doubt, not taken.
+# The ends of an order, in the order of their codes and of a picture's stacks, each with its class.
 ENDS = {"Done": "done", "Short": "short", "Format": "format", "Silent": "silent", "Doubt": "doubt",
         "DoubtOpen": "open", "refused": "refused", "reused": "reused"}
 HOURS = 24

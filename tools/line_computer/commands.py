@@ -17,11 +17,10 @@ from .bus import BusProcess
 from .database import STORE, Database, StoreLost
 from .faults import Failed, Refused, plain, why
 from .program import Program
-from .schema import MIGRATIONS, MOST_NUMBER
+from .schema import MIGRATIONS, MOST_NUMBER, STATES
 from .work import Work
 
 ROOT = pathlib.Path(__file__).resolve().parent.parent.parent
-STATES = ("added", "sent", "taken", "blocked", "full", *schema.ENDED)
 LONGEST_WAIT = 30.0
 ABOUT = """Bring orders to the drives of a bench's buses, one at a time, and their ends and labels back.
 
@@ -258,6 +257,8 @@ def main(arguments: list[str]) -> int:
         return told(fault)
     except OSError as fault:
         return told(Failed(why(fault)))
+    except KeyboardInterrupt:
+        return 130
     return 0
 
 

@@ -8,7 +8,7 @@ from typing import NamedTuple, Optional
 
 from .database import Database
 from .faults import Refused
-from .schema import MOST_NUMBER
+from .schema import AT_WORK, MOST_NUMBER
 
 # So many rows a statement: an older SQLite takes at most 999 values.
 ROWS = 90
@@ -117,7 +117,7 @@ def cancel(database: Database, number: int) -> None:
     if not found:
         raise Refused(f"there is no order {number}")
     state, told = found[0]
-    if state in ("sent", "taken", "blocked", "full"):
+    if state in AT_WORK:
         raise Refused(f"order {number} is at work: it was sent, and is carried out or told as ended")
     if state != "cancelled":
         raise Refused(f"order {number} has ended: {told or state}")

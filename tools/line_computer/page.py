@@ -17,7 +17,6 @@ from .schema import LIVE, MOST_NUMBER
 # A bus that said nothing for so long has no process.
 SILENT = 60
 SHOWN = 50
-CODES = ("Done", "Short", "Format", "Silent", "Doubt", "DoubtOpen")
 SEARCHED = {"number": "Order", "unit": "Unit", "gtin": "GTIN"}
 ORDER_COLUMNS = "number, bus, unit, gtin, state, code, told, sent, ended, frames, expected, misses, sends"
 STYLE = """
@@ -98,7 +97,7 @@ def hours_of(database: Database, last: int) -> list[Hour]:
             "select ended / 3600, state, code, count(*) from bench_orders where ended / 3600 > ? and ended / 3600 <= ?"
             " group by ended / 3600, state, code", last - HOURS, last):
         if state != "cancelled":
-            found.setdefault(hour, {})[state if code is None else CODES[code]] = count
+            found.setdefault(hour, {})[state if code is None else tuple(ENDS)[code]] = count
     return [Hour(hour, counts) for hour, counts in found.items()]
 
 

@@ -12,9 +12,12 @@ BUS = re.compile("[A-Za-z0-9][A-Za-z0-9_-]{0,31}")
 # A number up to this one is read exactly by whatever reads JSON.
 MOST_NUMBER = 2**53 - 1
 
-# How an order may stand that has no end yet. The index names these too: a query that does so with these words uses it.
-LIVE = "state in ('added', 'sent', 'taken', 'blocked', 'full')"
-ENDED = ("ended", "refused", "reused", "cancelled")
+# How an order may stand: a drive may have it once its line was sent.
+AT_WORK = ("sent", "taken", "blocked", "full")
+STATES = ("added", *AT_WORK, "ended", "refused", "reused", "cancelled")
+SENT = f"state in {AT_WORK}"
+# Of those that have no end yet there is an index, which a query uses that says so with these words.
+LIVE = f"state in {('added', *AT_WORK)}"
 
 FIRST = f"""
 create table bench_store (
@@ -55,8 +58,7 @@ create table bench_orders (
     fields    text not null,
     gtin      text,
     expected  bigint,
-    state     text not null check (state in ('added', 'sent', 'taken', 'blocked', 'full',
-                                             'ended', 'refused', 'reused', 'cancelled')),
+    state     text not null check (state in {STATES}),
     code      integer,
     added     bigint not null,
     sent      bigint,

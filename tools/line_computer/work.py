@@ -7,11 +7,8 @@ from typing import Optional
 
 from .database import Database
 from .orders import Order, now
-from .schema import LIVE
+from .schema import LIVE, SENT
 from .told import Ready, Reported, Taken, Told, Unaccepted
-
-# Orders that a drive may have: their lines were sent.
-SENT = "state in ('sent', 'taken', 'blocked', 'full')"
 
 
 @dataclass

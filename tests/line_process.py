@@ -211,7 +211,7 @@ def test_all_processes_end_together(folder):
 
 @parts(2)
 def test_no_adapter_outlives_the_process_of_its_bus(folder, part, _):
-    """Killed at any moment of its start; in the second part by a path without setpriv, which has adapters end with it."""
+    """Killed at any moment of its start; in the second part without setpriv, which has adapters end with it."""
     bench, chance = Bench(folder), random.Random(SEED)
     environment = dict(os.environ)
     if part:

@@ -89,7 +89,7 @@ class Storm:
             if process.pid in chosen:
                 process.wait()
         self.counts[victim] += 1
-        self.left -= 1
+        self.left -= victim != "add"
 
     def end(self):
         """Have all orders end in quiet, and judge."""

@@ -282,6 +282,19 @@ def test_what_ends_is_started_again_and_says_why(folder):
     judge(bench)
 
 
+def test_an_adapter_that_says_too_much(folder):
+    """Without end, and without a line's end: the process goes on, and ends when it is asked to."""
+    bench = Bench(folder)
+    for words in ("yes 'error: the same' >&2", "yes | tr -d '\\n' >&2"):
+        process = bench.start(adapter=["sh", "-c", words])
+        wait_for(lambda: state_of(bench)[0] == "starting")
+        time.sleep(1)
+        with open(f"/proc/{process.pid}/statm", encoding="ascii") as file:
+            resident = int(file.read().split()[1]) * os.sysconf("SC_PAGE_SIZE")
+        want((words, stop(process), resident < 2**26), (words, 0, True))
+    want(bench.log().count("error: the same"), 1)
+
+
 def test_waiting_grows(folder):
     bench = Bench(folder)
     words = [word for word in bench.run_words("bus1", adapter=["false"])]

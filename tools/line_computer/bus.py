@@ -223,8 +223,9 @@ class BusProcess:
 
     def _note(self, line: str) -> None:
         """Note words that may say why adapter and drive end."""
-        self.reasons = [*self.reasons, plain(line)][-MOST_REASONS:]
-        self.tell(line)
+        if plain(line) not in self.reasons[-1:]:
+            self.reasons = [*self.reasons, plain(line)][-MOST_REASONS:]
+            self.tell(line)
 
     def _note_end(self) -> None:
         """Note that adapter and drive have ended, and why."""

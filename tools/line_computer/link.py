@@ -73,15 +73,16 @@ class Link:
         """Wait so long for something to be told; give its whole lines."""
         if not self.is_told and select.select([self.told], [], [], seconds)[0]:
             self._take()
-        *whole, self.rest = self.rest.split(b"\n")
+        *whole, rest = self.rest.split(b"\n")
+        self.rest = rest[-PIECE:]  # no line of ours is as long
         return [line.decode("ascii", "backslashreplace").rstrip("\r") for line in whole]
 
     def _take(self) -> None:
-        """Take what was told so far, and note where all who tell are gone."""
+        """Take what was told so far, as much as the pipe holds, and note where all who tell are gone."""
         with contextlib.suppress(BlockingIOError):
-            while piece := os.read(self.told, PIECE):
-                self.rest += piece
-            self.is_told = True
+            piece = os.read(self.told, PIECE)
+            self.rest += piece
+            self.is_told = not piece
 
     def write(self, line: bytes) -> bool:
         """Write the line of an order, in one write; tell whether it was taken."""

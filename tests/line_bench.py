@@ -20,7 +20,7 @@ import weakref
 from typing import NamedTuple
 
 from drive_desk import Skipped, settings, want
-from driven import DONE, PATIENCE, ROOT, groups_of, load, possible_bytes, simulated_link
+from driven import DONE, PATIENCE, ROOT, groups_of, possible_bytes, simulated_link
 
 PROGRAM = ROOT / "line_computer"
 ADAPTER = ROOT / "adapters" / "simulated_link.py"
@@ -293,7 +293,7 @@ class Server:
         """Start it, and wait until it answers."""
         (self.folder / "data" / "postmaster.pid").unlink(missing_ok=True)
         words = [self.programs / "postgres", "-D", self.folder / "data", "-k", self.folder, "-c", "listen_addresses=",
-                 "-c", "max_connections=200"]
+                 "-c", "max_connections=200", "-c", "dynamic_shared_memory_type=mmap"]
         self.process = subprocess.Popen(words, cwd="/", start_new_session=True, stdin=subprocess.DEVNULL,
                                         stdout=subprocess.DEVNULL, stderr=subprocess.DEVNULL, **self.user)
         ask = ["psql", "-X", "-c", "select 1", self.url]
@@ -328,7 +328,12 @@ class Server:
         return self
 
     def __exit__(self, *_):
-        self.kill()
+        """End it in peace, which leaves nothing in the system's memory."""
+        self.process.send_signal(signal.SIGINT)
+        try:
+            self.process.wait(PATIENCE)
+        except subprocess.TimeoutExpired:
+            self.kill()
 
 
 def with_no_fault(call, *arguments):
@@ -337,6 +342,3 @@ def with_no_fault(call, *arguments):
         call(*arguments)
     except ProcessLookupError:
         pass
-
-
-line_computer = load(ROOT / "tools" / "line_computer" / "__init__.py")

@@ -36,10 +36,10 @@ def commands(page):
     return [(text, told if kind == "text" else "") for (name, text), (kind, told) in pairs if name == "sh"]
 
 
-def run_commands(page, folder):
-    """Run the commands of a page in a folder, and raise unless each prints what is said."""
+def run_commands(page, folder, least=11):
+    """Run the commands of a page in a folder, so many blocks at least; raise unless each prints what is said."""
     shown = commands(page.read_text(encoding="utf-8"))
-    assert len(shown) > 10, shown
+    assert len(shown) >= least, shown
     for text, told in shown:
         how = {"stdin": subprocess.DEVNULL, "stdout": subprocess.PIPE, "stderr": subprocess.STDOUT, "text": True}
         ended = subprocess.run(["sh", "-c", text], cwd=folder, timeout=120, **how)

@@ -3,9 +3,10 @@
 
     test_line.py PROGRAM [FOLDER]
 
-It brings over 200 orders to one bus, over the service of service/dali-bench@.service, while adapter and drive are
-killed, the interface is unplugged, units have no power, the pipe is full, and the line computer itself is killed. FOLDER
-is as of test_drive.py. The last line is `N passed, M failed`, and the status is 0 only where none failed.
+It brings over 200 orders to one bus, over the service of service/dali-bench-pipe@.service, while adapter and
+drive are killed, the interface is unplugged, units have no power, the pipe is full, and the line computer itself is
+killed. FOLDER is as of test_drive.py. The last line is `N passed, M failed`, and the status is 0 only where none
+failed.
 """
 
 import collections

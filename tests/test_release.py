@@ -253,10 +253,23 @@ def test_archive_is_enough_for_the_bench(folder):
     top = unpacked(folder)
     run_commands(top / "docs/BENCH.md", top)
     # What a service is installed from, and what it starts.
-    text = "".join((top / name).read_text() for name in ("docs/BENCH.md", "service/dali-bench@.service"))
+    text = "".join((top / name).read_text() for name in ("docs/BENCH.md", "docs/LINE_COMPUTER.md")) + "".join(
+        path.read_text() for path in (top / "service").iterdir())
     named = set(re.findall(r"/opt/dali-bench/([\w./@-]+)", text))
-    assert {"dali_bench", "service/dali-bench@.service", "service/bus1.env"} <= named, named
+    services = {"service/dali-bench@.service", "service/bus1.env", "service/dali-bench-pipe@.service",
+                "service/bus1-pipe.env", "service/dali-bench-page.service"}
+    assert {"dali_bench", "line_computer", *services} <= named, named
     want([name for name in named if not (top / name).is_file()], [])
+
+
+def test_archive_has_the_line_computer(folder):
+    top = unpacked(folder)
+    words = [top / "line_computer", "init", "--store", folder / "orders.db", "--bus", "bus1"]
+    want(run(words), (0, "store of version 1\nbus bus1\n", ""))
+    orders = folder / "orders.csv"
+    orders.write_text("unit,year\n5,24\n")
+    added = (0, "item 1 order 1\nadded 1 known 0\n", "")
+    want(run([top / "line_computer", "add", "--store", folder / "orders.db", orders], cwd="/"), added)
 
 
 def test_archive_tells_a_limit_on_the_length_of_files(folder):

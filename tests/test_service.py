@@ -1,5 +1,5 @@
 #!/usr/bin/env python3
-"""Test service/dali-bench@.service: play systemd for it, with simulated units, line computers and kills.
+"""Test service/dali-bench-pipe@.service: play systemd for it, with simulated units, line computers and kills.
 
     test_service.py PROGRAM [FOLDER]
 
@@ -28,8 +28,8 @@ import suite  # noqa: E402
 from drive_desk import Skipped, settings, want  # noqa: E402
 from driven import PATIENCE, ROOT, simulated_link  # noqa: E402
 
-UNIT = ROOT / "service" / "dali-bench@.service"
-EXAMPLE = ROOT / "service" / "bus1.env"
+UNIT = ROOT / "service" / "dali-bench-pipe@.service"
+EXAMPLE = ROOT / "service" / "bus1-pipe.env"
 PROGRAMS, VARIABLES, STATES = "/opt/dali-bench", "/etc/dali-bench", "/var/lib"
 # In the place of RestartSec, so that the test takes seconds.
 PAUSE = 0.05

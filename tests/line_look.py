@@ -1,0 +1,244 @@
+"""Tests of the line computer's page: what it shows, that it changes nothing, and how long it takes."""
+
+import html
+import http.client
+import json
+import os
+import random
+import re
+import shutil
+import signal
+import sqlite3
+import subprocess
+import time
+import urllib.error
+import urllib.request
+
+from drive_desk import Skipped, want
+from driven import ROOT
+from line_bench import ABSENT, Bench, Server, wait_for
+
+MANY = 100000
+MOST_PAGE, MOST_STEP = 0.2, 0.005
+NASTY = "<script>alert('\"&')</script>"
+CODES = (0,) * 60 + (1, 2, 3, 3, 4, 5)
+NAMES = ("Done", "Short", "Format", "Silent", "Doubt", "DoubtOpen")
+
+
+class Page:
+    """The page of a bench, served as long as this is entered."""
+
+    def __init__(self, bench, listen="127.0.0.1:0"):
+        self.process = subprocess.Popen(bench.words("page", "--listen", listen), cwd=bench.folder,
+                                        stdout=subprocess.PIPE, text=True)
+        self.url = self.process.stdout.readline().strip()
+
+    def get(self, query=""):
+        """Give the page's text."""
+        with urllib.request.urlopen(self.url + query, timeout=20) as answer:
+            return answer.read().decode()
+
+    def __enter__(self):
+        return self
+
+    def __exit__(self, *_):
+        self.process.send_signal(signal.SIGTERM)
+        want(self.process.wait(20), 0)
+        self.process.stdout.close()
+
+
+def text_of(page):
+    """Give the words of a page, with a blank between two elements."""
+    return re.sub(r"\s+", " ", html.unescape(re.sub("<[^>]*>", " ", page)))
+
+
+def fill(bench, count, buses):
+    """Put orders of the last two days into a store of SQLite, as they stand behind their ends; the last are to do."""
+    chance, now = random.Random(7), int(time.time())
+    rows, labels = [], []
+    for number in range(1, count + 1):
+        is_left = number > count - 20
+        code = None if is_left else chance.choice(CODES)
+        ended = None if is_left else now - (count - number) * 172800 // count
+        bus = chance.choice(buses)
+        misses = int(chance.expovariate(1 / (1 + 30 * number / count if bus == buses[-1] else 1)))
+        rows.append((number, bus, number % 64, json.dumps({"gtin": f"{number:013}"}), f"{number:014}", 112,
+                     "added" if is_left else "ended", code, now - 172800, ended and ended - 5, ended,
+                     0 if is_left else 1, None if is_left else f"kept {code} {NAMES[code]}",
+                     None if is_left else 112 + 7 * misses, None if is_left else misses))
+        labels += [(number, ended)] if code == 0 else []
+    with sqlite3.connect(bench.store) as connection:
+        connection.executemany(
+            "insert into bench_orders (number, bus, unit, fields, gtin, expected, state, code, added, sent, ended,"
+            f" sends, told, frames, misses) values ({', '.join('?' * 15)})", rows)
+        connection.executemany("insert into bench_labels (number, made) values (?, ?)", labels)
+        connection.execute("update bench_store set following = ?", (count + 1,))
+    connection.close()
+
+
+def told_by_browser(url, *words):
+    """Have a browser load a page, and give what it prints."""
+    name = shutil.which("chromium") or shutil.which("chromium-browser") or shutil.which("google-chrome")
+    if not name:
+        raise Skipped("chromium isn't installed (Debian: chromium)")
+    profile = ["--headless", "--no-sandbox", "--disable-gpu", "--disable-dev-shm-usage", "--no-first-run"]
+    return subprocess.run([name, *profile, *words, url], capture_output=True, timeout=60, check=False).stdout.decode()
+
+
+def test_the_page_shows_buses_and_orders(folder):
+    bench = Bench(folder, buses=("bus1", "bus2"))
+    numbers = bench.add([(5, 24, 1), (ABSENT, 24, 1)])
+    want(bench.run(), 0)
+    bench.add([(5, 25, 1)], "bus2")
+    with Page(bench) as page:
+        text = text_of(page.get())
+        for words in ("bus1 not running since", "1 to do", "1 done in 24 hours", "1 not done in these",
+                      "1 labels left", "kept 0 Done", "kept 3 Silent", "Orders by hour and end",
+                      "Frames that missed, by order"):
+            assert words in text, (words, text)
+        want(numbers, [1, 2])
+
+
+def test_the_page_is_searched(folder):
+    bench = Bench(folder)
+    given = json.dumps([{"unit": 5, "gtin": "4006381333931"}, {"order": 7, "unit": 9, "gtin": "96385074"},
+                        {"unit": 5, "year": 24, "luminaire": NASTY}])
+    bench.does("add", "-", given=given.encode())
+    with Page(bench) as page:
+        for query, wanted in {"?unit=5": {1, 3}, "?unit=9": {2}, "?gtin=4006381333931": {1}, "?gtin=96385074": {2},
+                              "?gtin=00000096385074": {2}, "?number=3": {3}, "?unit=5&number=1": {1}, "?unit=63": set(),
+                              "?number=99999999999999999999": set(), "?unit=%27%20or%201=1": set(),
+                              "?number=x&unit=5": {1, 3}, "": set()}.items():
+            found = set(map(int, re.findall(r'<a href="/\?number=([0-9]+)">', page.get(query))))
+            want((query, found), (query, wanted))
+        detail = page.get("?number=3")
+        assert html.escape(NASTY) in detail and "<script" not in detail, detail
+        assert "reference 7" in text_of(page.get("?number=2"))
+        nasty = urllib.request.quote(NASTY)
+        assert "<script" not in page.get(f"?number={nasty}"), "a search isn't escaped"
+
+
+def test_the_page_changes_nothing(folder):
+    bench = Bench(folder)
+    bench.add([(5, 24, 1)])
+    before = bench.rows("select * from bench_orders"), bench.rows("select * from bench_states")
+    with Page(bench) as page:
+        host = page.url.split("/")[2]
+        statuses = {"GET /": 200, "HEAD /": 200, "GET /style.css": 200, "GET /other": 404, "GET /../orders.db": 404,
+                    "POST /": 501, "PUT /": 501, "DELETE /": 501}
+        for request, status in statuses.items():
+            connection = http.client.HTTPConnection(host, timeout=20)
+            connection.request(*request.split(), body=b"" if request[0] in "PD" else None)
+            answer = connection.getresponse()
+            want((request, answer.status), (request, status))
+            if status == 200:
+                policy = answer.getheader("Content-Security-Policy")
+                assert "default-src 'none'" in policy and "script" not in policy, policy
+                assert answer.getheader("X-Content-Type-Options") == "nosniff"
+            want((request, answer.read() == b""), (request, request.startswith("HEAD")))
+            connection.close()
+        text = page.get()
+        want(re.findall("<script|javascript:|https?://| on[a-z]+=", text), [])
+        # Nobody but this computer reaches it.
+        port = int(host.rsplit(":", 1)[1])
+        listening = subprocess.run(["ss", "-Hltn"], capture_output=True, text=True, check=False).stdout
+        found = [it.split()[3] for it in listening.splitlines() if it.split()[3].endswith(f":{port}")]
+        assert not listening or found == [f"127.0.0.1:{port}"], listening
+    want((bench.rows("select * from bench_orders"), bench.rows("select * from bench_states")), before)
+
+
+def test_the_page_tells_a_store_that_is_gone(folder):
+    bench = Bench(folder)
+    with Page(bench) as page:
+        os.rename(bench.store, folder / "away.db")
+        try:
+            page.get()
+            raise AssertionError("there is a page without a store")
+        except urllib.error.HTTPError as fault:
+            want((fault.code, "The store can" in fault.read().decode()), (503, True))
+        os.rename(folder / "away.db", bench.store)
+        assert "Buses" in page.get()
+
+
+# An order's steps in the store: which is next, that it is sent, that it is taken, that it has ended with its label.
+STEP = """
+import sys, time
+sys.dont_write_bytecode = True
+sys.path.insert(0, sys.argv[1])
+from line_computer import schema, told, work
+database = schema.open_store(sys.argv[2])
+bus, times = work.Work(database, "bus1"), []
+for _ in range(5):
+    began = time.perf_counter()
+    order = bus.send(bus.next_order())
+    bus.keep([told.Taken(order.number)], work.BusState("ready", order.number))
+    bus.keep([told.Reported(order.number, "kept 0 Done", 0, order.sent, 112, 0, "{}")], work.BusState("ready"))
+    times.append(time.perf_counter() - began)
+print(min(times))
+"""
+
+
+def page_seconds(page):
+    """Measure the page and searches; give the least seconds of each."""
+    found = {}
+    for query in ("", "?unit=5", "?gtin=77777", "?number=500", "?number=99999&unit=31"):
+        times = []
+        for _ in range(5):
+            began = time.perf_counter()
+            page.get(query)
+            times.append(time.perf_counter() - began)
+        found[query] = min(times)
+    return found
+
+
+def step_seconds(bench):
+    """Measure the steps of orders that are to do; give the least seconds."""
+    words = [bench.python, "-c", STEP, ROOT / "tools", bench.store]
+    return float(subprocess.run(words, capture_output=True, check=True, text=True).stdout)
+
+
+def test_a_hundred_thousand_orders(folder):
+    bench = Bench(folder, buses=("bus1", "bus2"))
+    fill(bench, MANY, ("bus1", "bus2"))
+    with Page(bench) as page:
+        pages = page_seconds(page)
+    step = step_seconds(bench)
+    print(f"a page of {MANY} orders: {1000 * max(pages.values()):.0f} ms, a step: {1000 * step:.1f} ms", flush=True)
+    assert max(pages.values()) < MOST_PAGE and step < MOST_STEP, (pages, step)
+
+
+def test_a_browser_shows_the_page(folder):
+    bench = Bench(folder, buses=("bus1", "bus2"))
+    fill(bench, 500, ("bus1", "bus2"))
+    with Page(bench) as page:
+        text = text_of(told_by_browser(page.url, "--dump-dom"))
+        for words in ("Line computer", "bus1 not running", "20 to do", "Orders by hour and end", "kept 0 Done",
+                      "Frames that missed, by order"):
+            assert words in text, (words, text)
+        picture = folder / "page.png"
+        told_by_browser(page.url, f"--screenshot={picture}", "--window-size=1100,1600")
+        want(picture.read_bytes()[:8], b"\x89PNG\r\n\x1a\n")
+
+
+def test_the_page_over_postgresql(folder):
+    with Server(folder) as server:
+        bench = Bench(folder, server.url)
+        bench.add([(5, 24, 1), (ABSENT, 24, 2)])
+        want(bench.run(), 0)
+        with Page(bench) as page:
+            text = text_of(page.get("?unit=5"))
+            assert "kept 0 Done" in text and "kept 3 Silent" not in text, text
+            server.kill()
+            code = wait_for(lambda: status_of(page))
+            want(code, 503)
+            server.start()
+            assert wait_for(lambda: status_of(page) == 200)
+
+
+def status_of(page):
+    """Give the status of the page."""
+    try:
+        page.get()
+        return 200
+    except urllib.error.HTTPError as fault:
+        return fault.code

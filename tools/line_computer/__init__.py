@@ -1,0 +1,7 @@
+"""The line computer: orders in a database, brought to the drives of a bench's buses, with their ends and labels back.
+
+docs/LINE_COMPUTER.md says how it is used and what is promised. What must not be lost is in the store (`database`,
+`schema`, `orders`, `labels`, `work`) and in each bus's journal (`journals`); `bus` is the process of a bus, over its
+`link`; `told` reads what a drive tells, `program` asks dali_bench; `page` shows all of it; `commands` is the command
+line.
+"""

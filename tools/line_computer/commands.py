@@ -1,0 +1,272 @@
+"""The command line of the line computer."""
+
+from __future__ import annotations
+
+import argparse
+import contextlib
+import os
+import pathlib
+import re
+import signal
+import sys
+import time
+from typing import Iterable
+
+from . import incoming, journals, labels, orders, page, schema, server
+from .bus import BusProcess
+from .database import STORE, Database, StoreLost
+from .faults import Failed, Refused, plain, why
+from .program import Program
+from .schema import MIGRATIONS, MOST_NUMBER, STATES
+from .work import Work
+
+ROOT = pathlib.Path(__file__).resolve().parent.parent.parent
+LONGEST_WAIT = 30.0
+ABOUT = """Bring orders to the drives of a bench's buses, one at a time, and their ends and labels back.
+
+STORE is the file of an SQLite database (default: orders.db), or postgresql://USER@HOST/DATABASE, which needs psycopg2;
+the variable LINE_COMPUTER_STORE names it where --store doesn't. docs/LINE_COMPUTER.md tells how all of it is used.
+
+Status 0: it was done. Status 1: something is refused, as an order that `dali_bench check` refuses, or a wrong command
+line. Status 2: the store, a file, dali_bench or the output fails."""
+
+
+class Parser(argparse.ArgumentParser):
+    """A parser that tells a wrong command line as dali_bench does."""
+
+    def error(self, message):
+        """Tell what is wrong, and end with status 1."""
+        self.exit(1, f"error: {plain(message)}\n{self.format_usage()}")
+
+
+def write(lines: Iterable[str]) -> None:
+    """Write lines to standard output, all of them before this returns."""
+    left = memoryview("".join(f"{line}\n" for line in lines).encode())
+    try:
+        while left:
+            left = left[os.write(1, left):]
+    except OSError as fault:
+        raise Failed("" if isinstance(fault, BrokenPipeError) else
+                     f"the output can't be written: {fault.strerror}") from fault
+
+
+def on_init(options) -> None:
+    """Make the store and its buses."""
+    schema.init(options.store, options.bus or [], options.first)
+    write([f"store of version {len(MIGRATIONS)}", *(f"bus {bus}" for bus in options.bus or [])])
+
+
+def on_add(options) -> None:
+    """Add the orders of a file: all of them or none."""
+    database = schema.open_store(options.store)
+    bus = schema.bus_meant(database, options.bus)
+    items = incoming.items_of(incoming.read(options.file), options.latin_1, Program(options.program))
+    given = orders.add(database, bus, items)
+    new = sum(is_new for _, is_new in given)
+    lines = [f"item {at} order {number}" + ("" if is_new else " known") for at, (number, is_new) in enumerate(given, 1)]
+    write([*lines, f"added {new} known {len(given) - new}"])
+
+
+def on_run(options) -> None:
+    """Be the process of a bus until SIGTERM, or an interrupt from the keyboard."""
+    folder = pathlib.Path(options.folder or options.bus)
+    process = BusProcess(options.store, options.bus, folder, options.adapter, Program(options.program),
+                         options.longest_wait)
+    process.is_until_empty = options.until_empty
+    for number in (signal.SIGTERM, signal.SIGINT):
+        signal.signal(number, lambda *_: setattr(process, "is_wanted", False))
+    process.open()
+    process.run()
+
+
+def on_status(options) -> None:
+    """Tell how the buses stand, and how many orders and labels there are."""
+    database = schema.open_store(options.store)
+    lines = [f"bus {bus} {page.standing(*rest)}" for bus, *rest in page.bus_rows(database)]
+    counts = dict(database.rows("select state, count(*) from bench_orders group by state"))
+    done = database.rows("select count(*) from bench_orders where state = 'ended' and code = 0")[0][0]
+    left = database.rows("select count(*) from bench_labels where taken is null")[0][0]
+    write([*lines, "orders " + " ".join(f"{state} {counts.get(state, 0)}" for state in STATES), f"done {done}",
+           f"labels left {left}"])
+
+
+def on_orders(options) -> None:
+    """List the orders."""
+    write(orders.listed(schema.open_store(options.store), options.state))
+
+
+def on_cancel(options) -> None:
+    """Cancel an order that wasn't sent."""
+    orders.cancel(schema.open_store(options.store), options.number)
+    write([f"order {options.number} cancelled"])
+
+
+def on_labels(options) -> None:
+    """Write the labels that nobody has taken."""
+    database = schema.open_store(options.store)
+    if options.take:
+        labels.take(database, write)
+    else:
+        write(labels.left(database))
+
+
+def on_retire(options) -> None:
+    """Retire the journal of a bus: here, or by its process once the order at work has ended."""
+    database = schema.open_store(options.store)
+    number = schema.number_of_bus(database, options.bus)
+    database.change("update bench_buses set retire = ?, answer = null where bus = ?", int(not options.power_was_taken),
+                    options.bus)
+    while True:
+        answer, folder = database.rows("select answer, folder from bench_buses where bus = ?", options.bus)[0]
+        if answer is None and database.lock(options.bus, number):
+            answer = retire_here(database, options, folder)
+        if answer is not None:
+            break
+        if options.power_was_taken:
+            raise Refused(f"the bus {options.bus} has a process: end its `run` first")
+        time.sleep(0.1)
+    if not answer.startswith("retired "):
+        raise Refused(answer)
+    write([answer])
+
+
+def retire_here(database: Database, options, name: str | None) -> str:
+    """Retire the journal of a bus that has no process now, in the folder of this name; give what became of it."""
+    bus, folder, program = options.bus, pathlib.Path(name or ""), Program(options.program)
+    try:
+        if name is None:
+            raise Refused("the journal can't be retired: the bus has none now")
+        with journals.claim(database, bus, folder):
+            journals.recover(database, bus, folder)
+            return f"retired {journals.retire(database, bus, folder, program, options.power_was_taken)}"
+    except StoreLost:
+        raise
+    except (Refused, Failed, OSError) as fault:
+        Work(database, bus).refuse_retire(why(fault))
+        return why(fault)
+
+
+def on_page(options) -> None:
+    """Serve the page until an interrupt."""
+    host, _, port = options.listen.rpartition(":")
+    if not host or not re.fullmatch("[0-9]{1,5}", port) or int(port) > 65535:
+        raise Refused(f"--listen takes HOST:PORT, as 127.0.0.1:8080, and not {options.listen}")
+    schema.open_store(options.store).close()
+    for number in (signal.SIGTERM, signal.SIGINT):
+        signal.signal(number, lambda *_: sys.exit(0))
+    try:
+        server.serve(options.store, host.strip("[]"), int(port), lambda url: write([url]))
+    except OSError as fault:
+        raise Failed(f"{options.listen}: {fault.strerror or fault}") from fault
+
+
+def number_of(text: str) -> int:
+    """Read a number of an order."""
+    if not re.fullmatch("[0-9]{1,16}", text) or int(text) > MOST_NUMBER:
+        raise argparse.ArgumentTypeError(f"{text!r} is no whole number up to {MOST_NUMBER}")
+    return int(text)
+
+
+def seconds_of(text: str) -> float:
+    """Read a number of seconds."""
+    if not re.fullmatch(r"[0-9]{1,6}(\.[0-9]+)?", text):
+        raise argparse.ArgumentTypeError(f"{text!r} is no number of seconds")
+    return float(text)
+
+
+def command(commands, act, about: str, bus: dict | None = None, has_program: bool = False) -> Parser:
+    """Make a command, with the options that several have. Its help begins with what stands before a colon or a dot."""
+    name = act.__name__.removeprefix("on_")
+    made = commands.add_parser(name, help=re.split("[:.]", about)[0], description=about, allow_abbrev=False)
+    made.set_defaults(act=act)
+    made.add_argument("--store", default=os.environ.get(STORE, "orders.db"),
+                      help=f"the store (default: {STORE}, or orders.db)")
+    if bus:
+        made.add_argument("--bus", metavar="B", **bus)
+    if has_program:
+        made.add_argument("--program", metavar="PATH", default=str(ROOT / "dali_bench"),
+                          help="dali_bench (default: the one that this belongs to)")
+    return made
+
+
+def make_order_commands(commands) -> None:
+    """Make the commands that are about orders and labels."""
+    made = command(commands, on_init, "Make the store, or bring an older one up to this version, and make its buses."
+                   " What is there stays.", {"action": "append", "help": "a bus of this name; may be given again"})
+    made.add_argument("--first", metavar="N", type=number_of, default=1, help="give no order a number below N")
+    made = command(commands, on_add, "Add the orders of FILE: all of them or none. FILE is JSON, as `dali_bench check`"
+                   " takes it, or a table, as `orders_from_csv` takes it; - is standard input. `order` may be left out:"
+                   " the store gives each order a number of its own, which is printed. Where it is there, an order that"
+                   " the bus knows by it is the same one, and isn't added again.",
+                   {"help": "the bus that they are for; may be left out where there is only one"}, True)
+    made.add_argument("--latin-1", action="store_true", help="the table is in Latin-1")
+    made.add_argument("file", metavar="FILE")
+    made = command(commands, on_orders, "List the orders: a line each, by their numbers.")
+    made.add_argument("--state", choices=STATES, metavar="S", help=f"those alone that are {', '.join(STATES)}")
+    made = command(commands, on_cancel, "Cancel an order that wasn't sent to a drive.")
+    made.add_argument("number", metavar="N", type=number_of)
+    made = command(commands, on_labels, "Print the labels that nobody has taken: a line of JSON each, with the order's"
+                   " fields.")
+    made.add_argument("--take", action="store_true", help="have them taken, so that they aren't printed again")
+
+
+def make_bus_commands(commands) -> None:
+    """Make the commands that are about buses."""
+    bus = {"required": True, "help": "the bus"}
+    made = command(commands, on_run, "Carry out the orders of a bus, as they come: start ADAPTER with its words and a"
+                   " drive, and both again where they end.", bus, True)
+    made.usage = "line_computer run [options] --bus B -- ADAPTER [WORDS..]"
+    made.add_argument("--folder", metavar="F", help="where the journal of the bus stands (default: B, in this folder)")
+    made.add_argument("--until-empty", action="store_true", help="end once no order of the bus is left")
+    made.add_argument("--longest-wait", metavar="SECONDS", type=seconds_of, default=LONGEST_WAIT,
+                      help="the longest time before what failed is tried again (default: 30)")
+    command(commands, on_status, "Tell how the buses stand, and how many orders and labels there are.")
+    made = command(commands, on_retire, "Retire the journal of a bus: it is moved, and named with --older from then on."
+                   " Where the bus is at work this waits for the end of its order.", bus, True)
+    made.add_argument("--power-was-taken", action="store_true",
+                      help="retire one that isn't idle or can't be read, now that all units of the bus have lost their"
+                           " power and have it again: the order at work counts as in doubt")
+    made = command(commands, on_page, "Show all of it as a page for browsers, which changes nothing.")
+    made.add_argument("--listen", metavar="HOST:PORT", default="127.0.0.1:8080",
+                      help="where the page is (default: 127.0.0.1:8080)")
+
+
+def parser() -> Parser:
+    """Give the parser of the command line."""
+    found = Parser("line_computer", description=ABOUT, formatter_class=argparse.RawDescriptionHelpFormatter,
+                   allow_abbrev=False)
+    commands = found.add_subparsers(metavar="COMMAND", required=True)
+    make_order_commands(commands)
+    make_bus_commands(commands)
+    return found
+
+
+def main(arguments: list[str]) -> int:
+    """Do what a command line says, and give the status to end with."""
+    end = arguments.index("--") if "--" in arguments else len(arguments)
+    words = parser()
+    options = words.parse_args(arguments[:end])
+    options.adapter = arguments[end + 1:]
+    if (options.act is on_run) != bool(options.adapter):
+        words.error("`run` takes the adapter and its words behind --, and no other command does")
+    try:
+        options.act(options)
+    except StoreLost as fault:
+        return told(Failed(f"the store can't be used: {fault}"))
+    except (Refused, Failed) as fault:
+        return told(fault)
+    except OSError as fault:
+        return told(Failed(why(fault)))
+    except KeyboardInterrupt:
+        return 130
+    return 0
+
+
+def told(fault: Refused | Failed) -> int:
+    """Tell what went wrong, where the outputs take it, and give its status."""
+    with contextlib.suppress(Failed):
+        write(getattr(fault, "lines", []))
+    with contextlib.suppress(OSError):
+        sys.stderr.write("".join(f"error: {plain(line)}\n" for line in str(fault).splitlines()))
+        sys.stderr.flush()
+    return fault.status

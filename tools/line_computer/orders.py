@@ -1,0 +1,132 @@
+"""Orders: how they are added, cancelled and listed. Each has a number of the store's own, which is never used again."""
+
+from __future__ import annotations
+
+import json
+import time
+from typing import NamedTuple, Optional
+
+from .database import Database
+from .faults import Refused
+from .schema import AT_WORK, MOST_NUMBER
+
+# So many rows a statement: an older SQLite takes at most 999 values.
+ROWS = 90
+COLUMNS = ("number", "bus", "reference", "unit", "fields", "gtin", "expected", "state", "added")
+
+
+class Item(NamedTuple):
+    """An order that is to be added, as `check` has accepted it."""
+
+    reference: Optional[str]  # the number that it has where it comes from, if it has one
+    unit: int
+    fields: str
+    gtin: Optional[str]  # its 14 digits
+    expected: Optional[int]  # its frames where nothing is lost
+
+
+class Order(NamedTuple):
+    """An order of the store, as far as its bus has to know it."""
+
+    number: int
+    unit: int
+    fields: str
+    state: str
+    sent: Optional[int]  # the moment of its submission, once it was sent
+
+    def object(self) -> dict:
+        """Give the order as dali_bench reads it. Another program may have put it into the store."""
+        try:
+            fields = json.loads(self.fields)
+        except ValueError:
+            fields = None
+        if not isinstance(fields, dict):
+            raise Refused("the fields are no object of JSON")
+        return {**fields, "order": self.number, "unit": self.unit}
+
+    def line(self) -> bytes:
+        """Give its line for `drive --follow`."""
+        submission = {"submit": self.object(), "moment": self.sent}
+        return json.dumps(submission, separators=(",", ":")).encode("ascii") + b"\n"
+
+
+def spelled(fields: dict) -> str:
+    """Spell fields so that the same ones have the same text."""
+    return json.dumps(fields, sort_keys=True, separators=(",", ":"))
+
+
+def now() -> int:
+    """Give the moment, in seconds of the computer's clock."""
+    return int(time.time())
+
+
+def add(database: Database, bus: str, items: list[Item]) -> list[tuple[int, bool]]:
+    """Add all of these orders, or none; give the number of each, and whether it is new.
+
+    One whose reference the bus knows with the same contents is that order, and isn't added again.
+    """
+    with database.transaction():
+        # Whoever adds waits here for whoever adds: what was added before is seen by what follows.
+        database.change("update bench_store set following = following + ?", len(items))
+        following, = database.rows("select following from bench_store")[0]
+        if following > MOST_NUMBER:
+            raise Refused(f"the numbers of this store are used up, at {MOST_NUMBER}")
+        known = known_references(database, bus, [item.reference for item in items if item.reference])
+        given, rows = [], []
+        for number, item in enumerate(items, following - len(items)):
+            before = known.get(item.reference)
+            if before is None:
+                rows += (number, bus, item.reference, item.unit, item.fields, item.gtin, item.expected, "added", now())
+            elif before[1:] != (item.unit, item.fields):
+                raise Refused(f"item {len(given) + 1} order {item.reference}: the number of order {before[0]} of this"
+                              " store, which is another one")
+            given.append((before[0] if before else number, before is None))
+            known.setdefault(item.reference, (number, item.unit, item.fields))
+            known.pop(None, None)
+        insert(database, rows)
+    return given
+
+
+def known_references(database: Database, bus: str, references: list[str]) -> dict:
+    """Give the orders of a bus that have one of these references: number, unit and fields."""
+    found = {}
+    for at in range(0, len(references), ROWS):
+        some = references[at:at + ROWS]
+        places = ", ".join("?" * len(some))
+        for reference, *rest in database.rows("select reference, number, unit, fields from bench_orders where bus = ?"
+                                              f" and reference in ({places})", bus, *some):
+            found[reference] = tuple(rest)
+    return found
+
+
+def insert(database: Database, values: list) -> None:
+    """Insert rows of orders, whose values stand one row behind the other."""
+    row = f"({', '.join('?' * len(COLUMNS))})"
+    for at in range(0, len(values), ROWS * len(COLUMNS)):
+        some = values[at:at + ROWS * len(COLUMNS)]
+        rows = ", ".join([row] * (len(some) // len(COLUMNS)))
+        database.change(f"insert into bench_orders ({', '.join(COLUMNS)}) values {rows}", *some)
+
+
+def cancel(database: Database, number: int) -> None:
+    """Cancel an order that wasn't sent. It is refused of one that was, since the drive may have it."""
+    with database.transaction():
+        database.change("update bench_orders set state = 'cancelled', ended = ? where number = ? and state = 'added'",
+                        now(), number)
+        found = database.rows("select state, told from bench_orders where number = ?", number)
+    if not found:
+        raise Refused(f"there is no order {number}")
+    state, told = found[0]
+    if state in AT_WORK:
+        raise Refused(f"order {number} is at work: it was sent, and is carried out or told as ended")
+    if state != "cancelled":
+        raise Refused(f"order {number} has ended: {told or state}")
+
+
+def listed(database: Database, state: str | None) -> list[str]:
+    """Give a line for each order, or for each of a state."""
+    where, values = ("where state = ?", [state]) if state else ("", [])
+    rows = database.rows(f"select number, bus, unit, state, told, reference from bench_orders {where} order by number",
+                         *values)
+    return [f"order {number} bus {bus} unit {unit} {state}" + (f": {told}" if told else "") +
+            (f" (was {reference})" if reference else "") for number, bus, unit, state, told, reference in rows]

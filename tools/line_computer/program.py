@@ -1,0 +1,85 @@
+"""What dali_bench is asked: whether orders are accepted, how a journal stands, and which numbers it has."""
+
+from __future__ import annotations
+
+import json
+import os
+import re
+import subprocess
+from typing import NamedTuple
+
+from .faults import Failed, Refused, why
+
+ACCEPTED = re.compile("item ([0-9]+) order [0-9]+ unit ([0-9]+) bytes ([0-9]+)")
+FAULT = re.compile("(item [0-9]+ )?fault .*")
+COUNTS = re.compile("counts ([0-9]+) of ([0-9]+) orders ([0-9]+) standing (.*)")
+FREE = re.compile("free ([0-9]+|none)")
+# From this location on an order needs the content format too.
+BEHIND_FORMAT = 0x13
+
+
+class Accepted(NamedTuple):
+    """An order that `check` accepts: its unit, and how many frames it takes where nothing is lost."""
+
+    unit: int
+    frames: int
+
+
+class Program:
+    """The program dali_bench."""
+
+    def __init__(self, path: str):
+        """Take where it stands."""
+        self.path = os.path.abspath(path)
+
+    def ask(self, *words: str, given: bytes = b"") -> subprocess.CompletedProcess:
+        """Run a command of it, and give what it printed, where it ended with status 0 or 1."""
+        try:
+            ended = subprocess.run([self.path, *words], input=given, capture_output=True, check=False)
+        except OSError as fault:
+            raise Failed(f"dali_bench can't be started: {why(fault)}") from fault
+        ended.stdout, ended.stderr = (it.decode("utf-8", "replace") for it in (ended.stdout, ended.stderr))
+        if ended.returncode not in (0, 1) or not ended.stdout:
+            last = (ended.stderr or ended.stdout).strip().splitlines()[-1:]
+            raise Failed(f"dali_bench {words[0]} ended with status {ended.returncode}: {''.join(last)}")
+        return ended
+
+    def check(self, orders: list[dict]) -> list[Accepted]:
+        """Give what `check` says of orders where it accepts each; where it refuses one, it is `Refused`."""
+        return self.check_text(json.dumps(orders).encode("ascii"), len(orders))
+
+    def check_text(self, text: bytes, count: int) -> list[Accepted]:
+        """The same of a file's text."""
+        ended = self.ask("check", "-", given=text)
+        lines = ended.stdout.splitlines()
+        if ended.returncode:
+            faults = tuple(line for line in lines if FAULT.fullmatch(line))
+            raise Refused(ended.stderr.strip() or "; ".join(faults), faults)
+        accepted, at = [], 0
+        while found := ACCEPTED.fullmatch(lines[at]):
+            length = int(found[3])
+            last = int(lines[at + length].split()[0], 16)
+            frames = 14 * length + (42 if last >= BEHIND_FORMAT else 28)
+            accepted.append(Accepted(int(found[2]), frames))
+            at += 1 + length
+        if len(accepted) != count:
+            raise Failed(f"dali_bench check told of {len(accepted)} orders, and there are {count}")
+        return accepted
+
+    def standing(self, journal: str) -> tuple[str, bool]:
+        """Give how a journal stands, and whether all of its bytes count."""
+        ended = self.ask("journal", journal)
+        counts = COUNTS.fullmatch((ended.stdout.splitlines() or [""])[-1])
+        if ended.returncode or not counts:
+            raise Refused(f"the journal can't be read: {(ended.stdout + ended.stderr).strip().splitlines()[-1]}")
+        return counts[4], counts[1] == counts[2]
+
+    def free(self, journals: list[str]) -> int:
+        """Give the first number above all that these journals have."""
+        older = [word for journal in journals[1:] for word in ("--older", journal)]
+        ended = self.ask("check", "--journal", journals[0], *older, "-", given=b"[]")
+        last = (ended.stdout.splitlines() or [""])[-1]
+        found = FREE.fullmatch(last)
+        if ended.returncode or not found:
+            raise Refused(f"the journals can't be read: {(ended.stderr or last).strip()}")
+        return 2**64 if found[1] == "none" else int(found[1])

@@ -1,0 +1,120 @@
+"""What the process of a bus reads and changes in the store. Each call is one transaction."""
+
+from __future__ import annotations
+
+from dataclasses import dataclass
+from typing import Optional
+
+from .database import Database
+from .orders import Order, now
+from .schema import LIVE, SENT
+from .told import Ready, Reported, Taken, Told, Unaccepted
+
+
+@dataclass
+class BusState:
+    """What a bus says of itself."""
+
+    state: str = "starting"  # or ready, waiting, stopped
+    number: Optional[int] = None  # of the order at work
+    frames: Optional[int] = None  # how many frames of it were answered
+    trouble: Optional[str] = None
+    since: Optional[int] = None
+
+    def is_in(self, trouble: str) -> None:
+        """Have the bus in trouble: since now, or as long as it is."""
+        self.trouble, self.since = trouble, self.since or now()
+
+    def is_well(self) -> None:
+        """Have the bus out of trouble."""
+        self.trouble = self.since = None
+
+
+class Work:
+    """The orders of one bus, as its process has them."""
+
+    def __init__(self, database: Database, bus: str):
+        """Take the store and the bus, whose lock the process has."""
+        self.database, self.bus = database, bus
+
+    def next_order(self) -> Optional[Order]:
+        """Give the first order that has no end yet."""
+        found = self.database.rows("select number, unit, fields, state, sent from bench_orders"
+                                   f" where bus = ? and {LIVE} order by number limit 1", self.bus)
+        return Order(*found[0]) if found else None
+
+    def send(self, order: Order) -> Optional[Order]:
+        """Keep that an order is about to be sent, before its line is written; None where it was cancelled just now.
+
+        The moment of its first time is that of its submission for good: by it an end is told from that of an order
+        which a journal knew before.
+        """
+        with self.database.transaction():
+            is_sent = self.database.change(
+                "update bench_orders set state = case state when 'added' then 'sent' else state end, sends = sends + 1,"
+                f" sent = coalesce(sent, ?) where number = ? and {LIVE}", now(), order.number)
+            moment = self.database.rows("select sent from bench_orders where number = ?", order.number)[0][0]
+        return order._replace(state="sent", sent=moment) if is_sent else None
+
+    def refuse(self, number: int, why: str) -> None:
+        """Keep that an order was refused: by `check` before it was sent, or by the drive."""
+        with self.database.transaction():
+            self._refuse(number, why)
+
+    def _refuse(self, number: int, why: str) -> None:
+        """Refuse an order, within a transaction."""
+        self.database.change("update bench_orders set state = 'refused', told = ?, ended = ?"
+                             f" where number = ? and bus = ? and {LIVE}", why, now(), number, self.bus)
+
+    def keep(self, told: list[Told], state: BusState) -> None:
+        """Keep all that was told, and what the bus says of itself behind it."""
+        with self.database.transaction():
+            for it in told:
+                if isinstance(it, Taken):
+                    self.database.change("update bench_orders set state = 'taken' where number = ? and bus = ?"
+                                         f" and {SENT}", it.number, self.bus)
+                elif isinstance(it, Reported):
+                    self._keep_reply(it)
+                elif isinstance(it, Unaccepted) and it.number is not None:
+                    self._refuse(it.number, it.line)
+                elif isinstance(it, Ready):
+                    self.database.change("update bench_buses set has_journal = 1 where bus = ?", self.bus)
+            self._say(state)
+
+    def _keep_reply(self, it: Reported) -> None:
+        """Keep the last reply to an order that was sent; one that wasn't is none of this store's."""
+        found = self.database.rows(f"select sent from bench_orders where number = ? and bus = ? and {SENT}", it.number,
+                                   self.bus)
+        if not found:
+            return
+        what = it.reply.split()[0]
+        if what in ("blocked", "full"):
+            self.database.change("update bench_orders set state = ?, told = ? where number = ?", what, it.reply,
+                                 it.number)
+            return
+        is_known = it.code is not None and it.moment != found[0][0]
+        self.database.change(
+            "update bench_orders set state = ?, code = ?, told = ?, ended = ?, report = ?, frames = ?, misses = ?"
+            " where number = ?", "reused" if it.code is None else "ended", it.code,
+            f"{it.reply}, known before" if is_known else it.reply, now(), it.line, it.frames, it.misses, it.number)
+        if it.code == 0 and not is_known:
+            self.database.change("insert into bench_labels (number, made) values (?, ?)", it.number, now())
+
+    def say(self, state: BusState) -> None:
+        """Keep what the bus says of itself."""
+        with self.database.transaction():
+            self._say(state)
+
+    def _say(self, state: BusState) -> None:
+        """Keep what the bus says of itself, within a transaction."""
+        self.database.change("update bench_states set state = ?, number = ?, frames = ?, trouble = ?, since = ?,"
+                             " seen = ? where bus = ?", state.state, state.number, state.frames, state.trouble,
+                             state.since, now(), self.bus)
+
+    def is_asked_to_retire(self) -> bool:
+        """Tell whether the journal is asked to be retired."""
+        return bool(self.database.rows("select 1 from bench_buses where bus = ? and retire = 1", self.bus))
+
+    def refuse_retire(self, words: str) -> None:
+        """Keep why the journal isn't retired, for whoever asked."""
+        self.database.change("update bench_buses set retire = 0, answer = ? where bus = ?", words, self.bus)

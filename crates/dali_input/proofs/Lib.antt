@@ -7,3 +7,6 @@ pub mod OrderLemmas
 pub mod BankTextLemmas
 pub mod WorkedSetupLemmas
 pub mod WorkedInputLemmas
+pub mod TokenLemmas
+pub mod ObjectLemmas
+pub mod ItemsLemmas

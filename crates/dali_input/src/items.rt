@@ -17,18 +17,15 @@ use crate::item::Item;
 use crate::members::{Members, read_members};
 use crate::shallow::Shallow;
 use crate::unknown_keys::UnknownKeys;
-use crate::value::{read_value, value_of};
+use crate::value::{MAX_DEPTH, read_value, value_of};
 use json::{Invalid, Reader, Scratch, Token};
 use simdutf8::compat::from_utf8;
 use std::alloc::Global;
 
-// How deep a text may nest, as `serde_json` reads it.
-const MAX_DEPTH: usize = 127;
-
 // How deep an item may nest: the array around it is one level.
 const ITEM_DEPTH: usize = MAX_DEPTH - 1;
 
-// How many keys of an item are kept that orders don't have.
+// How many keys of an item are kept that orders don't have: more than are told.
 const MOST_UNKNOWN: usize = 1001;
 
 /// The items of an array that are still to come, of a text that is known to be JSON to its end (profile). Of each no
@@ -65,6 +62,13 @@ impl<'a> Items<'a> {
             left,
             unknown: UnknownKeys::new(alloc, MOST_UNKNOWN),
         })
+    }
+
+    /// How many are still to come.
+    pub fn left(&self) -> u64
+        ensures { result ≡ left_of self.now }
+    {
+        self.left
     }
 
     /// The next item.

@@ -34,3 +34,4 @@ pub use scenario::{
 pub use setup::{Setup, SetupFault, setup_of};
 pub use shallow::Shallow;
 pub use unknown_keys::UnknownKeys;
+pub use value::value_of_text;

@@ -3,12 +3,37 @@ ghost use Rattle.std.specs.Prelude.{◌≡◌, ◌<◌, ◌≤◌, ◌∷◌, If
 ghost use Rattle.json.specs.Json.{items, members, value};
 ghost use Rattle.json.specs.Reads.{token_of};
 ghost use Rattle.serde_json.specs.Data.{Data, Items, Members, no_members};
-ghost use Rattle.serde_json.specs.Read.{converted, of_items, of_json, of_members};
+ghost use Rattle.serde_json.specs.Read.{converted, of_items, of_json, of_members, read as read_text};
 ghost use Rattle.dali_input.specs.Shallow.{data_of, emptied};
 
 use crate::number::number_of;
 use crate::shallow::Shallow;
-use json::{Invalid, Reader, Token};
+use json::{Invalid, Reader, Scratch, Token};
+use std::alloc::AllocError;
+
+/// How deep a text may nest, as `serde_json` reads it.
+pub const MAX_DEPTH: usize = 127;
+
+/// The value that a whole text is, as `serde_json` reads it, or how many of its bytes stand in front of where it stops
+/// being JSON.
+pub fn value_of_text<'a>(
+    text: &'a str,
+    scratch: &'a mut Scratch,
+) -> Result<Result<Shallow<'a>, usize>, AllocError>
+    ensures ok { IfOk result (λ read. IfOk read
+        (λ shallow. (json : Data) × (read_text text.now ≡ Some json) × (data_of shallow ≡ emptied json))) }
+    ensures err { IfOk result (λ read. is_err read ≡ true → read_text text.now ≡ None) }
+{
+    let mut reader = Reader::new(text, scratch)?;
+    let Ok(value) = read_value(&mut reader, MAX_DEPTH) else {
+        return Ok(Err(reader.offset()));
+    };
+    let end = reader.offset();
+    match reader.next() {
+        Some(_) => Ok(Err(end)),
+        None => Ok(Ok(value)),
+    }
+}
 
 /// The value that a token begins, nested at most so deep. Invalid where there is none that `serde_json` reads.
 #[cycle(read)]

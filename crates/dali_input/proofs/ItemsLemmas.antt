@@ -152,10 +152,6 @@ one_more : (ds : List Data) (d : Data) (o : Option Items)
 one_more ds d None = refl
 one_more ds d (Some rest) = ap Some (before_push ds d rest)
 
-none_before : (o : Option Items) → o ≡ option_map (before []) o
-none_before None = refl
-none_before (Some rest) = refl
-
 len_of : (ds : List Data) → items_len (items_of ds) ≡ length ds
 len_of [] = refl
 len_of (d ∷ ds) = ap suc (len_of ds)
@@ -165,9 +161,6 @@ pub record CountedSoFar (all left : Option Items) (count : ℕ) : Type 0 where
   pub seen : List Data
   pub split : all ≡ option_map (before seen) left
   pub counted : length seen ≡ count
-
-pub none_counted : (all : Option Items) → CountedSoFar all all 0
-none_counted all = record { seen = []; split = none_before all; counted = refl }
 
 pub one_counted : (all : Option Items) (ts r : List Token) (d : Data) (count : ℕ)
     → CountedSoFar all (items_to_end ts) count → after_end_array ts ≡ None → length r < length ts

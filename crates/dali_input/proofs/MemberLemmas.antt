@@ -98,7 +98,8 @@ taken_more k d ms before after so_far here others known = record {
     go key true is =
         let text : text_of key ≡ k = (bytes_eq-Decides (text_of key) k).0 is in
         here key text
-        ∙ sym (ap (λ t. option_map emptied (get_member t (put k d ms))) text ∙ ap (option_map emptied) (get_member-put k d ms))
+        ∙ sym (ap (option_map emptied)
+        (ap (λ t. get_member t (put k d ms)) text ∙ get_member-put k d ms))
     go key false is =
         let other : text_of key ≢ k =
         λ text.
@@ -114,19 +115,10 @@ none_taken members none = record { values = none.values; known = none.known }
 pub all_taken : (ms : JsonMembers) (members : Members) → TakenSoFar ms members → AreMembersOf (object ms) members
 all_taken ms members so_far = record {
   values = so_far.values;
-  known = λ all is. let same : all ≡ ms = cc in ap (λ (each : JsonMembers). list_all is_key (keys_of each)) same ∙ sym so_far.known;
+  known = λ all is.
+      let same : all ≡ ms = cc in
+      ap (λ (each : JsonMembers). list_all is_key (keys_of each)) same ∙ sym so_far.known;
 }
-
-get_of_object : (source : Data) (ms : JsonMembers) (name : List ℕ) → as_object source ≡ Some ms
-    → get name source ≡ get_member name ms
-get_of_object null ms name is = cc
-get_of_object (boolean b) ms name is = cc
-get_of_object (number n) ms name is = cc
-get_of_object (string s) ms name is = cc
-get_of_object (array ds) ms name is = cc
-get_of_object (object ns) ms name is =
-    let same : ns ≡ ms = cc in
-    ap (get_member name) same
 
 -- the walk so far: what it has taken, and what it has left
 pub record WalkedSoFar (source : Data) (left : List Entry) (members : Members) : Type 0 where
@@ -163,16 +155,6 @@ has_none = record { values = nothing; known = refl }
     nothing Unit = refl
     nothing (Of field) = nothing_taken field
 
-pub walk_begins : (source : Data) (es : List Entry) (members : Members) → HasNone members
-    → IsStrictlySortedBy string_cmp (map.keys_of es) → as_object source ≡ Some (members_view es)
-    → WalkedSoFar source es members
-walk_begins source es members none ordered whole = record {
-  done = [];
-  ordered = ordered;
-  whole = whole;
-  taken = none_taken members none;
-}
-
 -- the step of the walk: one more member, from those that were left
 pub walked_more : (source : Data) (e : Entry) (left : List Entry) (before after : Members)
     → WalkedSoFar source (e ∷ left) before
@@ -189,19 +171,6 @@ walked_more source e left before after so_far here others known =
       whole = so_far.whole ∙ ap (λ es. Some (members_view es)) all;
       taken = subst (λ ms. TakenSoFar ms after) (put_last so_far.done e left so_far.ordered)
           (taken_more (string_bytes e.0) (view e.1) _ before after so_far.taken here others known);
-    }
-
--- after the walk the members are those of the object
-pub walked_all : (source : Data) (members : Members) → WalkedSoFar source [] members → AreMembersOf source members
-walked_all source members so_far =
-    let is : as_object source ≡ Some (members_view so_far.done) =
-    so_far.whole ∙ ap (λ es. Some (members_view es)) (append-nil so_far.done) in
-    record {
-      values = λ key. so_far.taken.values key
-          ∙ sym (ap (option_map emptied) (get_of_object source (members_view so_far.done) (text_of key) is));
-      known = λ all given_is.
-          let same : all ≡ members_view so_far.done = cc in
-          ap (λ (each : JsonMembers). list_all is_key (keys_of each)) same ∙ sym so_far.taken.known;
     }
 
 -- ---- what stands inside a value plays no part
@@ -264,23 +233,7 @@ refused_as field json value fault is =
     subst (λ plain. MatchOption plain (fault ≡ Kind) (λ p. IsValueFault field p fault))
     (ap (given field) is ∙ given_emptied field json)
 
--- ---- what is no object
-
--- nor has it members
-pub none_of : (source : Data) (members : Members) → as_object source ≡ None → HasNone members
-    → AreMembersOf source members
-none_of source members no_object none = record {
-  values = λ key. none.values key ∙ sym (ap (option_map emptied) (gives_none (text_of key) source no_object));
-  known = λ all is. let clash : None ≡ Some all = sym no_object ∙ is in cc;
-}
-  where
-    gives_none : (name : List ℕ) (json : Data) → as_object json ≡ None → get name json ≡ None
-    gives_none name null e = refl
-    gives_none name (boolean b) e = refl
-    gives_none name (number n) e = refl
-    gives_none name (string s) e = refl
-    gives_none name (array ds) e = refl
-    gives_none name (object ms) e = absurd (cc)
+-- ---- what has a number is an object
 
 members_where : (source : Data) (id : ℕ) → whole_at (text_of Order) source ≡ Some id
     → (all : JsonMembers) × (as_object source ≡ Some all)
@@ -297,17 +250,3 @@ pub knows : (source : Data) (members : Members) (id unit : ℕ) (are_known : Boo
 knows source members id unit are_known are numbers is =
     let (all, object_is) = members_where source id numbers.order_is in
     (all, object_is, are.known all object_is ∙ is)
-
-pub no_object : (value : Shallow) (json : Data) → value ≢ shallow.Object → data_of value ≡ emptied json
-    → as_object json ≡ None
-no_object value null other is = refl
-no_object value (boolean b) other is = refl
-no_object value (number n) other is = refl
-no_object value (string s) other is = refl
-no_object value (array ds) other is = refl
-no_object shallow.Null (object ms) other is = cc
-no_object (shallow.Bool b) (object ms) other is = cc
-no_object (shallow.Number n) (object ms) other is = cc
-no_object (shallow.Text s) (object ms) other is = cc
-no_object shallow.Array (object ms) other is = cc
-no_object shallow.Object (object ms) other is = absurd (other refl)

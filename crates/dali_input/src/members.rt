@@ -34,8 +34,8 @@ pub struct Members<'a> {
 }
 
 impl<'a> Members<'a> {
-    /// Those of a value that has none.
-    pub fn new() -> Members<'a>
+    // Those of a value that has none.
+    pub(crate) fn new() -> Members<'a>
         ensures { HasNone result }
     {
         Members {

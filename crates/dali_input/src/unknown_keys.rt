@@ -11,7 +11,7 @@ pub struct UnknownKeys<'a> {
 
 impl<'a> UnknownKeys<'a> {
     /// No keys, of which at most so many will be kept.
-    pub fn new(alloc: Global, most: usize) -> UnknownKeys<'a> {
+    pub(crate) fn new(alloc: Global, most: usize) -> UnknownKeys<'a> {
         UnknownKeys {
             keys: Vec::new(alloc),
             most,
@@ -24,7 +24,7 @@ impl<'a> UnknownKeys<'a> {
     }
 
     /// Adds a key.
-    pub fn add(&mut self, key: &'a str) {
+    pub(crate) fn add(&mut self, key: &'a str) {
         let Err(place) = self.keys.binary_search(&key) else {
             return;
         };
@@ -40,7 +40,7 @@ impl<'a> UnknownKeys<'a> {
     }
 
     /// Takes all keys away.
-    pub fn clear(&mut self) {
+    pub(crate) fn clear(&mut self) {
         self.keys.clear();
     }
 }

@@ -23,7 +23,8 @@ items-preserved-then-branch g c = record {
       omega (arith, c.items.invariant.counted, c.in-Some.ensures.fewer, c.left.ensures) in (
         others,
         after,
-        accepted_more _ all left others source next _ _ _ _ _ outcome text _ _ so_far (judged source is) _ at lines written
+        accepted_more _ all left others source next _ _ _ _ _ outcome text _ _ so_far (judged source is) _ at lines
+            written
             (λ xs. tells_one_more g.N.Write.contents c.args.notes.now c.items.notes c.write_item.new.notes outcome _ xs
             noted) (good ∙ c.if-branch.true),
       );
@@ -41,7 +42,8 @@ items-preserved g c = record {
       omega (arith, c.items.invariant.counted, c.in-Some.ensures.fewer, c.left.ensures) in (
         others,
         after,
-        refused_more _ all left others source next _ _ _ _ _ outcome text _ _ so_far (judged source is) _ at lines written
+        refused_more _ all left others source next _ _ _ _ _ outcome text _ _ so_far (judged source is) _ at lines
+            written
             (λ xs. tells_one_more g.N.Write.contents c.args.notes.now c.items.notes c.write_item.new.notes outcome _ xs
             noted) (good ∙ c.if-branch.false),
       );

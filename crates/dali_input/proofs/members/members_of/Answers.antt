@@ -1,7 +1,7 @@
 use Rattle.std.proofs.Common.{subst}
 use Rattle.serde_json.specs.View.{view}
 use Rattle.serde_json.proofs.Views.{Entry}
-use Rattle.dali_input.proofs.MemberLemmas.{WalkedSoFar, walk_begins, walked_more, walked_all}
+use Rattle.dali_input.proofs.MemberLemmas.{WalkedSoFar, walked_more}
 use Rattle.dali_input.proofs.members.members_of.Goals as goal
 
 pub loop-key-preserved : goal.loop-key-preserved

@@ -53,12 +53,14 @@ value_of-returns-then-depth-eq0-2-clause-err t c refused =
     let none : c.args.depth ≡ 0 = omega arith in
     rw (none, c.in-BeginObject.is) refl
 
-pub value_of-returns-in_err-pass_items-in-BeginArray-clause-err : goal.value_of-returns-in_err-pass_items-in-BeginArray-clause-err
+pub value_of-returns-in_err-pass_items-in-BeginArray-clause-err :
+    goal.value_of-returns-in_err-pass_items-in-BeginArray-clause-err
 value_of-returns-in_err-pass_items-in-BeginArray-clause-err t c refused = rw c.in-BeginArray.is
     (opened_array c.args.depth c.args.reader.now (omega arith)
     ∙ ap (parse_map array) (c.pass_items.ensures.err (grind arith)))
 
-pub value_of-returns-in_ok-pass_items-in-BeginArray-clause-ok : goal.value_of-returns-in_ok-pass_items-in-BeginArray-clause-ok
+pub value_of-returns-in_ok-pass_items-in-BeginArray-clause-ok :
+    goal.value_of-returns-in_ok-pass_items-in-BeginArray-clause-ok
 value_of-returns-in_ok-pass_items-in-BeginArray-clause-ok t c =
     let passed = c.in_ok-pass_items-in-BeginArray.ensures.ok in (
       array passed.0,
@@ -67,12 +69,14 @@ value_of-returns-in_ok-pass_items-in-BeginArray-clause-ok t c =
           (opened_array c.args.depth c.args.reader.now (omega arith) ∙ ap (parse_map array) passed.1),
     )
 
-pub value_of-returns-in_err-pass_members-in-BeginObject-clause-err : goal.value_of-returns-in_err-pass_members-in-BeginObject-clause-err
+pub value_of-returns-in_err-pass_members-in-BeginObject-clause-err :
+    goal.value_of-returns-in_err-pass_members-in-BeginObject-clause-err
 value_of-returns-in_err-pass_members-in-BeginObject-clause-err t c refused = rw c.in-BeginObject.is
     (opened_object c.args.depth c.args.reader.now (omega arith)
     ∙ ap (parse_map object) (c.pass_members.ensures.err (grind arith)))
 
-pub value_of-returns-in_ok-pass_members-in-BeginObject-clause-ok : goal.value_of-returns-in_ok-pass_members-in-BeginObject-clause-ok
+pub value_of-returns-in_ok-pass_members-in-BeginObject-clause-ok :
+    goal.value_of-returns-in_ok-pass_members-in-BeginObject-clause-ok
 value_of-returns-in_ok-pass_members-in-BeginObject-clause-ok t c =
     let passed = c.in_ok-pass_members-in-BeginObject.ensures.ok in (
       object passed.0,

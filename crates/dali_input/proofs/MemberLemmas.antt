@@ -1,6 +1,6 @@
 -- Lemmas on the walk over an object's members.
 use Rattle.std.proofs.Common.{slice_index_or, replicate, ◌≡◌, ◌≢◌, ℕ, List, [], ◌∷◌, ◌++◌, Bool, true, false, ◌&&◌}
-use Rattle.std.proofs.Common.{Option, Some, None, option_and_then, option_map, string_bytes, append_assoc, append-nil}
+use Rattle.std.proofs.Common.{Option, Some, None, option_and_then, option_map, string_bytes, append_assoc}
 use Rattle.std.proofs.Common.{refl, sym, ap, subst, ◌∙◌, MatchOption, Ordering, Less, Equal, Greater, is_eq}
 use Rattle.std.proofs.lemmas.Map.Text.{is_eq-slice_cmp}
 use Rattle.std.proofs.lemmas.Slice.Eq.{bytes_eq-Decides}
@@ -29,12 +29,10 @@ use Rattle.dali_bank.specs.Layout.{rank_of}
 use Rattle.dali_input.specs.declared.key.Key.{Key}
 use Rattle.dali_input.specs.declared.key.Key.TheVariants.{Order, Unit, Of}
 use Rattle.dali_input.specs.declared.members.Members.{Members}
-use Rattle.dali_input.specs.declared.shallow.Shallow.{Shallow}
-use Rattle.dali_input.specs.declared.shallow.Shallow.TheVariants as shallow
 use Rattle.dali_input.specs.Items.{given, is_key, keys_of, whole_at, HasNumbers, KnowsKeys}
 use Rattle.dali_input.specs.Keys.{text_of}
 use Rattle.dali_input.specs.Members.{value_at, AreMembersOf, HasNone, IsGivenBy, IsRefusedAs, held}
-use Rattle.dali_input.specs.Shallow.{data_of, emptied}
+use Rattle.dali_input.specs.Shallow.{emptied}
 
 -- what the members so far have at each key
 pub record TakenSoFar (ms : JsonMembers) (members : Members) : Type 0 where

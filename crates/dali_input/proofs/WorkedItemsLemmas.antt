@@ -2,7 +2,7 @@
 use Rattle.std.proofs.Common.{◌≡◌, ◌∙◌, refl, sym, ap, true, false, [], ◌∷◌, Some, None, codes, option_map, replicate, arith}
 use Rattle.json.specs.Token.{Token}
 use Rattle.json.proofs.Grammar.{value_is}
-use Rattle.serde_json.specs.Data.{Data, Items, null, number, unsigned, array, object, no_items, item, no_members, member}
+use Rattle.serde_json.specs.Data.{Data, null, number, unsigned, array, object, no_items, item, no_members, member}
 use Rattle.serde_json.specs.Read.{converted, of_json}
 use Rattle.dali_input.specs.declared.key.Key.TheVariants.{Unit}
 use Rattle.dali_input.specs.declared.members.Members.{Members}
@@ -21,7 +21,8 @@ an_item_and_the_end =
     ∙ ap (option_map (item null)) (no_more_items (Token.end_array ∷ []) [] refl)
 
 pub no_item_is_left_out : ¬ (items_to_end (Token.null ∷ Token.end_array ∷ []) ≡ Some no_items)
-no_item_is_left_out = λ none. let clash : Some (item null no_items) ≡ Some no_items = sym an_item_and_the_end ∙ none in cc
+no_item_is_left_out = λ none.
+    let clash : Some (item null no_items) ≡ Some no_items = sym an_item_and_the_end ∙ none in cc
 
 pub nothing_behind_the_array : items_to_end (Token.end_array ∷ Token.null ∷ []) ≡ None
 nothing_behind_the_array = no_more_items (Token.end_array ∷ Token.null ∷ []) (Token.null ∷ []) refl

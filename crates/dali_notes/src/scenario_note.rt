@@ -122,7 +122,12 @@ fn note_member(note: &mut Note, path: Path, json: &Json, member: Member) {
         None => !member.is_required,
     };
     if !suits {
-        let (before, key, found, rule) = (Before(path), member.key, Described(value.map(Shallow::of)), member.rule);
+        let (before, key, found, rule) = (
+            Before(path),
+            member.key,
+            Described(value.map(Shallow::of)),
+            member.rule,
+        );
         note.add(format_args!("{before}{key}: {found}, and it is {rule}"));
     }
 }

@@ -1,7 +1,6 @@
-use Rattle.std.proofs.Common.{◌≡◌, ◌∷◌, None, option_map, sym, ap, ◌∙◌, arith, refl}
+use Rattle.std.proofs.Common.{◌≡◌, ◌∷◌, option_map, sym, ap, ◌∙◌, arith}
 use Rattle.json.specs.Lex.{tokens}
 use Rattle.json.specs.Token.{begin_array}
-use Rattle.json.proofs.Grammar.{value_is}
 use Rattle.serde_json.specs.Data.{array}
 use Rattle.dali_input.specs.ItemsLeft.{value_to_end}
 use Rattle.dali_input.proofs.ItemsLemmas.{array_is_items, counted_behind, nothing_there}

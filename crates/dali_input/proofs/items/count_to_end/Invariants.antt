@@ -1,4 +1,4 @@
-use Rattle.std.proofs.Common.{◌≡◌, length}
+use Rattle.std.proofs.Common.{length}
 use Rattle.dali_input.specs.ItemsLeft.{items_to_end}
 use Rattle.dali_input.proofs.ItemsLemmas.{CountedSoFar}
 use Rattle.dali_input.proofs.items.count_to_end.Given as goal

@@ -1,6 +1,4 @@
-use Rattle.std.proofs.Common.{◌≡◌, ◌∷◌, Some, sym, ap, ◌∙◌, refl, arith}
-use Rattle.json.specs.Lex.{tokens}
-use Rattle.json.specs.Token.{begin_array}
+use Rattle.std.proofs.Common.{◌≡◌, Some, sym, ap, ◌∙◌, refl}
 use Rattle.serde_json.specs.Data.{array}
 use Rattle.serde_json.specs.Read.{read}
 use Rattle.dali_input.specs.ItemsLeft.{items_to_end, value_to_end}

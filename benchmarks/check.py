@@ -32,6 +32,8 @@ from orders import write_orders
 BASELINE = REPOSITORY / "benchmarks" / "baseline.py"
 LEAST_RATIO = 10
 MOST_GROWTH = 4.5
+# Of the memory, by the input.
+MOST_MEMORY = 3
 
 
 class Difference(Exception):
@@ -140,7 +142,14 @@ def judge(quarter, full):
     """Tell which aims aren't held, and give the status."""
     aims = Aims()
     aims.want(full.ratio() >= LEAST_RATIO, f"{LEAST_RATIO} times as fast as the baseline: {full.ratio():.1f}")
-    growth = full.runs["program"].seconds / quarter.runs["program"].seconds
+    program, reader = full.runs["program"], full.runs["Python's json, reading alone"]
+    aims.want(
+        program.seconds <= reader.seconds,
+        f"at most the time in which Python reads the same: {program.seconds:.3f} s, {reader.seconds:.3f} s",
+    )
+    taken = program.peak_memory / full.input_size
+    aims.want(taken <= MOST_MEMORY, f"at most {MOST_MEMORY} times the input in memory: {taken:.1f}")
+    growth = program.seconds / quarter.runs["program"].seconds
     aims.want(growth <= MOST_GROWTH, f"at most {MOST_GROWTH} times the time for 4 times the input: {growth:.1f}")
     return aims.status()
 

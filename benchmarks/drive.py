@@ -13,7 +13,8 @@ alone take is measured with a command that does nothing but send and read.
 3. Sent again: 1000 orders that the journal knows, which send no frame.
 4. The start alone, over a journal of 100000 orders with all fields: of
    version 2, and of version 1, which is written anew.
-5. The start behind older journals (`--older`), as long each: none, 1, 4, 10.
+5. The start behind older journals (`--older`), of 100000 orders with a GTIN
+   each: none, 1, 10, 50, 100.
 
 Status 0: every order was done. Status 1: one wasn't, or the frames were too
 many or too few. Status 2: a program couldn't be built or run. Status 3: an aim
@@ -28,7 +29,7 @@ import sys
 import tempfile
 from typing import NamedTuple
 
-from journal import FULL, HEADER, MOST_ORDERS, write_journal
+from journal import FULL, GTIN as GTIN_UPDATES, HEADER, MOST_ORDERS, write_journal
 from measuring import (
     KIBIBYTE,
     MEBIBYTE,
@@ -44,6 +45,11 @@ UNITS = 5
 FRAMES_OF_ORDER = 112
 RECORDS_OF_ORDER = 3
 MOST_SHARE = 20e-6
+# Of a record Began with a GTIN and of what ends its order.
+BYTES_OF_ORDER = 35
+# Of a start behind older journals: how the time may grow with ten times as many, the most seconds behind 50, and the
+# most memory by the length of the files.
+MOST_GROWTH, MOST_START, MOST_OLDER_MEMORY = 12, 4, 2
 MEMORY_FOLDER = pathlib.Path("/dev/shm")
 
 
@@ -151,7 +157,7 @@ class Bench:
             words = [self.program, "drive"]
             for number in range(count):
                 older = pathlib.Path(folder) / f"older_{number}.journal"
-                write_journal(older, range(number * MOST_ORDERS, (number + 1) * MOST_ORDERS), FULL)
+                write_journal(older, range(number * MOST_ORDERS, (number + 1) * MOST_ORDERS), GTIN_UPDATES)
                 words += ["--older", older]
             for _ in range(self.runs):
                 driven, told = self.run([*words, self.orders(0), journal])
@@ -245,13 +251,22 @@ def measure_starts(bench):
 
 
 def measure_starts_behind(bench):
-    """Measure and print what a start behind older journals takes, from none to ten of the longest."""
-    for count in (0, 1, 4, 10):
+    """Measure and print what a start behind older journals takes, from none to a hundred of the most orders."""
+    seconds = {}
+    for count in (0, 1, 10, 50, 100):
         started = bench.start_behind(count, bench.folder)
+        seconds[count] = started.seconds
+        size = count * (len(HEADER) + MOST_ORDERS * BYTES_OF_ORDER)
+        by_size = f" = {started.peak_memory / size:.1f} x files" if count else ""
         print(
             f"the start behind {count} journals of {MOST_ORDERS} orders: {started.seconds * 1e3:.1f} ms,"
-            f" memory {started.peak_memory / MEBIBYTE:.1f} MiB"
+            f" memory {started.peak_memory / MEBIBYTE:.1f} MiB{by_size}"
         )
+    growth, most = seconds[100] / seconds[10], MOST_GROWTH
+    bench.aims.want(growth <= most, f"ten times the journals take at most {most} x the time: {growth:.1f}")
+    bench.aims.want(seconds[50] < MOST_START, f"50 journals take under {MOST_START} s: {seconds[50]:.1f}")
+    taken, most = started.peak_memory / size, MOST_OLDER_MEMORY
+    bench.aims.want(taken <= most, f"memory is at most {most} x files: {taken:.1f}")
 
 
 def status_of(summary, bench_of, *measures):

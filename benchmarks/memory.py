@@ -2,7 +2,8 @@
 """Measure the peak memory of each command on inputs of the largest size, those among them that are made to cost most.
 
 It prints for each input the time, the peak memory and how many times the input that is, the worst of a command last.
-Status 0: each run ended as it has to. Status 1: one ended otherwise. Status 2: a program couldn't be run.
+Status 0: each run ended as it has to. Status 1: one ended otherwise. Status 2: a program couldn't be run. Status 3: an
+aim isn't held.
 """
 
 import json
@@ -11,6 +12,7 @@ from typing import NamedTuple
 
 from measuring import (
     MEBIBYTE,
+    Aims,
     argument_parser,
     best_of,
     positive,
@@ -24,6 +26,8 @@ from orders import gtin_of, write_orders
 LEVELS = 126
 MOST_ORDERS = 100000
 JOURNAL_LIMIT = 32 * MEBIBYTE
+# The most memory that `check` takes, by its input.
+MOST_OF_CHECK = 3
 # A piece of text is written at a time.
 PIECE = MEBIBYTE
 
@@ -73,6 +77,22 @@ def numbered(item_of):
     return write
 
 
+def joined(piece_of, start, end):
+    """Make a writer of as many pieces as there is room for, each by its number, with commas between them."""
+
+    def write(path, size):
+        room, number = size - len(start) - len(end), 0
+        with open(path, "w", encoding="ascii", newline="") as file:
+            file.write(start + piece_of(0))
+            while room > 2000:
+                more = "".join("," + piece_of(at) for at in range(number + 1, number + 21))
+                file.write(more)
+                room, number = room - len(more), number + 20
+            file.write(end)
+
+    return write
+
+
 def filled(byte):
     """Make a writer of this byte alone."""
 
@@ -106,7 +126,10 @@ ORDERS = [
     Input("half of the orders with all fields, half with a GTIN", "check", write_orders, 1),
     Input("orders with a GTIN", "check", numbered(lambda at: {"order": at, "unit": at % 64, "gtin": gtin_of(at)}), 0),
     Input("orders of one number", "check", numbered(lambda at: {"order": at, "unit": 5, "cri": 1}), 0),
+    Input("orders as short as they may be", "check", joined('{{"order":{},"unit":0,"cri":0}}'.format, "[", "]"), 0),
+    Input("one item of keys that orders don't have", "check", joined('"{:07}":0'.format, "[{", "}]"), 1),
     Input("numbers", "check", repeated("0"), 1),
+    Input("numbers with a sign and a fraction", "check", repeated("-1.5"), 1),
     Input("texts of a letter", "check", repeated('"a"'), 1),
     Input("empty lists", "check", repeated("[]"), 1),
     Input("empty objects", "check", repeated("{}"), 1),
@@ -147,7 +170,7 @@ def run_on(program, command, path, folder):
     return run(words, folder / "output")
 
 
-def measure(program, given, size, folder, run_count):
+def measure(program, given, size, folder, run_count, aims):
     """Write an input, run its command on it, and print what that took; tell whether it ended as it has to."""
     path = folder / "input"
     given.write(path, size)
@@ -158,6 +181,9 @@ def measure(program, given, size, folder, run_count):
         f" {taken.peak_memory / MEBIBYTE:8.1f} MiB {taken.peak_memory / max(written, 1):7.1f} x status {taken.status}",
         flush=True,
     )
+    if given.command == "check":
+        most = MOST_OF_CHECK * written
+        aims.want(taken.peak_memory <= most, f"at most {MOST_OF_CHECK} times the input in memory: {given.name}")
     return taken.status == given.status
 
 
@@ -167,10 +193,13 @@ def benchmark(options, folder):
     print(f"program   {options.program}")
     size = int(options.size * MEBIBYTE)
     kinds = [(ORDERS, size), (SCENARIOS, size), (JOURNALS, JOURNAL_LIMIT), (BANKS, 4096), (DRIVES, size)]
+    aims = Aims()
     ended = [
-        measure(options.program, given, limit, folder, options.runs) for inputs, limit in kinds for given in inputs
+        measure(options.program, given, limit, folder, options.runs, aims)
+        for inputs, limit in kinds
+        for given in inputs
     ]
-    return 0 if all(ended) else 1
+    return aims.status() if all(ended) else 1
 
 
 def read_arguments():

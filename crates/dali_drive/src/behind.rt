@@ -65,7 +65,7 @@ pub fn follow_stored<D: OpenDesk, G: Orders, B: Observer>(
         Ok(own) => own,
         Err(fault) => return Err(BehindFault::Open(fault)),
     };
-    let whole = match joined(alloc, own, older) {
+    let whole = match joined(own, older) {
         Ok(whole) => whole,
         Err(fault) => return Err(BehindFault::Join(fault)),
     };
@@ -76,7 +76,7 @@ pub fn follow_stored<D: OpenDesk, G: Orders, B: Observer>(
 }
 
 // The journal behind the older one, where there is one.
-fn joined(alloc: Global, own: Journal, older: Option<Journal>) -> Result<Journal, JoinFault>
+fn joined(own: Journal, older: Option<Journal>) -> Result<Journal, JoinFault>
     requires rests { IfSome older (λ journal. standing_of journal.records ≡ Idle) }
     ensures ok { IfOk result (IsWhole older own.limit own) }
     ensures err { IfErr result (λ fault. IsUnjoined fault own older) }
@@ -84,7 +84,7 @@ fn joined(alloc: Global, own: Journal, older: Option<Journal>) -> Result<Journal
     let Some(older) = older else {
         return Ok(own);
     };
-    match own.behind(alloc, older) {
+    match own.behind(older) {
         Ok(whole) => {
             // it tells what is so of every journal
             let _most = whole.limit();

@@ -3,17 +3,16 @@ use Rattle.std.proofs.Common.{◌≡◌, ℕ, suc, ◌+◌, List, [], ◌∷◌,
 use Rattle.std.proofs.Common.{not, ap, sym, ◌∙◌, arith, append_assoc, append-nil, add-zero, zero-add, cond, subst}
 use Rattle.std.proofs.Common.{IfOk, OnOk, Result, Ok, Err, length-append, refl}
 use Rattle.std.proofs.lemmas.Bool.{ne_eqb}
-use Rattle.std.proofs.lemmas.List.{map-append}
 use Rattle.std.proofs.lemmas.List.Sums.{sum_by-append}
 use Rattle.std.specs.Io.KnownBytes.{Appends}
-use Rattle.serde_json.specs.Data.{Items, no_items}
-use Rattle.serde_json.specs.View.{view, items_view, items_of}
-use Rattle.serde_json.specs.declared.value.Value.{Value}
+use Rattle.serde_json.specs.Data.{Data, Items, no_items, item}
+use Rattle.serde_json.specs.View.{items_of}
 use Rattle.dali_bank.specs.Order.{Contents}
 use Rattle.dali_journal.specs.JournalState.{JournalState}
 use Rattle.dali_text.specs.OrderLines.{order_lines}
 use Rattle.dali_input.specs.Items.{Judges}
 use Rattle.dali_input.specs.Orders.{Outcome, JudgesEach}
+use Rattle.dali_input.proofs.ItemsLemmas.{before, before_push, before_end}
 use Rattle.dali_input.proofs.OrderLemmas.{judges_one_more}
 use Rattle.dali_faults.specs.declared.fault.Status.TheVariants.{Refused}
 use Rattle.dali_file_commands.specs.declared.known.Known.{Known}
@@ -23,32 +22,34 @@ use Rattle.dali_text.proofs.StreamLemmas.{appends_both}
 use Rattle.std.proofs.KnownBytes.{Appends-nil}
 
 -- the items so far, what became of them, what was written of them, and what was noted of them beside
-pub record SoFar (journal : Option JournalState) (ds : Items) (n accepted refused : ℕ) (before now : Option (List ℕ))
-    (Noted : List Outcome → Type 0) : Type 0 where
+pub record SoFar (journal : Option JournalState) (all left : Items) (accepted refused : ℕ)
+    (first now : Option (List ℕ)) (Noted : List Outcome → Type 0) : Type 0 where
+  pub seen : List Data
+  pub split : all ≡ before seen left
   pub outcomes : List Outcome
-  pub judged : JudgesEach ds outcomes
-  pub many : length outcomes ≡ n
-  pub all : accepted + refused ≡ n
+  pub judged : JudgesEach (items_of seen) outcomes
+  pub many : length outcomes ≡ accepted + refused
   pub good : count_by is_ok outcomes ≡ accepted
   pub bad : refused_count outcomes ≡ refused
   pub text : List ℕ
   pub lines : AreEach (AreItemLines journal) 1 outcomes text
-  pub written : Appends before now text
+  pub written : Appends first now text
   pub noted : Noted outcomes
 
 -- before the first item
-pub none_yet : (journal : Option JournalState) (before : Option (List ℕ)) (Noted : List Outcome → Type 0)
-    → Noted [] → SoFar journal no_items 0 0 0 before before Noted
-none_yet journal before Noted noted = record {
+pub none_yet : (journal : Option JournalState) (all : Items) (first : Option (List ℕ)) (Noted : List Outcome → Type 0)
+    → Noted [] → SoFar journal all all 0 0 first first Noted
+none_yet journal all first Noted noted = record {
+  seen = [];
+  split = refl;
   outcomes = [];
   judged = tt;
   many = refl;
-  all = refl;
   good = refl;
   bad = refl;
   text = [];
   lines = refl;
-  written = Appends-nil before;
+  written = Appends-nil first;
   noted = noted;
 }
 
@@ -91,55 +92,47 @@ accepted_told (Ok done) journal number order known before mid now is lines line 
 accepted_told (Err error) journal number order known before mid now is lines line = tt
 
 -- the step of the loop: one more item, its outcome, and its lines
-pub accepted_more : (journal : Option JournalState) (done : List Value) (v : Value) (a r : ℕ)
-    (before mid now : Option (List ℕ)) (x : Outcome) (here : List ℕ) (Noted NotedNow : List Outcome → Type 0)
-    → SoFar journal (items_view done) (length done) a r before mid Noted
-    → Judges (view v) x → is_ok x ≡ true → AreItemLines journal (a + r + 1) x here → Appends mid now here
-    → ((xs : List Outcome) → a + r + 1 ≡ 1 + length xs → Noted xs → NotedNow (xs ++ x ∷ []))
-    → SoFar journal (items_view (done ++ v ∷ [])) (length (done ++ v ∷ [])) (a + 1) r before now NotedNow
-accepted_more journal done v a r before mid now x here Noted NotedNow s judged good lines written more =
-    let size : length (done ++ v ∷ []) ≡ length done + 1 = length-append done (v ∷ []) in
-    let number : a + r + 1 ≡ 1 + length s.outcomes = omega (arith, s.many, s.all) in
-    record {
-      outcomes = s.outcomes ++ x ∷ [];
-      judged =
-          subst (λ ds. JudgesEach (items_of ds) (s.outcomes ++ x ∷ [])) (sym (map-append view done (v ∷ [])))
-          (judges_one_more _ s.outcomes _ x s.judged judged);
-      many = length-append s.outcomes (x ∷ []) ∙ ap (λ n. n + 1) s.many ∙ sym size;
-      all = omega (arith, s.all, size);
-      good = count_one_more is_ok s.outcomes x ∙ rw good (ap (λ n. n + 1) s.good);
-      bad = count_one_more (λ y. not (is_ok y)) s.outcomes x ∙ rw good (add-zero _ ∙ s.bad);
-      text = s.text ++ here;
-      lines = each_one_more (AreItemLines journal) 1 s.outcomes x s.text here s.lines
-          (subst (λ n. AreItemLines journal n x here) number lines);
-      written = appends_both before mid now s.text here s.written written;
-      noted = more s.outcomes number s.noted;
-    }
+module _ (journal : Option JournalState) (all left others : Items) (source : Data) (next : left ≡ item source others)
+    (a r : ℕ) (first mid now : Option (List ℕ)) (x : Outcome) (here : List ℕ) (Noted NotedNow : List Outcome → Type 0)
+    (s : SoFar journal all left a r first mid Noted) (judged : Judges source x)
+    (n : ℕ) (at : n ≡ a + r + 1) (lines : AreItemLines journal n x here) (written : Appends mid now here)
+    (more : (xs : List Outcome) → n ≡ 1 + length xs → Noted xs → NotedNow (xs ++ x ∷ [])) where
+  one_more : (accepted refused : ℕ) → accepted + refused ≡ a + r + 1
+      → count_by is_ok (s.outcomes ++ x ∷ []) ≡ accepted → refused_count (s.outcomes ++ x ∷ []) ≡ refused
+      → SoFar journal all others accepted refused first now NotedNow
+  one_more accepted refused counted good bad =
+      let number : n ≡ 1 + length s.outcomes = omega (arith, s.many) in
+      record {
+        seen = s.seen ++ source ∷ [];
+        split = s.split ∙ ap (before s.seen) next ∙ before_push s.seen source others;
+        outcomes = s.outcomes ++ x ∷ [];
+        judged = judges_one_more s.seen s.outcomes source x s.judged judged;
+        many = length-append s.outcomes (x ∷ []) ∙ ap (λ n. n + 1) s.many ∙ sym counted;
+        good = good;
+        bad = bad;
+        text = s.text ++ here;
+        lines = each_one_more (AreItemLines journal) 1 s.outcomes x s.text here s.lines
+            (subst (λ n. AreItemLines journal n x here) number lines);
+        written = appends_both first mid now s.text here s.written written;
+        noted = more s.outcomes number s.noted;
+      }
 
-pub refused_more : (journal : Option JournalState) (done : List Value) (v : Value) (a r : ℕ)
-    (before mid now : Option (List ℕ)) (x : Outcome) (here : List ℕ) (Noted NotedNow : List Outcome → Type 0)
-    → SoFar journal (items_view done) (length done) a r before mid Noted
-    → Judges (view v) x → is_ok x ≡ false → AreItemLines journal (a + r + 1) x here → Appends mid now here
-    → ((xs : List Outcome) → a + r + 1 ≡ 1 + length xs → Noted xs → NotedNow (xs ++ x ∷ []))
-    → SoFar journal (items_view (done ++ v ∷ [])) (length (done ++ v ∷ [])) a (r + 1) before now NotedNow
-refused_more journal done v a r before mid now x here Noted NotedNow s judged bad lines written more =
-    let size : length (done ++ v ∷ []) ≡ length done + 1 = length-append done (v ∷ []) in
-    let number : a + r + 1 ≡ 1 + length s.outcomes = omega (arith, s.many, s.all) in
-    record {
-      outcomes = s.outcomes ++ x ∷ [];
-      judged =
-          subst (λ ds. JudgesEach (items_of ds) (s.outcomes ++ x ∷ [])) (sym (map-append view done (v ∷ [])))
-          (judges_one_more _ s.outcomes _ x s.judged judged);
-      many = length-append s.outcomes (x ∷ []) ∙ ap (λ n. n + 1) s.many ∙ sym size;
-      all = omega (arith, s.all, size);
-      good = count_one_more is_ok s.outcomes x ∙ rw bad (add-zero _ ∙ s.good);
-      bad = count_one_more (λ y. not (is_ok y)) s.outcomes x ∙ rw bad (ap (λ n. n + 1) s.bad);
-      text = s.text ++ here;
-      lines = each_one_more (AreItemLines journal) 1 s.outcomes x s.text here s.lines
-          (subst (λ n. AreItemLines journal n x here) number lines);
-      written = appends_both before mid now s.text here s.written written;
-      noted = more s.outcomes number s.noted;
-    }
+  pub accepted_more : is_ok x ≡ true → SoFar journal all others (a + 1) r first now NotedNow
+  accepted_more good = one_more (a + 1) r (omega arith)
+      (count_one_more is_ok s.outcomes x ∙ rw good (ap (λ n. n + 1) s.good))
+      (count_one_more (λ y. not (is_ok y)) s.outcomes x ∙ rw good (add-zero _ ∙ s.bad))
+
+  pub refused_more : is_ok x ≡ false → SoFar journal all others a (r + 1) first now NotedNow
+  refused_more bad = one_more a (r + 1) (omega arith)
+      (count_one_more is_ok s.outcomes x ∙ rw bad (add-zero _ ∙ s.good))
+      (count_one_more (λ y. not (is_ok y)) s.outcomes x ∙ rw bad (ap (λ n. n + 1) s.bad))
+
+-- after the last item
+pub all_judged : (journal : Option JournalState) (all left : Items) (a r : ℕ) (first now : Option (List ℕ))
+    (Noted : List Outcome → Type 0) (s : SoFar journal all left a r first now Noted) → left ≡ no_items
+    → JudgesEach all s.outcomes
+all_judged journal all left a r first now Noted s none =
+    subst (λ ds. JudgesEach ds s.outcomes) (sym (s.split ∙ ap (before s.seen) none ∙ before_end s.seen)) s.judged
 
 -- the status where an item is refused
 pub some_refused : (outcomes : List Outcome) (n : ℕ)

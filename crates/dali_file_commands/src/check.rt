@@ -1,8 +1,9 @@
 ghost use Rattle.std.specs.Prelude.{◌≡◌, ◌≢◌, ◌↔◌, ◌⊎◌, ℕ, List, [], IfOk, Ok, true, is_ok, codes};
-ghost use Rattle.serde_json.specs.View.{view, items_view};
+ghost use Rattle.serde_json.specs.Data.{Data, Items as DataItems};
 ghost use Rattle.dali_text.specs.Output.{TellsFailure, Takes, has_failed, is_flushed};
 ghost use Rattle.dali_input.specs.Input.{ReadsAtMost, state_of};
 ghost use Rattle.dali_input.specs.Items.{Judges};
+ghost use Rattle.dali_input.specs.ItemsLeft.{AreLeft, IsItem};
 ghost use Rattle.dali_input.specs.Orders.{Outcome, JudgesEach, orders_limit};
 ghost use Rattle.dali_faults.specs.Ends.{TellsEnd};
 ghost use Rattle.dali_notes.specs.Notes.{SomeAbout, Tells};
@@ -16,19 +17,20 @@ use crate::known::{Ledger, write_free, write_known};
 use crate::notes::write_noted_failure;
 use dali_bank::Order;
 use dali_faults::{Fault, Status, write_refused_item};
-use dali_input::{Input, ItemFault, ORDERS_LIMIT, items_of, order_of, read_input};
+use dali_input::{Input, Item, ItemFault, Items, ORDERS_LIMIT, read_input};
 use dali_journal::Journal;
 use dali_notes::{Note, Repeats, note_of_item, note_of_orders};
 use dali_text::{Output, OutputFailed, write_order, write_tally};
-use serde_json::Value;
+use json::Scratch;
 use std::alloc::Global;
 use std::io::{Read, Write};
 
-// An item and its number in the list, counted from 1.
+// An item, its number in the list, counted from 1, and its keys that orders don't have.
 #[derive(Drop)]
-struct NumberedItem {
+struct NumberedItem<'a> {
     number: u64,
-    item: Value,
+    item: Item<'a>,
+    keys: &'a [&'a str],
 }
 
 /// Reads a JSON list of orders, and writes what becomes of each: the updates of an accepted item,
@@ -109,26 +111,29 @@ fn write_checked<W: Write, N: Write>(
         × Tells N.contents notes.old notes.new (IsNotedCheck (asked ledger.now.journal) text)) }
     ensures end { TellsEnd result output.new }
 {
-    match items_of(alloc, input, ORDERS_LIMIT) {
-        Ok(items) => write_report(alloc, items, output, ledger, notes),
-        Err(fault) => {
-            let note = note_of_orders(alloc, input, fault);
-            write_noted_failure(output, Fault::Input(fault), notes, &note)
-        }
-    }
+    let mut scratch = Scratch::new(alloc);
+    let fault = match Items::of(alloc, input, ORDERS_LIMIT, &mut scratch) {
+        Ok(mut items) => return write_report(alloc, &mut items, output, ledger, notes),
+        Err(fault) => fault,
+    };
+    // What the notes take comes in its place.
+    drop(scratch);
+    let note = note_of_orders(alloc, input, fault);
+    write_noted_failure(output, Fault::Input(fault), notes, &note)
 }
 
 // Writes what becomes of each item.
 #[tactic(auto, using(dali_text::proofs::StreamLemmas::appends_both, dali_text::proofs::StreamLemmas::appends_kept))]
 fn write_report<W: Write, N: Write>(
     alloc: Global,
-    items: Vec<Value>,
+    items: &mut Items<'_>,
     output: &mut Output<W>,
     ledger: &Ledger<'_>,
     notes: &mut Output<N>,
 ) -> Result<Status, OutputFailed>
     requires surveyed { IsSurveyed ledger.now }
-    ensures report { IfOk result (λ status. (outcomes : List Outcome) × JudgesEach (items_view items.items) outcomes
+    ensures report { (all : DataItems) → AreLeft items.old all
+        → IfOk result (λ status. (outcomes : List Outcome) × JudgesEach all outcomes
         × (status ≡ report_status outcomes)
         × (text : List ℕ) × IsReportText (asked ledger.now.journal) outcomes text
         × Takes W.contents output.old output.new text
@@ -149,13 +154,14 @@ fn write_report<W: Write, N: Write>(
 // Writes the lines of each item, and how many were accepted and how many refused.
 fn write_items<W: Write, N: Write>(
     alloc: Global,
-    items: Vec<Value>,
+    items: &mut Items<'_>,
     output: &mut Output<W>,
     ledger: &Ledger<'_>,
     notes: &mut Output<N>,
 ) -> Result<(u64, u64), OutputFailed>
     requires surveyed { IsSurveyed ledger.now }
-    ensures lines { IfOk result (λ counted. (outcomes : List Outcome) × JudgesEach (items_view items.items) outcomes
+    ensures lines { (all : DataItems) → AreLeft items.old all
+        → IfOk result (λ counted. (outcomes : List Outcome) × JudgesEach all outcomes
         × (accepted_count outcomes ≡ counted.0) × (refused_count outcomes ≡ counted.1)
         × (text : List ℕ) × AreEach (AreItemLines (asked ledger.now.journal)) 1 outcomes text
         × Takes W.contents output.old output.new text
@@ -165,10 +171,12 @@ fn write_items<W: Write, N: Write>(
     let mut accepted = 0u64;
     let mut refused = 0u64;
     let mut repeats = Repeats::new(alloc);
-    for item in items {
-        let number = accepted + refused + 1;
-        let item = NumberedItem { number, item };
-        if write_item(alloc, output, item, ledger, notes, &mut repeats)? {
+    let count = items.left();
+    'items: while let Some(item) = items.next() {
+        let number = count - items.left();
+        let keys = items.unknown_keys().as_slice();
+        let item = NumberedItem { number, item, keys };
+        if write_item(alloc, output, &item, ledger, notes, &mut repeats)? {
             accepted += 1;
         } else {
             refused += 1;
@@ -177,32 +185,31 @@ fn write_items<W: Write, N: Write>(
     Ok((accepted, refused))
 }
 
-// Writes what becomes of an item, and whether it was accepted. The item is let go here, while it
-// is in the processor's cache.
+// Writes what becomes of an item, and whether it was accepted.
 fn write_item<W: Write, N: Write>(
     alloc: Global,
     output: &mut Output<W>,
-    item: NumberedItem,
+    item: &NumberedItem<'_>,
     ledger: &Ledger<'_>,
     notes: &mut Output<N>,
     repeats: &mut Repeats,
 ) -> Result<bool, OutputFailed>
     requires surveyed { IsSurveyed ledger.now }
-    ensures lines { IfOk result (λ accepted. (outcome : Outcome) × Judges (view item.item) outcome
-        × (is_ok outcome ≡ accepted)
-        × (text : List ℕ) × AreItemLines (asked ledger.now.journal) item.number outcome text
+    ensures lines { IfOk result (λ accepted. (outcome : Outcome)
+        × ((source : Data) → IsItem source item.now.item → Judges source outcome) × (is_ok outcome ≡ accepted)
+        × (text : List ℕ) × AreItemLines (asked ledger.now.journal) item.now.number outcome text
         × Takes W.contents output.old output.new text
-        × Tells N.contents notes.old notes.new (IsItemNote item.number outcome)) }
+        × Tells N.contents notes.old notes.new (IsItemNote item.now.number outcome)) }
     ensures failed { TellsFailure result output.old output.new }
 {
-    match order_of(&item.item) {
+    match item.item.order() {
         Ok(order) => {
             note_accepted(notes, item.number, &order, repeats);
             write_accepted(output, item.number, &order, ledger)?;
             Ok(true)
         }
         Err(fault) => {
-            note_refused(alloc, notes, item.number, &item.item, fault);
+            note_refused(alloc, notes, item, fault);
             write_refused_item(output, item.number, fault)?;
             Ok(false)
         }
@@ -239,13 +246,12 @@ fn note_accepted<N: Write>(notes: &mut Output<N>, number: u64, order: &Order, re
 fn note_refused<N: Write>(
     alloc: Global,
     notes: &mut Output<N>,
-    number: u64,
-    item: &Value,
+    item: &NumberedItem<'_>,
     fault: ItemFault,
 )
-    ensures { Tells N.contents notes.old notes.new (SomeAbout (codes "item") number) }
+    ensures { Tells N.contents notes.old notes.new (SomeAbout (codes "item") item.now.number) }
 {
     if !notes.has_failed() {
-        note_of_item(alloc, item, fault).tell_about(notes, "item", number);
+        note_of_item(alloc, &item.item, item.keys, fault).tell_about(notes, "item", item.number);
     }
 }

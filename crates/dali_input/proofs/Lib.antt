@@ -7,3 +7,7 @@ pub mod OrderLemmas
 pub mod BankTextLemmas
 pub mod WorkedSetupLemmas
 pub mod WorkedInputLemmas
+pub mod WorkedItemsLemmas
+pub mod TokenLemmas
+pub mod ObjectLemmas
+pub mod ItemsLemmas

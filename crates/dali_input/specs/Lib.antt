@@ -8,3 +8,5 @@ pub mod Members
 pub mod Values
 pub mod Scenario
 pub mod Setup
+pub mod Shallow
+pub mod ItemsLeft

@@ -6,10 +6,12 @@ ghost use Rattle.dali_bank.specs.Spelling.{plain};
 ghost use Rattle.dali_bank.specs.Draft.{Drafted, found_of, empty_draft};
 ghost use Rattle.dali_input.specs.Items.{given as given_value, text_given as given_text, HasNumbers, IsForUnit};
 ghost use Rattle.dali_input.specs.Items.{HasFieldsOf, IsFieldFault, IsOrderOf, IsFaultOf};
-ghost use Rattle.dali_input.specs.Members.{AreMembersOf, IsGivenBy, IsRefusedAs};
-ghost use Rattle.dali_input.specs.Values.{value_if_any};
+ghost use Rattle.dali_input.specs.ItemsLeft.{IsItem};
+ghost use Rattle.dali_input.specs.Members.{AreMembersOf, IsGivenBy, IsRefusedAs, held};
+ghost use Rattle.dali_input.specs.Shallow.{data_of};
 
 use crate::members::{Members, members_of};
+use crate::shallow::Shallow;
 use dali_bank::{BankFault, Draft, Field, Order, Value};
 use serde_json::Value as Json;
 use std::error::Error;
@@ -58,19 +60,53 @@ impl fmt::Display for ItemFault {
 
 impl Error for ItemFault {}
 
-/// The order that an item spells.
-///
-/// The first ItemFault that stands (profile): 9 Shape, 10 Key, 1 Unit, then 2 Kind, 3 Range, 4 Gtin and
-/// 5 Text of the fields by rising location, then 7 Voltage, 8 Empty.
+/// An item of a list of orders.
+#[derive(Drop)]
+pub struct Item<'a> {
+    /// What it is, without what stands inside it.
+    pub value: Shallow<'a>,
+    /// What its members give, where it is an object.
+    pub members: Members<'a>,
+}
+
+impl<'a> Item<'a> {
+    /// What a JSON value is as an item.
+    pub fn of(json: &'a Json) -> Item<'a>
+        ensures { IsItem (view json.now) result }
+    {
+        Item {
+            value: Shallow::of(json),
+            members: members_of(json),
+        }
+    }
+
+    /// The order that it spells.
+    ///
+    /// The first ItemFault that stands (profile): 9 Shape, 10 Key, 1 Unit, then 2 Kind, 3 Range, 4 Gtin and
+    /// 5 Text of the fields by rising location, then 7 Voltage, 8 Empty.
+    pub fn order(&self) -> Result<Order, ItemFault>
+        ensures ok { IfOk result (λ order. (source : Data) → IsItem source self.now → IsOrderOf source order) }
+        ensures err { IfErr result (λ fault. (source : Data) → IsItem source self.now → IsFaultOf source fault) }
+    {
+        order_of_members(&self.members)
+    }
+}
+
+/// The order that a JSON value spells, as `Item::order` says.
 pub fn order_of(item: &Json) -> Result<Order, ItemFault>
     ensures ok { IfOk result (IsOrderOf (view item.now)) }
     ensures err { IfErr result (IsFaultOf (view item.now)) }
 {
-    let Some(members) = members_of(item) else {
-        return Err(ItemFault::Shape);
-    };
-    let mut draft = empty_draft_of(&members)?;
-    if let Err(fault) = set_fields(&mut draft, &members) {
+    Item::of(item).order()
+}
+
+// The order that the members of an object spell.
+fn order_of_members(members: &Members<'_>) -> Result<Order, ItemFault>
+    ensures ok { IfOk result (λ order. (source : Data) → AreMembersOf source members.now → IsOrderOf source order) }
+    ensures err { IfErr result (λ fault. (source : Data) → AreMembersOf source members.now → IsFaultOf source fault) }
+{
+    let mut draft = empty_draft_of(members)?;
+    if let Err(fault) = set_fields(&mut draft, members) {
         return Err(ItemFault::Bank(fault));
     }
     match draft.finish() {
@@ -113,11 +149,14 @@ fn numbers_of(members: &Members<'_>) -> Result<(u64, u64), ItemFault>
     }
 }
 
-// The whole number that a JSON value is.
-fn whole(json: Option<&Json>) -> Option<u64>
-    ensures { result ≡ option_and_then as_u64 (option_and_then as_number (value_if_any json.entry)) }
+// The whole number that a value is.
+fn whole(value: Option<Shallow<'_>>) -> Option<u64>
+    ensures { result ≡ option_and_then as_u64 (option_and_then as_number (held value.entry)) }
 {
-    json.and_then(Json::as_u64)
+    match value {
+        Some(Shallow::Number(number)) => number.as_u64(),
+        _ => None,
+    }
 }
 
 // Sets each field as the object gives it, by rising location.
@@ -129,52 +168,53 @@ fn set_fields(draft: &mut Draft, members: &Members<'_>) -> Result<(), BankFault>
         → IsFieldFault source fault) }
 {
     for field in Field::ALL {
-        if let Some(json) = members.field(field) {
-            set_given(draft, field, json)?;
+        if let Some(value) = members.field(field) {
+            set_given(draft, field, value)?;
         }
     }
     Ok(())
 }
 
-// Sets a field as a JSON value gives it.
-fn set_given(draft: &mut Draft, field: Field, json: &Json) -> Result<(), BankFault>
+// Sets a field as a value gives it.
+fn set_given(draft: &mut Draft, field: Field, value: Shallow<'_>) -> Result<(), BankFault>
     requires { found_of field draft.old ≡ None }
-    ensures ok { OnOk result (IsGivenBy (view json.now) field draft.old draft.new) }
-    ensures err { IfErr result (IsRefusedAs (view json.now) field) }
+    ensures ok { OnOk result (IsGivenBy (data_of value.entry) field draft.old draft.new) }
+    ensures err { IfErr result (IsRefusedAs (data_of value.entry) field) }
 {
-    let Some(value) = given(field, json) else {
+    let Some(given) = given(field, value) else {
         return Err(BankFault::Kind);
     };
-    draft.set(field, value)
+    draft.set(field, given)
 }
 
-/// The fault of what a JSON value gives to a field, whatever else the item has (profile): 2 Kind, 3 Range, 4 Gtin or 5
+/// The fault of what a value gives to a field, whatever else the item has (profile): 2 Kind, 3 Range, 4 Gtin or 5
 /// Text. None where the field takes it.
-pub fn field_fault(field: Field, json: &Json) -> Option<BankFault>
-    ensures fault { IfSome result (IsRefusedAs (view json.now) field) }
-    ensures none { IfNone result ((drafted : Drafted) × IsGivenBy (view json.now) field (empty_draft 0 0) drafted) }
+pub fn field_fault(field: Field, value: Shallow<'_>) -> Option<BankFault>
+    ensures fault { IfSome result (IsRefusedAs (data_of value.entry) field) }
+    ensures none { IfNone result
+        ((drafted : Drafted) × IsGivenBy (data_of value.entry) field (empty_draft 0 0) drafted) }
 {
     let Ok(mut draft) = Draft::new(0, 0) else {
         unreachable!();
     };
-    match set_given(&mut draft, field, json) {
+    match set_given(&mut draft, field, value) {
         Ok(()) => None,
         Err(fault) => Some(fault),
     }
 }
 
-// What a JSON value gives to a field, where it is of a kind that orders have.
-fn given<'a>(field: Field, json: &'a Json) -> Option<Value<'a>>
-    ensures { option_map plain result ≡ given_value field (view json.now) }
+// What a value gives to a field, where it is of a kind that orders have.
+fn given<'a>(field: Field, value: Shallow<'a>) -> Option<Value<'a>>
+    ensures { option_map plain result ≡ given_value field (data_of value.entry) }
 {
-    match json {
-        Json::Null => Some(Value::Unknown),
-        Json::Number(_) => match json.as_u64() {
+    match value {
+        Shallow::Null => Some(Value::Unknown),
+        Shallow::Number(number) => match number.as_u64() {
             Some(number) => Some(Value::Number(number)),
             None => None,
         },
-        Json::String(text) => Some(text_given(field, text.as_str())),
-        Json::Bool(_) | Json::Array(_) | Json::Object(_) => None,
+        Shallow::Text(text) => Some(text_given(field, text)),
+        Shallow::Bool(_) | Shallow::Array | Shallow::Object => None,
     }
 }
 

@@ -8,20 +8,30 @@ mod bank_text;
 mod fault;
 mod input;
 mod item;
+mod items;
 mod key;
 mod members;
+mod number;
 mod orders;
 mod scenario;
 pub mod scenario_key;
 mod setup;
+mod shallow;
+mod unknown_keys;
+mod value;
 mod values;
 
 pub use bank_text::{MOST_BANK_TEXT, TEXT_LIMIT, bank_of, text_of};
 pub use fault::InputFault;
 pub use input::{Input, json_of, read_input};
-pub use item::{ItemFault, field_fault, order_of};
-pub use orders::{ORDERS_LIMIT, items_of, orders_of, read_orders};
+pub use item::{Item, ItemFault, field_fault, order_of};
+pub use items::Items;
+pub use members::Members;
+pub use orders::{ORDERS_LIMIT, read_orders};
 pub use scenario::{
     EventPlan, FatePlan, MOST_EVENTS, Scenario, UnitPlan, scenario_of, submission_of,
 };
 pub use setup::{Setup, SetupFault, setup_of};
+pub use shallow::Shallow;
+pub use unknown_keys::UnknownKeys;
+pub use value::value_of_text;

@@ -1,74 +1,118 @@
-ghost use Rattle.std.specs.Prelude.{◌≡◌, ◌≢◌, ◌&&◌, Some, None, IfSome, IfNone};
+ghost use Rattle.std.specs.Prelude.{◌≡◌, ◌≢◌, ◌&&◌, ◌<◌, IfNone, IfOk, IfSome, None, OnOk, Some, is_err, length, true};
+ghost use Rattle.json.specs.Json.{members as members_in, value};
+ghost use Rattle.serde_json.specs.Data.{Members as JsonMembers, no_members, object};
 ghost use Rattle.serde_json.specs.Find.{as_object};
+ghost use Rattle.serde_json.specs.Read.{converted, of_members};
 ghost use Rattle.serde_json.specs.View.{view};
 ghost use Rattle.dali_input.specs.Items.{is_key};
 ghost use Rattle.dali_input.specs.Keys.{text_of};
-ghost use Rattle.dali_input.specs.Members.{value_at, AreMembersOf};
-ghost use Rattle.dali_input.specs.Values.{value_if_any};
+ghost use Rattle.dali_input.specs.Members.{AreMembersOf, HasNone, held, value_at};
+ghost use Rattle.dali_input.specs.Shallow.{data_of};
 ghost use Rattle.dali_input.specs.declared.key.Key.{Key as KeyName};
 ghost use Rattle.dali_input.specs.declared.key.Key.TheVariants.{Of};
 
 use crate::key::{Key, key_named};
+use crate::shallow::Shallow;
+use crate::unknown_keys::UnknownKeys;
+use crate::value::read_value;
 use dali_bank::Field;
+use json::{Invalid, Reader};
 use serde_json::Value as Json;
 
 // How many fields there are.
 const FIELDS: usize = Field::ALL.len();
 
-/// What an object has at each key, gathered in one walk over it.
+/// What an object has at each key of orders, gathered in one walk over it.
 #[derive(Drop)]
 pub struct Members<'a> {
-    pub order: Option<&'a Json>,
-    pub unit: Option<&'a Json>,
+    pub order: Option<Shallow<'a>>,
+    pub unit: Option<Shallow<'a>>,
     // by the fields' places in `Field::ALL`
-    fields: [Option<&'a Json>; FIELDS],
+    fields: [Option<Shallow<'a>>; FIELDS],
     /// Whether the object has no other key.
     pub are_known: bool,
 }
 
 impl<'a> Members<'a> {
+    // Those of a value that has none.
+    pub(crate) fn new() -> Members<'a>
+        ensures { HasNone result }
+    {
+        Members {
+            order: None,
+            unit: None,
+            fields: [None; FIELDS],
+            are_known: true,
+        }
+    }
+
     /// What the object gives to a field.
-    pub fn field(&self, field: Field) -> Option<&'a Json>
-        ensures { value_if_any result ≡ value_at (Of field) self.now }
+    pub fn field(&self, field: Field) -> Option<Shallow<'a>>
+        ensures { held result ≡ value_at (Of field) self.now }
     {
         let fields = &self.fields[..];
         fields[field as usize]
     }
 
-    // Takes the member with this key.
-    fn put(&mut self, key: &str, json: &'a Json)
+    // Takes the member with this key, and tells whether orders have the key.
+    fn put(&mut self, key: &str, value: Shallow<'a>) -> bool
         ensures here { (k : KeyName) → text_of k ≡ key.now
-            → value_at k self.new ≡ Some (view json.now) }
+            → value_at k self.new ≡ Some (data_of value.entry) }
         ensures others { (k : KeyName) → text_of k ≢ key.now
             → value_at k self.new ≡ value_at k self.old }
         ensures known { self.new.are_known ≡ (self.old.are_known && is_key key.now) }
+        ensures result { result ≡ is_key key.now }
     {
         match key_named(key) {
-            Some(Key::Order) => self.order = Some(json),
-            Some(Key::Unit) => self.unit = Some(json),
+            Some(Key::Order) => self.order = Some(value),
+            Some(Key::Unit) => self.unit = Some(value),
             Some(Key::Of(field)) => {
                 let fields = &mut self.fields[..];
-                fields[field as usize] = Some(json);
+                fields[field as usize] = Some(value);
             }
-            None => self.are_known = false,
+            None => {
+                self.are_known = false;
+                return false;
+            }
         }
+        true
     }
 }
 
-/// The members of an object.
-pub fn members_of(item: &Json) -> Option<Members<'_>>
-    ensures found { IfSome result (AreMembersOf (view item.now)) }
-    ensures none { IfNone result (as_object (view item.now) ≡ None) }
+/// The members of a value, none where it is no object.
+pub fn members_of(item: &Json) -> Members<'_>
+    ensures { AreMembersOf (view item.now) result }
 {
-    let object = item.as_object()?;
-    let mut members = Members {
-        order: None,
-        unit: None,
-        fields: [None; FIELDS],
-        are_known: true,
+    let mut members = Members::new();
+    let Some(object) = item.as_object() else {
+        return members;
     };
     for (key, json) in object.iter() {
-        members.put(key.as_str(), json);
+        let _is_known = members.put(key.as_str(), Shallow::of(json));
     }
-    Some(members)
+    members
+}
+
+/// The members of the object behind whose brace the reader stands, with values nested at most so deep, up to the brace
+/// that closes it. Invalid where there is none that `serde_json` reads.
+pub fn read_members<'a>(
+    reader: &mut Reader<'a>,
+    depth: usize,
+    unknown: &mut UnknownKeys<'a>,
+) -> Result<Members<'a>, Invalid>
+    ensures ok { IfOk result (λ members. (found : JsonMembers) × AreMembersOf (object found) members
+        × (converted (λ ms. of_members ms no_members) (members_in (value depth) (length reader.old) reader.old)
+        ≡ Some (found, reader.new))) }
+    ensures err { is_err result ≡ true → converted (λ ms. of_members ms no_members)
+        (members_in (value depth) (length reader.old) reader.old) ≡ None }
+    ensures shorter { OnOk result (length reader.new < length reader.old) }
+{
+    let mut members = Members::new();
+    'members: while let Some(key) = reader.next_key()? {
+        let value = read_value(reader, depth)?;
+        if !members.put(key, value) {
+            unknown.add(key);
+        }
+    }
+    Ok(members)
 }

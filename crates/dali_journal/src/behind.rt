@@ -1,17 +1,14 @@
 // A journal behind older ones, as one journal.
 ghost use Rattle.std.specs.Prelude.{◌≡◌, ◌+◌, ◌++◌, true, IfOk, IfErr, IfSome};
 ghost use Rattle.dali_journal.specs.declared.standing.Standing.TheVariants.{Idle};
-ghost use Rattle.dali_journal.specs.declared.version.Version.TheVariants.{Two};
 ghost use Rattle.dali_journal.specs.Sentence.{standing_of, is_begun};
-ghost use Rattle.dali_journal.specs.Spelling.{records_spelling, journal_spelling};
 ghost use Rattle.dali_journal.specs.JournalState.{order_count};
 ghost use Rattle.dali_journal.specs.Behind.{IsJoinFault};
 
-use crate::fault::NoMemory;
 use crate::journal::Journal;
 use crate::read::Piece;
 use crate::record::Record;
-use std::alloc::Global;
+use crate::version::{HEADER, Version};
 
 /// Why two journals are no journal together (profile).
 #[derive(Clone, Copy, Debug, PartialEq, Eq)]
@@ -24,11 +21,11 @@ pub enum JoinFault {
 
 impl Journal {
     /// This journal behind an older one, as one journal: it has the orders of both, and may hold as many more as this
-    /// one.
+    /// one. The older one grows by these records alone, however many it has.
     ///
     /// The older one has to be at rest: it stands `Idle`. `Repeated` where both have begun an order of one number,
     /// `NoMemory` where there is no memory.
-    pub fn behind(self, alloc: Global, older: Journal) -> Result<Journal, JoinFault>
+    pub fn behind(self, older: Journal) -> Result<Journal, JoinFault>
         requires rests { standing_of older.records ≡ Idle }
         ensures records { IfOk result (λ joined. joined.records ≡ self.records ++ older.records) }
         ensures limit { IfOk result (λ joined. joined.limit ≡ order_count older + self.limit) }
@@ -37,17 +34,17 @@ impl Journal {
         if let Some(id) = common_number(&self, &older) {
             return Err(JoinFault::Repeated(id));
         }
-        // it tells what is so of every journal
-        let _most = older.limit();
         let Some(limit) = older.orders().checked_add(self.limit()) else {
             return Err(JoinFault::NoMemory);
         };
-        let Ok(bytes) = joined_bytes(alloc, &self, &older) else {
+        let mut joined = older.for_orders(limit);
+        let front = HEADER.len() + joined.record_bytes().len();
+        if front.checked_add(self.record_bytes().len()).is_none() {
             return Err(JoinFault::NoMemory);
-        };
+        }
         // No number is in both, so there is no fault but want of memory.
-        match Journal::load_vec(alloc, limit, bytes) {
-            Ok((joined, _, _)) => Ok(joined),
+        match joined.take_rest(Version::Two, front, self.record_bytes()) {
+            Ok(_) => Ok(joined),
             Err(_) => Err(JoinFault::NoMemory),
         }
     }
@@ -70,14 +67,4 @@ fn common_number(newer: &Journal, older: &Journal) -> Option<u64>
         at += len;
     }
     None
-}
-
-// The bytes of both in version 2, the older one's first.
-fn joined_bytes(alloc: Global, newer: &Journal, older: &Journal) -> Result<Vec<u8>, NoMemory>
-    ensures { IfOk result (λ bytes. bytes.items
-        ≡ journal_spelling Two older.now.records ++ records_spelling Two newer.now.records) }
-{
-    let mut bytes = older.to_bytes(alloc)?;
-    bytes.extend_from_slice(newer.record_bytes())?;
-    Ok(bytes)
 }

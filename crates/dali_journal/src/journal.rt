@@ -240,9 +240,20 @@ impl Journal {
         Ok(rest)
     }
 
+    // The same journal, for so many orders.
+    pub(crate) fn for_orders(mut self, limit: u32) -> Journal
+        requires limit { HoldsOrders limit × (order_count self ≤ limit) }
+        ensures records { result.records ≡ self.records }
+        ensures limit { result.limit ≡ limit }
+        ensures journal { IsJournal result }
+    {
+        self.limit = limit;
+        self
+    }
+
     // Adds the records of a version that the bytes behind its own, this many, begin with, up to a cut one. How many
     // bytes count then.
-    fn take_rest(
+    pub(crate) fn take_rest(
         &mut self,
         version: Version,
         front: usize,

@@ -64,7 +64,7 @@ pub fn asked_in<R: Read>(
     };
     match older {
         None => Ok(own),
-        Some(older) => match own.behind(alloc, older) {
+        Some(older) => match own.behind(older) {
             Ok(journal) => {
                 // it tells what is so of every journal
                 let _most = journal.limit();

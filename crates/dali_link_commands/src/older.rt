@@ -71,7 +71,7 @@ pub fn joined_behind(
     };
     match older {
         None => Ok(own),
-        Some(older) => match own.behind(alloc, older) {
+        Some(older) => match own.behind(older) {
             Ok(journal) => Ok(journal),
             Err(fault) => Err(OlderFault::Join(fault)),
         },

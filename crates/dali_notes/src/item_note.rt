@@ -5,49 +5,50 @@ use crate::note::Note;
 use crate::told_key::ToldKey;
 use dali_bank::{BankFault, Field};
 use dali_gear::MOST_ADDRESS;
-use dali_input::{ItemFault, field_fault};
-use serde_json::Value as Json;
+use dali_input::{Item, ItemFault, Members, Shallow, field_fault};
 use std::alloc::Global;
 
-/// All that is wrong with an order object that is refused for a fault, a line each.
-pub fn note_of_item(alloc: Global, json: &Json, fault: ItemFault) -> Note {
-    let mut note = Note::of_order(alloc, json.get("order").and_then(Json::as_u64));
-    if json.as_object().is_none() {
-        let found = Described(Some(json));
+/// All that is wrong with an item that is refused for a fault, a line each. Of its keys, those that orders don't have
+/// are among these.
+pub fn note_of_item(alloc: Global, item: &Item<'_>, keys: &[&str], fault: ItemFault) -> Note {
+    let members = &item.members;
+    let mut note = Note::of_order(alloc, whole(members.order));
+    let Shallow::Object = item.value else {
+        let found = Described(Some(item.value));
         note.add(format_args!("{found}, and an order is an object with order, unit and fields"));
         return note;
+    };
+    note_numbers(&mut note, members);
+    for &key in keys {
+        note_key(&mut note, key);
     }
-    note_numbers(&mut note, json);
-    note_keys(&mut note, json);
-    note_address(&mut note, json);
+    note_address(&mut note, members);
     for field in Field::ALL {
-        note_field(&mut note, field, json.get(field.key()));
+        note_field(&mut note, field, members.field(field));
     }
-    note_whole(&mut note, json, fault);
+    note_whole(&mut note, members, fault);
     note
 }
 
-// Tells where the order's or the unit's number is none.
-fn note_numbers(note: &mut Note, json: &Json) {
-    for (key, most) in [("order", u64::MAX), ("unit", u64::from(MOST_ADDRESS))] {
-        let member = json.get(key);
-        if member.and_then(Json::as_u64).is_none() {
-            let found = Described(member);
-            note.add(format_args!("{key}: {found}, and it is a whole number from 0 to {most}"));
-        }
+// The whole number that stands there.
+fn whole(value: Option<Shallow<'_>>) -> Option<u64> {
+    match value {
+        Some(Shallow::Number(number)) => number.as_u64(),
+        _ => None,
     }
 }
 
-// Tells each key that orders don't have, with the one that may be meant.
-fn note_keys(note: &mut Note, json: &Json) {
-    let Some(object) = json.as_object() else {
-        return;
-    };
-    for (key, _) in object.iter() {
-        if note.is_full() {
-            return;
-        }
-        note_key(note, key.as_str());
+// Tells where the order's or the unit's number is none.
+fn note_numbers(note: &mut Note, members: &Members<'_>) {
+    note_number(note, "order", members.order, u64::MAX);
+    note_number(note, "unit", members.unit, u64::from(MOST_ADDRESS));
+}
+
+// Tells where what stands at a key is no whole number.
+fn note_number(note: &mut Note, key: &str, value: Option<Shallow<'_>>, most: u64) {
+    if whole(value).is_none() {
+        let found = Described(value);
+        note.add(format_args!("{key}: {found}, and it is a whole number from 0 to {most}"));
     }
 }
 
@@ -71,8 +72,8 @@ fn note_key(note: &mut Note, key: &str) {
 }
 
 // Tells where a unit's number is no short address.
-fn note_address(note: &mut Note, json: &Json) {
-    match json.get("unit").and_then(Json::as_u64) {
+fn note_address(note: &mut Note, members: &Members<'_>) {
+    match whole(members.unit) {
         Some(unit) if unit > u64::from(MOST_ADDRESS) => {
             note.add(format_args!(
                 "unit: the number {unit}, and a short address is 0 to {MOST_ADDRESS}"
@@ -83,30 +84,30 @@ fn note_address(note: &mut Note, json: &Json) {
 }
 
 // Tells where a field doesn't take what is given to it.
-fn note_field(note: &mut Note, field: Field, json: Option<&Json>) {
-    let Some(json) = json else {
+fn note_field(note: &mut Note, field: Field, value: Option<Shallow<'_>>) {
+    let Some(given) = value else {
         return;
     };
-    if field_fault(field, json).is_none() {
+    if field_fault(field, given).is_none() {
         return;
     }
-    let (key, found, rule) = (field.key(), Described(Some(json)), rule_of(field));
-    match json.as_str() {
-        Some(text) => {
+    let (key, found, rule) = (field.key(), Described(value), rule_of(field));
+    match given {
+        Shallow::Text(text) => {
             let flaw = Flaw { field, text };
             note.add(format_args!("{key}: {found}, and it is {rule}{flaw}"));
         }
-        None => note.add(format_args!("{key}: {found}, and it is {rule}")),
+        _ => note.add(format_args!("{key}: {found}, and it is {rule}")),
     }
 }
 
 // Tells what is wrong with the fields together.
-fn note_whole(note: &mut Note, json: &Json, fault: ItemFault) {
+fn note_whole(note: &mut Note, members: &Members<'_>, fault: ItemFault) {
     match fault {
         ItemFault::Bank(BankFault::Voltage) => {
             let (least, most) = (
-                Described(json.get("min_voltage")),
-                Described(json.get("max_voltage")),
+                Described(members.field(Field::MinVoltage)),
+                Described(members.field(Field::MaxVoltage)),
             );
             note.add(format_args!("min_voltage: {least}, which is over max_voltage: {most}"))
         }

@@ -1,10 +1,9 @@
-ghost use Rattle.std.specs.Prelude.{◌≤◌, length};
-
 use crate::described::Described;
 use crate::kind::{Kind, blanks_of, is_blank};
 use crate::note::Note;
 use crate::place::Place;
-use dali_input::{InputFault, scenario_key as key};
+use dali_input::{InputFault, Shallow, scenario_key as key, value_of_text};
+use json::{MAX_DEPTH, Reader, Scratch};
 use serde_json::Value as Json;
 use std::alloc::Global;
 
@@ -72,21 +71,39 @@ fn note_place(alloc: Global, note: &mut Note, input: &[u8]) {
         note_no_text(note, input, error.valid_up_to());
         return;
     }
-    let Err(error) = Json::from_slice(alloc, input) else {
+    let Some(stop) = stop_of(alloc, input) else {
         return;
     };
-    if error.is_memory() {
-        return;
-    }
-    if error.is_eof() {
+    if is_cut_short(alloc, input, stop) {
         let place = Place::behind(input, input.len());
         note.add(format_args!("{place}: the input ends before its JSON does"));
         return;
     }
-    let fault = offset_of(input, error.line(), error.column());
+    let fault = stop.min(input.len().saturating_sub(1));
     let count = fault.saturating_add(blanks_of(&input[fault..]));
     let (place, words) = (Place::behind(input, count), trouble_at(alloc, input, count));
     note.add(format_args!("{place}: {words}"));
+}
+
+// How many bytes stand in front of where an input stops being JSON. None where it doesn't, or where there is no memory
+// to tell.
+fn stop_of(alloc: Global, input: &[u8]) -> Option<usize> {
+    let text = str::from_utf8(input).ok()?;
+    value_of_text(text, &mut Scratch::new(alloc)).ok()?.err()
+}
+
+// Whether an input that stops being JSON there ends where more had to come: behind all that stands there, or in the
+// middle of a text, a number or a word that may stand there.
+fn is_cut_short(alloc: Global, input: &[u8], stop: usize) -> bool {
+    let (front, rest) = input.split_at(stop.min(input.len()));
+    let goes_on = match (last_of(front), rest) {
+        (_, []) => return true,
+        (_, [b'[' | b'{', ..]) => false,
+        (Some(b'{'), [first, ..]) => *first == b'"',
+        (Some(last), _) => matches!(last, b'[' | b',' | b':'),
+        (None, _) => true,
+    };
+    goes_on && Json::from_slice(alloc, rest).is_err_and(|error| error.is_eof())
 }
 
 // Tells the byte behind so many that is no UTF-8.
@@ -101,24 +118,6 @@ fn note_no_text(note: &mut Note, input: &[u8], count: usize) {
         )),
         [] => {}
     }
-}
-
-// How many bytes stand before a line's column, both counted from 1; the column counts bytes.
-fn offset_of(input: &[u8], line: usize, column: usize) -> usize
-    ensures { result ≤ length input.now }
-{
-    let mut start = 0usize;
-    let mut number = 1usize;
-    for text in input.split(|byte| *byte == b'\n') {
-        if number == line {
-            break;
-        }
-        number = number.saturating_add(1);
-        start = start.saturating_add(text.len()).saturating_add(1);
-    }
-    start
-        .saturating_add(column.saturating_sub(1))
-        .min(input.len())
 }
 
 // Why an input stops being JSON behind so many of its bytes.
@@ -141,7 +140,13 @@ fn trouble_at(alloc: Global, input: &[u8], count: usize) -> &'static str {
 
 // Whether the bytes are an array or an object of JSON.
 fn is_value(alloc: Global, front: &[u8]) -> bool {
-    matches!(front, [.., b'}' | b']']) && Json::from_slice(alloc, front).is_ok()
+    let Ok(text) = str::from_utf8(front) else {
+        return false;
+    };
+    matches!(
+        value_of_text(text, &mut Scratch::new(alloc)),
+        Ok(Ok(Shallow::Array | Shallow::Object))
+    )
 }
 
 // The bytes without the blanks and commas that they end in.
@@ -163,17 +168,45 @@ fn last_of(front: &[u8]) -> Option<u8> {
 // What JSON an input is that is no array.
 fn no_list_note(alloc: Global, input: &[u8]) -> Note {
     let mut note = Note::new(alloc);
-    let Ok(json) = Json::from_slice(alloc, input) else {
+    let Ok(text) = str::from_utf8(input) else {
         return note;
     };
-    let is_order = json.get("order").is_some() && json.get("unit").is_some();
-    if json.get(key::EVENTS).is_some() {
-        note.add("the input is an object with events, which `run` takes, and orders are an array")
-    } else if is_order {
-        note.add("the input is one order, and orders are an array: it stands between [ and ]")
-    } else {
-        let found = Described(Some(&json));
-        note.add(format_args!("the input is {found}, and orders are an array"))
+    let mut scratch = Scratch::new(alloc);
+    match value_of_text(text, &mut scratch) {
+        Ok(Ok(Shallow::Object)) => note_object(alloc, &mut note, text),
+        Ok(Ok(value)) => {
+            let found = Described(Some(value));
+            note.add(format_args!("the input is {found}, and orders are an array"))
+        }
+        Ok(Err(_)) | Err(_) => {}
     }
     note
+}
+
+// Tells what object stands in place of an array of orders.
+fn note_object(alloc: Global, note: &mut Note, text: &str) {
+    let (mut has_events, mut has_order, mut has_unit) = (false, false, false);
+    let mut scratch = Scratch::new(alloc);
+    let Ok(mut reader) = Reader::new(text, &mut scratch) else {
+        return;
+    };
+    let _brace = reader.next();
+    for _ in 0..text.len() {
+        let Ok(Some(found)) = reader.next_key() else {
+            break;
+        };
+        has_events |= found == key::EVENTS;
+        has_order |= found == "order";
+        has_unit |= found == "unit";
+        if reader.skip_value(MAX_DEPTH).is_err() {
+            break;
+        }
+    }
+    note.add(if has_events {
+        "the input is an object with events, which `run` takes, and orders are an array"
+    } else if has_order && has_unit {
+        "the input is one order, and orders are an array: it stands between [ and ]"
+    } else {
+        "the input is an object, and orders are an array"
+    });
 }

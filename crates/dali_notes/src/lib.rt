@@ -8,6 +8,7 @@
 mod bank_note;
 mod described;
 mod first_lines;
+mod firsts;
 mod flaw;
 mod front;
 mod item_note;

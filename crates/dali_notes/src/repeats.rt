@@ -1,20 +1,13 @@
+use crate::firsts::{First, Firsts};
 use crate::note::Note;
 use dali_bank::Order;
-use indexmap::IndexMap;
 use std::alloc::Global;
-
-// What is known of the first order under a number: which item it was, and a sum over its unit and its updates.
-#[derive(Clone, Copy)]
-struct First {
-    item: u64,
-    sum: u64,
-}
 
 /// The numbers of the orders of a list as far as it was read, to tell those that are given again for another order.
 #[derive(Drop)]
 pub struct Repeats {
     alloc: Global,
-    firsts: IndexMap<u64, First>,
+    firsts: Firsts,
     // Whether there is no more memory to remember them.
     is_full: bool,
 }
@@ -24,7 +17,7 @@ impl Repeats {
     pub fn new(alloc: Global) -> Repeats {
         Repeats {
             alloc,
-            firsts: IndexMap::new(alloc),
+            firsts: Firsts::new(alloc),
             is_full: false,
         }
     }
@@ -36,9 +29,12 @@ impl Repeats {
         if self.is_full {
             return None;
         }
+        let Ok(item) = u32::try_from(item) else {
+            return None;
+        };
         let (id, sum) = (order.id(), sum_of(order));
-        match self.firsts.get(&id).copied() {
-            Some(first) if first.sum != sum => {
+        match self.firsts.earlier_or_add(First { id, item, sum }) {
+            Ok(Some(first)) if first.sum != sum => {
                 let mut note = Note::of_order(self.alloc, Some(id));
                 let first = first.item;
                 note.add(format_args!(
@@ -46,9 +42,9 @@ impl Repeats {
                 ));
                 Some(note)
             }
-            Some(_) => None,
-            None => {
-                self.is_full = self.firsts.insert(id, First { item, sum }).is_err();
+            Ok(_) => None,
+            Err(_) => {
+                self.is_full = true;
                 None
             }
         }
@@ -56,14 +52,14 @@ impl Repeats {
 }
 
 // A sum over an order's unit and updates: two orders of one sum are the same but by a rare chance (FNV-1a).
-fn sum_of(order: &Order) -> u64 {
-    let mut sum = with_byte(0xcbf2_9ce4_8422_2325, order.unit());
+fn sum_of(order: &Order) -> u32 {
+    let mut sum = with_byte(0x811c_9dc5, order.unit());
     for &(location, byte) in order.updates() {
         sum = with_byte(with_byte(sum, location), byte);
     }
     sum
 }
 
-fn with_byte(sum: u64, byte: u8) -> u64 {
-    (sum ^ u64::from(byte)).wrapping_mul(0x100_0000_01b3)
+fn with_byte(sum: u32, byte: u8) -> u32 {
+    (sum ^ u32::from(byte)).wrapping_mul(0x0100_0193)
 }

@@ -3,7 +3,7 @@ use crate::near_key::near_key;
 use crate::note::Note;
 use crate::scenario_rule::{Member, event_members, fate_members, scenario_members, unit_members};
 use crate::told_key::ToldKey;
-use dali_input::scenario_key as key;
+use dali_input::{Shallow, scenario_key as key};
 use serde_json::Value as Json;
 use std::alloc::Global;
 use std::fmt;
@@ -75,7 +75,7 @@ fn note_each(note: &mut Note, list: &'static str, json: Option<&Json>, members: 
 // Tells what is wrong with an object: its keys, and then what stands at them.
 fn note_object(note: &mut Note, path: Path, json: &Json, members: &[Member]) {
     if json.as_object().is_none() {
-        let found = Described(Some(json));
+        let found = Described(Some(Shallow::of(json)));
         note.add(format_args!("{path}: {found}, and it is an object"));
         return;
     }
@@ -122,7 +122,12 @@ fn note_member(note: &mut Note, path: Path, json: &Json, member: Member) {
         None => !member.is_required,
     };
     if !suits {
-        let (before, key, found, rule) = (Before(path), member.key, Described(value), member.rule);
+        let (before, key, found, rule) = (
+            Before(path),
+            member.key,
+            Described(value.map(Shallow::of)),
+            member.rule,
+        );
         note.add(format_args!("{before}{key}: {found}, and it is {rule}"));
     }
 }

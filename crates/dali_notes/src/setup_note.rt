@@ -1,7 +1,8 @@
 use crate::item_note::note_of_item;
 use crate::note::Note;
 use dali_gear::{GearFault, LEAST_BANK, MOST_ADDRESS, MOST_BANK};
-use dali_input::{EventPlan, InputFault, MOST_EVENTS, Scenario, SetupFault, UnitPlan};
+use dali_input::{EventPlan, InputFault, Item, MOST_EVENTS, Scenario, SetupFault, UnitPlan};
+use serde_json::Value as Json;
 use std::alloc::Global;
 
 /// Why a scenario can't be set up: what is wrong with the unit or the order that the fault names.
@@ -15,7 +16,8 @@ pub fn note_of_setup(alloc: Global, scenario: &Scenario<'_>, fault: SetupFault) 
         }
         SetupFault::Order(number, fault) => {
             if let Some(EventPlan::Submit(order, _)) = nth(&scenario.events, number) {
-                return note_of_item(alloc, order, fault);
+                let keys = keys_of(alloc, order);
+                return note_of_item(alloc, &Item::of(order), keys.as_slice(), fault);
             }
         }
         SetupFault::SameAddress => note_same_address(&mut note, &scenario.units),
@@ -26,6 +28,17 @@ pub fn note_of_setup(alloc: Global, scenario: &Scenario<'_>, fault: SetupFault) 
         SetupFault::Input(_) => {}
     }
     note
+}
+
+// The keys of an object. Those for which there is no memory are left out.
+fn keys_of(alloc: Global, json: &Json) -> Vec<&str> {
+    let mut keys = Vec::new(alloc);
+    if let Some(object) = json.as_object() {
+        for (key, _) in object.iter() {
+            let _no_memory = keys.push(key.as_str()).is_err();
+        }
+    }
+    keys
 }
 
 // The one of some things that has this number, counted from 1.

@@ -1,6 +1,6 @@
-use Rattle.std.proofs.Common.{◌≡◌, ◌++◌, length}
-use Rattle.std.specs.Vec.Iter.{into_iter_items, into_iter_len}
-use Rattle.serde_json.specs.View.{items_view}
+use Rattle.std.proofs.Common.{◌≡◌, ◌+◌}
+use Rattle.serde_json.specs.Data.{Items}
+use Rattle.dali_input.specs.ItemsLeft.{AreLeft, left_of}
 use Rattle.dali_text.specs.Output.{has_failed}
 use Rattle.dali_notes.specs.Notes.{Tells}
 use Rattle.dali_file_commands.specs.Known.{asked}
@@ -8,11 +8,15 @@ use Rattle.dali_file_commands.specs.Notes.{AreItemNotes}
 use Rattle.dali_file_commands.proofs.ReportLemmas.{SoFar}
 use Rattle.dali_file_commands.proofs.check.write_items.Given as goal
 
-abbrev pub invariant-loop-item : goal.invariant-loop-item
-invariant-loop-item g l = (l.yielded ++ into_iter_items l.item-iterator ≡ into_iter_items l.initial.item-iterator)
-    × (into_iter_len l.item-iterator ≡ length (into_iter_items l.item-iterator))
-    × SoFar (asked l.ledger.journal) (items_view l.yielded) (length l.yielded) l.accepted l.refused
-    (g.W.Write.contents l.initial.output.writer)
-    (g.W.Write.contents l.output.writer)
-    (λ outcomes. Tells g.N.Write.contents l.initial.notes l.notes (AreItemNotes 1 outcomes))
-    × (has_failed l.output ≡ has_failed l.initial.output)
+abbrev pub invariant-items : goal.invariant-items
+invariant-items g l = record {
+  counted : l.accepted + l.refused + left_of l.items ≡ l.count;
+  so_far : (all : Items) → AreLeft l.initial.items all → (left : Items) × AreLeft l.items left
+      × SoFar (asked l.ledger.journal) all left l.accepted l.refused
+      (g.W.Write.contents l.initial.output.writer) (g.W.Write.contents l.output.writer)
+      (λ outcomes. Tells g.N.Write.contents l.initial.notes l.notes (AreItemNotes 1 outcomes));
+  failed : has_failed l.output ≡ has_failed l.initial.output;
+}
+
+abbrev pub decreases-items : goal.decreases-items
+decreases-items g l = left_of l.items

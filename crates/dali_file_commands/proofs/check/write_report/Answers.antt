@@ -4,8 +4,8 @@ use Rattle.dali_file_commands.proofs.ReportLemmas.{some_refused}
 use Rattle.dali_file_commands.proofs.check.write_report.Goals as goal
 
 pub returns-then-refused-eq0-clause-report : goal.returns-then-refused-eq0-clause-report
-returns-then-refused-eq0-clause-report g c =
-    let (outcomes, judged, good, bad, lines, are, written, noted) = c.in_ok-accepted.ensures.lines in
+returns-then-refused-eq0-clause-report g c = λ all left.
+    let (outcomes, judged, good, bad, lines, are, written, noted) = c.in_ok-accepted.ensures.lines all left in
     let (last, free, told) = c.in_ok-write_free.ensures.text in (
       outcomes,
       judged,
@@ -19,8 +19,8 @@ returns-then-refused-eq0-clause-report g c =
     )
 
 pub returns-else-refused-eq0-clause-report : goal.returns-else-refused-eq0-clause-report
-returns-else-refused-eq0-clause-report g c =
-    let (outcomes, judged, good, bad, lines, are, written, noted) = c.in_ok-accepted.ensures.lines in
+returns-else-refused-eq0-clause-report g c = λ all left.
+    let (outcomes, judged, good, bad, lines, are, written, noted) = c.in_ok-accepted.ensures.lines all left in
     let (last, free, told) = c.in_ok-write_free.ensures.text in (
       outcomes,
       judged,

@@ -1,6 +1,6 @@
-use Rattle.std.proofs.Common.{◌≡◌, true, false, refl, sym, subst, arith}
-use Rattle.dali_input.specs.Items.{KnowsKeys}
+use Rattle.std.proofs.Common.{◌≡◌, true, false, refl, sym, arith}
 use Rattle.dali_input.proofs.ItemLemmas.{above_63}
+use Rattle.dali_input.proofs.MemberLemmas.{knows}
 use Rattle.dali_input.proofs.item.empty_draft_of.Goals as goal
 
 pub returns-then-not-members-clause-err : goal.returns-then-not-members-clause-err
@@ -8,12 +8,12 @@ returns-then-not-members-clause-err c = λ source are. (
   c.in_ok-id.id,
   c.in_ok-id.unit,
   c.in_ok-id.ensures.ok source are,
-  subst (KnowsKeys source) c.if-not-members.true are.known,
+  knows source _ _ _ _ are (c.in_ok-id.ensures.ok source are) c.if-not-members.true,
 )
 
 pub returns-in_default-clause-err : goal.returns-in_default-clause-err
 returns-in_default-clause-err c = λ source are.
-    let keys = subst (KnowsKeys source) c.if-not-members.false are.known in (
+    let keys = knows source _ _ _ _ are (c.in_ok-id.ensures.ok source are) c.if-not-members.false in (
       c.in_ok-id.id,
       c.in_ok-id.unit,
       c.in_ok-id.ensures.ok source are,
@@ -28,14 +28,14 @@ returns-in-Ok-new-clause-ok c =
       refl,
       λ source are. record {
         numbers = c.in_ok-id.ensures.ok source are;
-        keys = subst (KnowsKeys source) c.if-not-members.false are.known;
+        keys = knows source _ _ _ _ are (c.in_ok-id.ensures.ok source are) c.if-not-members.false;
         short = rw unit at (c.in-Ok-new.ensures.short.0 refl);
       },
     )
 
 pub returns-in-Err-clause-err : goal.returns-in-Err-clause-err
 returns-in-Err-clause-err c = λ source are.
-    let keys = subst (KnowsKeys source) c.if-not-members.false are.known in
+    let keys = knows source _ _ _ _ are (c.in_ok-id.ensures.ok source are) c.if-not-members.false in
     rw c.in-Err.ensures.err (
       c.in_ok-id.id,
       c.in_ok-id.unit,

@@ -7,7 +7,7 @@ from terms import Names, level_index, tokens_of
 
 USE = re.compile(r"use (?P<path>[^\s{};]+?)(?:\.\{(?P<names>[^}]*)\}| as (?P<alias>[^\s;]+))?;?$")
 # What stands before the name of an item, and the name.
-HEAD = re.compile(r"((?:(?:abbrev|unfoldable|pub|record|data) )*)(\S+)( |$)")
+HEAD = re.compile(r"((?:(?:abbrev|unfoldable|pub|record|data|ruleset) )*)(\S+)( |$)")
 # The modules that the kit makes of code: its types, and the goals of its functions.
 DECLARED = "declared"
 

@@ -265,7 +265,8 @@ fn a_block_with_one_loss_at_each_frame(rt: HostRuntime) -> Result<(), Fail> {
         let mut session = Session::reading_block(5, SIXTEEN);
         let (frames, verdict) = finish(&mut bus, &mut session);
         let is_read = frames <= 44 && verdict == Some(Verdict::Read);
-        expect_that(is_read && session.bytes() == [0xFF; 16], "a block in 44 frames")?;
+        let is_whole = session.bytes() == [0xFF; 16].as_slice();
+        expect_that(is_read && is_whole, "a block in 44 frames")?;
     }
     Ok(())
 }

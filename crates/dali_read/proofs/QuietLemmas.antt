@@ -48,7 +48,7 @@ ends_sent P unit all course None told silent =
       arith,
       sent_both P silent.missed (told_in silent.done) (misses_sent P (block_requests unit silent.block)
           most_tries silent.missed
-              (all silent.block silent.fits) silent.fails) (in_turn_sent P unit all course silent.done
+          (all silent.block silent.fits) silent.fails) (in_turn_sent P unit all course silent.done
           silent.in_turn),
     )
 

@@ -204,9 +204,13 @@ found_read unit plan expected told found = by found.answered
     by (tried, missed, misses, same, try, outcome, few, are) =
         let parts : found.read ++ found.older ≡ tried ++ (missed ++ found.older) =
         ap (λ (t : List Exchange). t ++ found.older) same ∙ append_assoc tried missed found.older in
-        let here = ends_has unit found.location found.found (found.read ++ found.older)
-        (tried, missed ++ found.older, parts, one_tells unit found.location found.found tried
-        (try, let is = outcome in cc)) in
+        let here = ends_has unit found.location found.found (found.read ++ found.older) (
+          tried,
+          missed ++ found.older,
+          parts,
+          one_tells unit found.location found.found tried
+              (try, let is = outcome in cc),
+        ) in
         subst (λ (t : List Exchange). HasRead unit t) (sym found.parts)
         (has_later unit found.newer (found.read ++ found.older) here)
 

@@ -230,7 +230,7 @@ plan_state_is unit plan (x ∷ told) state (inr p) =
     let older : p.older ≡ told = cc in
     let before =
     subst (λ (t : List Exchange). Stands unit plan p.outcomes t p.now p.misses
-        (request p.newest.frame p.wish ∷ p.left) p.bytes)
+    (request p.newest.frame p.wish ∷ p.left) p.bytes)
     older p.before in
     let same =
     plan_state_is unit plan told _

@@ -98,8 +98,11 @@ suits_not_silent true = λ e. cc
 suits_not_silent false = λ e. cc
 
 format_late : Late IsLook Silent None read_format
-format_late = (λ e. inr (inl refl), λ high.
-    (λ e. inr (inr refl), λ low. suits_not_silent ((get_or high 0 0 == 0) && (get_or low 0 0 == 3))))
+format_late = (
+  λ e. inr (inl refl),
+  λ high.
+      (λ e. inr (inr refl), λ low. suits_not_silent ((get_or high 0 0 == 0) && (get_or low 0 0 == 3))),
+)
 
 length_late : (updates : List (ℕ × ℕ)) → Late IsLook Silent None (read_length updates)
 length_late updates = (
@@ -164,7 +167,7 @@ pub reading_late : (told : List Exchange) (unit : ℕ) → Wants unit read_all t
     → (location : ℕ) × EndsUnread unit location told
 reading_late told unit wants =
     let of = late IsSome unit read_all told Silent
-        (λ e. (0, refl), λ last. read_on_late 1 (min (get_or last 0 0) 0xFE)) wants in
+    (λ e. (0, refl), λ last. read_on_late 1 (min (get_or last 0 0) 0xFE)) wants in
     (of.1.0, subst (λ (s : Access). EndsInFailure unit s told) of.1.1 of.2)
 
 -- with older frames before

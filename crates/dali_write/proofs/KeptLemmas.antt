@@ -159,8 +159,10 @@ safe_access keep at (WriteTo location byte) unit keeps kept =
       arith,
       quiet_first keep (Ends (WriteTo location byte)) (request (Enable at) Nothing ∷ request (Enable at)
           Nothing ∷ request (Dtr1 1) Nothing ∷ []) (request (AskDtr1 at) (Exactly 1) ∷ request (Dtr0 location) Nothing ∷
-          request (AskDtr0 at) (Exactly location) ∷ request (Write byte) (Exactly byte) ∷ []) unit (tt,
-              (tt, (tt, tt))) kept
+          request (AskDtr0 at) (Exactly location) ∷ request (Write byte) (Exactly byte) ∷ []) unit (
+            tt,
+            (tt, (tt, tt)),
+          ) kept
           (safe_ask1 keep at location byte keeps),
     )
 

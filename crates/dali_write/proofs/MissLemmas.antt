@@ -28,9 +28,11 @@ Apt location (next ∷ left) = (next.wish ≡ wish_of next.frame location) × Ap
 apt_reads : (unit count location : ℕ) (back : List Request) → Apt (moved_on location count) back
     → Apt location (reads unit count ++ back)
 apt_reads unit zero location back apt = apt
-apt_reads unit (suc count) location back apt =
-    (refl, apt_reads unit count (up location) back
-    (subst (λ (l : ℕ). Apt l back) (sym (moved_next location count)) apt))
+apt_reads unit (suc count) location back apt = (
+  refl,
+  apt_reads unit count (up location) back
+      (subst (λ (l : ℕ). Apt l back) (sym (moved_next location count)) apt),
+)
 
 apt_access : (unit : ℕ) (access : Access) (location : ℕ) → Apt location (access_requests unit access)
 apt_access unit (ReadFrom block) location = grind (arith, apt_reads)

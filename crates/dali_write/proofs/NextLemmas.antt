@@ -56,9 +56,19 @@ wants_of : (unit : ℕ) (plan : Plan) (outcomes : List (Option (List ℕ))) (tol
     (bytes : List ℕ)
     → Stands unit plan outcomes told now misses left bytes
     → (ask : Ask) × Wants unit plan told ask
-wants_of unit plan outcomes told now misses left bytes s =
-    (_, record { outcomes = outcomes; now = now; misses = misses; left = left; bytes = bytes; stands = s; ask_is =
-    refl })
+wants_of unit plan outcomes told now misses left bytes s = (
+  _,
+  record {
+    outcomes = outcomes;
+    now = now;
+    misses = misses;
+    left = left;
+    bytes = bytes;
+    stands = s;
+    ask_is =
+        refl;
+  },
+)
 
 -- after one more answer
 next_at : (unit : ℕ) (plan : Plan) (outcomes : List (Option (List ℕ))) (told : List Exchange) (now : Plan)
@@ -91,7 +101,7 @@ next_at unit plan outcomes told (Make access after) misses next left bytes answe
     by rest s (inr missed) (inr few) =
         let less = few.1 in
         wants_of unit plan _ _ _ _ _ _
-            (stands_again unit plan outcomes told (Make access after) misses rest bytes next.frame answer
+        (stands_again unit plan outcomes told (Make access after) misses rest bytes next.frame answer
         next.wish s missed (omega arith))
 
 pub next_wanted : (unit : ℕ) (plan : Plan) (told : List Exchange) (frame : Frame) (answer : Option ℕ)
@@ -120,7 +130,7 @@ pub opened_few : (unit : ℕ) (updates : List (ℕ × ℕ)) (told : List Exchang
     → Wants unit (unlock updates) told ask → length told ≤ opened_limit (length updates)
 opened_few unit updates told ask w =
     stands_takes unit (unlock updates) w.outcomes told w.now w.misses w.left w.bytes
-        (opened_limit (length updates)) w.stands
+    (opened_limit (length updates)) w.stands
     (unlock_takes (opened_limit (length updates)) updates (omega arith))
 
 pub closing_few : (unit : ℕ) (told : List Exchange) (ask : Ask) → Wants unit (close Closed NotClosed) told ask

@@ -75,11 +75,11 @@ has_room Reading unit told outcomes now misses tried bytes frame answer wish s m
     let reached =
     accesses_reach unit outcomes s.ended [] s.ended s.accesses (sym (append-nil s.ended)) in
     let try = subst (λ (p : Plan). Trying (plan_requests unit p) s.tried (request frame wish ∷ []))
-        (sym s.now_is) s.try in
+    (sym s.now_is) s.try in
     rw (are, ← s.bytes_are) (one_more unit _ (found outcomes) s.ended s.tried frame wish answer reached try meets)
 has_room (ReadingBlock block) unit told outcomes now misses tried bytes frame answer wish s meets few are =
     let try = subst (λ (p : Plan). Trying (plan_requests unit p) s.tried (request frame wish ∷ []))
-        (sym s.now_is) s.try in
+    (sym s.now_is) s.try in
     let none = no_more unit block outcomes s.tried (request frame wish) try in
     let empty = ap (λ (l : List ℕ). length l) (are ∙ ap found none) in
     omega arith

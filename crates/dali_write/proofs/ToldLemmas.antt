@@ -98,7 +98,7 @@ told_done told s new frame answer wish at meets was none unit task plan begins f
     has_room s.task s.unit told w.outcomes now s.misses s.tried.items s.bytes.items frame answer wish last meets few
     w.bytes_are in
     told_as (x ∷ told) new s.unit s.task _ 0 0 [] new.bytes.items plan unit task begins.0 begins.1 begins.2 refl
-        (record {
+    (record {
       outcomes = Some (s.tried.items ++ read_answer frame answer) ∷ w.outcomes;
       stands = stands_done s.unit (plan_of s.task) w.outcomes told now s.misses s.tried.items frame answer wish last
           meets;

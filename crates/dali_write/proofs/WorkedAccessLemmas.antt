@@ -198,7 +198,7 @@ found_doubts unit plan expected told f =
     (f.newer, f.read, refl, inl f.answered, gave) in
     let all =
     walk_then unit plan (expect f.location f.byte f.after) (Finish Doubt) f.before
-        (Some (f.found ∷ []) ∷ f.later) f.older
+    (Some (f.found ∷ []) ∷ f.later) f.older
     (f.newer ++ f.read) f.came later in
     walk_wants unit plan Doubt all.0 told (subst (λ (t : List Exchange). Walk unit plan all.0 t (Finish Doubt))
     (append_assoc f.newer f.read f.older ∙ sym f.parts) all.1)

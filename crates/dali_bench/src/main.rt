@@ -1,9 +1,11 @@
 //! A bench for luminaire data in memory bank 1 of DALI control gear.
 #![tactic(auto)]
 
+ghost use Rattle.std.specs.Prelude.{◌≤◌};
+ghost use Rattle.std.specs.List.{AllByRecursion};
 ghost use Rattle.dali_link_commands.specs.LinkCommands.{IsShort};
 
-use dali_drive::{StdSink, StdSource, StoreDesk};
+use dali_drive::{Sought, StdSink, StdSource, StoreDesk};
 use dali_faults::{Fault, Status, write_fault};
 use dali_file_commands::FileCommand;
 use dali_file_commands::frame::frame;
@@ -11,10 +13,11 @@ use dali_input::{Input, InputFault};
 use dali_job::{Job, job_of};
 use dali_link_commands::LinkCommand;
 use dali_link_commands::asked::read_asked;
-use dali_link_commands::drive::DriveTask;
+use dali_link_commands::drive::{DriveTask, pace_of};
 use dali_link_commands::lines::Lines;
 use dali_link_commands::required::Required;
 use dali_notes::FirstLines;
+use dali_report::{Cleared, Counted, Progress, progress_of};
 use dali_store::FileStore;
 use dali_text::{Escaped, Output};
 use std::alloc::{AllocError, Global};
@@ -22,7 +25,7 @@ use std::io::{BufWriter, ErrorKind, IsTerminal, LineWriter, Read, Write};
 use std::process::ExitCode;
 use std::{fs, io};
 
-// What `--version` prints: `./test` compares the logic with that of the kit that the gate runs on.
+// What `--version` and `-V` print: `./test` compares the logic with that of the kit that the gate runs on.
 const VERSION: &str = "dali_bench 1.0, proved with the Rattle logic dac8208d650f15bf";
 
 // Where a command over a link is started with no link.
@@ -72,7 +75,7 @@ fn run(rt: &HostRuntime, words: &Vec<String>) -> Status {
     } else {
         FaultStream::Output
     };
-    if words.len() == 2 && words[1].as_str() == "--version" {
+    if words.len() == 2 && asks_version(words[1].as_str()) {
         return print_version(rt);
     }
     let Ok(words) = texts_of(rt.alloc(), words) else {
@@ -107,8 +110,10 @@ fn run(rt: &HostRuntime, words: &Vec<String>) -> Status {
                 journal,
                 moment,
                 follow,
+                short_plan,
                 require_done,
                 require_now,
+                progress,
                 report,
                 older,
             },
@@ -118,13 +123,32 @@ fn run(rt: &HostRuntime, words: &Vec<String>) -> Status {
                 journal,
                 older: older.as_slice(),
                 moment,
+                pace: pace_of(short_plan),
                 required: Required::of(require_done, require_now),
             };
-            on_link(rt, LinkCommand::driving(follow, task, report))
+            on_link(rt, LinkCommand::driving(follow, task, report), progress)
         }
-        Ok(Job::Read { unit, bank }) => on_link(rt, LinkCommand::Read { unit, bank }),
-        Ok(Job::Verify { orders, report }) => on_link(rt, LinkCommand::Verify { orders, report }),
-        Ok(Job::Scan) => on_link(rt, LinkCommand::Scan),
+        Ok(
+            Job::Read {
+                unit,
+                bank,
+                progress,
+            },
+        ) => { on_link(rt, LinkCommand::Read { unit, bank }, progress) }
+        Ok(
+            Job::Verify {
+                orders,
+                report,
+                progress,
+            },
+        ) => { on_link(rt, LinkCommand::Verify { orders, report }, progress) }
+        Ok(
+            Job::Scan {
+                units,
+                with_gtin,
+                progress,
+            },
+        ) => on_scan(rt, units.as_slice(), with_gtin, progress),
         Err(error) if error.kind() == clap::error::ErrorKind::OutOfMemory => out_of_memory(
             rt, stream,
         ),
@@ -134,6 +158,11 @@ fn run(rt: &HostRuntime, words: &Vec<String>) -> Status {
             Err(cause) => tell_cause(rt, Status::Unwritten, Some(cause.kind())),
         },
     }
+}
+
+// Whether a word that stands alone asks for the version.
+fn asks_version(word: &str) -> bool {
+    matches!(word, "--version" | "-V")
 }
 
 // Whether a command of this name has the link for its output.
@@ -255,21 +284,42 @@ fn on_check(rt: &HostRuntime, orders: &str, journal: Option<&str>, older: &[&str
 // Carries out a command over a file, or over standard input for `-`. The name `/dev/stdin` is read through the runtime
 // too, since a process may lack the right to open it by name.
 fn on_file(rt: &HostRuntime, name: &str, command: FileCommand<'_>) -> Status {
-    let Ok(writer) = BufWriter::new(rt.alloc(), io::writer(rt)) else {
-        return out_of_memory(rt, FaultStream::Output);
-    };
-    let mut output = Output::new(writer);
+    if is_watched(rt) {
+        return match LineWriter::new(rt.alloc(), io::writer(rt)) {
+            Ok(writer) => onto_output(rt, name, command, &mut Output::new(writer)),
+            Err(_) => out_of_memory(rt, FaultStream::Output),
+        };
+    }
+    match BufWriter::new(rt.alloc(), io::writer(rt)) {
+        Ok(writer) => onto_output(rt, name, command, &mut Output::new(writer)),
+        Err(_) => out_of_memory(rt, FaultStream::Output),
+    }
+}
+
+// Whether a person sees standard output and standard error in one place: each line is to stand there as it is written,
+// so that what is told of an item stands behind it.
+fn is_watched(rt: &HostRuntime) -> bool {
+    rt.stdout().is_terminal() && rt.stderr().is_terminal()
+}
+
+// Carries out a command over a file, or over standard input, onto an output.
+fn onto_output<W: Write>(
+    rt: &HostRuntime,
+    name: &str,
+    command: FileCommand<'_>,
+    output: &mut Output<W>,
+) -> Status {
     if name == "/dev/stdin" || name == "-" {
         return on_input(
             rt,
             "standard input",
             command,
             &mut Input::new(rt.reader()),
-            &mut output,
+            output,
         );
     }
     match fs::open(rt, name) {
-        Ok(file) => on_input(rt, name, command, &mut Input::new(file), &mut output),
+        Ok(file) => on_input(rt, name, command, &mut Input::new(file), output),
         Err(cause) => unopened(rt, name, cause, FaultStream::Output),
     }
 }
@@ -282,9 +332,27 @@ fn on_input<R: Read, W: Write>(
     input: &mut Input<R>,
     output: &mut Output<W>,
 ) -> Status {
-    let Ok(writer) = BufWriter::new(rt.alloc(), rt.stderr()) else {
-        return out_of_memory(rt, FaultStream::Output);
-    };
+    if is_watched(rt) {
+        return match LineWriter::new(rt.alloc(), rt.stderr()) {
+            Ok(writer) => on_noted(rt, name, command, input, output, writer),
+            Err(_) => out_of_memory(rt, FaultStream::Output),
+        };
+    }
+    match BufWriter::new(rt.alloc(), rt.stderr()) {
+        Ok(writer) => on_noted(rt, name, command, input, output, writer),
+        Err(_) => out_of_memory(rt, FaultStream::Output),
+    }
+}
+
+// The same, with a writer onto standard error.
+fn on_noted<R: Read, W: Write, N: Write + Drop>(
+    rt: &HostRuntime,
+    name: &str,
+    command: FileCommand<'_>,
+    input: &mut Input<R>,
+    output: &mut Output<W>,
+    writer: N,
+) -> Status {
     let mut notes = Output::new(FirstLines::new(writer));
     let status = command.carry_out(rt.alloc(), input, output, &mut notes);
     let _ = notes.flush();
@@ -328,16 +396,63 @@ fn is_one_whole(command: FileCommand<'_>) -> bool {
     matches!(command, FileCommand::Show | FileCommand::Journal { .. })
 }
 
+// Looks which of these units answer, or which of all where none is named. One that is named twice is told, and none is
+// asked.
+fn on_scan(rt: &HostRuntime, units: &[u8], with_gtin: bool, is_watched: bool) -> Status
+    requires { AllByRecursion (λ unit. unit ≤ 63) units.now }
+{
+    if let Some(unit) = named_twice(units) {
+        let _ = eprintln!(rt; "error: unit {unit} is named twice: name each unit once");
+        return Status::Refused;
+    }
+    let sought = if with_gtin {
+        Sought::Identity
+    } else {
+        Sought::Last
+    };
+    on_link(
+        rt,
+        LinkCommand::Scan {
+            addresses: units,
+            sought,
+        },
+        is_watched,
+    )
+}
+
+// The first unit that was named before.
+fn named_twice(units: &[u8]) -> Option<u8> {
+    for (index, unit) in units.iter().enumerate() {
+        if units[..index].contains(unit) {
+            return Some(*unit);
+        }
+    }
+    None
+}
+
 // Carries out a command over standard input and output. Where standard error can't be written, nothing more is. A
-// person at a terminal is told what is missing: the frames would be printed there, and the answers waited for.
-fn on_link(rt: &HostRuntime, command: LinkCommand<'_>) -> Status
+// person at a terminal is told what is missing: the frames would be printed there, and the answers waited for. Who asks
+// for it watches how far the command is.
+fn on_link(rt: &HostRuntime, command: LinkCommand<'_>, is_watched: bool) -> Status
     requires { IsShort command }
 {
     if rt.stdout().is_terminal() {
         let _ = eprintln!(rt; "{AT_A_TERMINAL}");
         return Status::Refused;
     }
-    let Ok(lines) = LineWriter::new(rt.alloc(), rt.stderr()) else {
+    let progress = progress_of(*rt, is_watched, command.watched());
+    let status = carried_out(rt, command, progress.as_ref());
+    if let Some(progress) = &progress {
+        progress.end();
+    }
+    status
+}
+
+// Carries out a command over standard input and output, beside what is watched, if that is.
+fn carried_out(rt: &HostRuntime, command: LinkCommand<'_>, progress: Option<&Progress>) -> Status
+    requires { IsShort command }
+{
+    let Ok(lines) = LineWriter::new(rt.alloc(), Cleared::new(rt.stderr(), progress)) else {
         return out_of_memory(rt, FaultStream::Lines);
     };
     // A file that is opened takes the number of a standard stream that is closed. These do so before the journal.
@@ -345,13 +460,13 @@ fn on_link(rt: &HostRuntime, command: LinkCommand<'_>) -> Status
         (Ok(_first), Ok(_second), Ok(_third)) => {
             let mut desk = StoreDesk {
                 link_in: StdSource::new(rt.stdin()),
-                link_out: StdSink::new(rt.stdout()),
+                link_out: StdSink::new(Counted::new(rt.stdout(), progress)),
                 journal: FileStore::for_text(rt, command.file()),
                 out: Lines {
                     output: Output::new(lines),
                 },
             };
-            match command.carry_out(rt, &mut desk) {
+            match command.carry_out(rt, &mut desk, progress) {
                 Status::Unwritten => Status::Failed,
                 status => status,
             }

@@ -4,6 +4,7 @@ use dali_commands::lines::Lines;
 use dali_commands::required::Required;
 use dali_commands::{FileStore, Output, Report, Status, StdSink, StdSource, StoreDesk};
 use dali_shared_tests::expect_that;
+use dali_writer::Pace;
 use std::fs::{File, Files};
 use std::test::Fail;
 use std::{fs, io};
@@ -129,6 +130,7 @@ fn driven_files<'a, R: Files<File = File> + AllocGlobal>(
         journal: drive.journal,
         older: &[],
         moment: drive.moment,
+        pace: Pace::Checked,
         required: Required::Nothing,
     };
     let mut desk = StoreDesk {
@@ -139,7 +141,7 @@ fn driven_files<'a, R: Files<File = File> + AllocGlobal>(
             output: Output::new(&mut told),
         },
     };
-    let mut report: Report<io::Sink> = Report::new(rt.alloc(), 1, None);
+    let mut report: Report<io::Sink> = Report::new(rt.alloc(), 1, None, None);
     let status = drive_files(rt, task, &mut desk, &mut report);
     drop(desk);
     fs::remove_file(rt, name)?;

@@ -5,6 +5,7 @@ use dali_commands::lines::Lines;
 use dali_commands::required::Required;
 use dali_commands::{Input, MemoryStore, Output, Report, Status, StdSink, StdSource, StoreDesk};
 use dali_shared_tests::expect_that;
+use dali_writer::Pace;
 use std::alloc::{AllocError, Global};
 use std::test::Fail;
 
@@ -41,6 +42,7 @@ fn driven_over(
         journal: "journal",
         older: &[],
         moment: 7,
+        pace: Pace::Checked,
         required,
     };
     let mut desk = StoreDesk {
@@ -51,7 +53,7 @@ fn driven_over(
             output: Output::new(&mut told),
         },
     };
-    let mut report = Report::new(alloc, 1, Some(Output::new(&mut reported)));
+    let mut report = Report::new(alloc, 1, Some(Output::new(&mut reported)), None);
     let mut input = Input::new(orders.as_bytes());
     let status = drive_input(alloc, None, task, &mut input, &mut desk, &mut report);
     let kept = desk.journal.bytes().to_vec(alloc)?;

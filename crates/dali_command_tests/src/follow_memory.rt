@@ -10,7 +10,7 @@ use dali_commands::{
     MemoryStore, OrderLines, Output, Report, Status, StdSink, StdSource, StoreDesk,
 };
 use dali_shared_tests::expect_that;
-use dali_writer::{Got, Source};
+use dali_writer::{Got, Pace, Source};
 use std::alloc::{AllocError, Global};
 use std::io;
 use std::test::Fail;
@@ -187,6 +187,7 @@ fn is_followed(alloc: Global, stream: &Stream<'_>) -> Result<bool, AllocError> {
         journal: "journal",
         older: &[],
         moment: 7,
+        pace: Pace::Checked,
         required: stream.required,
     };
     let source = StdSource::new(TestReader::new(stream.lines.as_bytes(), stream.behind));
@@ -199,7 +200,7 @@ fn is_followed(alloc: Global, stream: &Stream<'_>) -> Result<bool, AllocError> {
             output: Output::new(&mut told),
         },
     };
-    let mut report: Report<io::Sink> = Report::new(alloc, 1, None);
+    let mut report: Report<io::Sink> = Report::new(alloc, 1, None, None);
     let status = follow_lines(alloc, None, task, &mut orders, &mut desk, &mut report);
     let is_kept = desk.journal.bytes() == stream.kept;
     let left = left_of(&mut desk.link_in);

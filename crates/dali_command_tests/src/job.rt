@@ -20,8 +20,39 @@ fn command_lines(rt: HostRuntime) -> Result<(), Fail> {
     let alloc = rt.alloc();
     names(alloc, "dali_bench frame A303", Job::Frame("A303"))?;
     names(alloc, "dali_bench frame ", Job::Frame(""))?;
-    names(alloc, "dali_bench show bank.hex", Job::Show("bank.hex"))?;
-    names(alloc, "dali_bench scan", Job::Scan)
+    names(alloc, "dali_bench show bank.hex", Job::Show("bank.hex"))
+}
+
+// Command lines of a scan, its units with a space between them, and whether it asks for GTINs.
+static SCANS: [(&str, Option<&str>, bool); 5] = [
+    ("dali_bench scan", None, false),
+    ("dali_bench scan --gtin", None, true),
+    ("dali_bench scan 63 0 +5", Some("63 0 5"), false),
+    ("dali_bench scan 9 --gtin 5", Some("9 5"), true),
+    ("dali_bench scan -- 007 7", Some("7 7"), false),
+];
+
+#[test]
+fn command_lines_of_a_scan(rt: HostRuntime) -> Result<(), Fail> {
+    for &(line, named, with_gtin) in &SCANS {
+        let mut units = Vec::new(rt.alloc());
+        if let Some(named) = named {
+            for unit in named.split(' ') {
+                units.push(unit.parse()?)?;
+            }
+        }
+        let progress = false;
+        names(
+            rt.alloc(),
+            line,
+            Job::Scan {
+                units,
+                with_gtin,
+                progress,
+            },
+        )?;
+    }
+    Ok(())
 }
 
 // Command lines of a check, the journal that each asks, and the older ones, with a space between them.
@@ -124,7 +155,13 @@ static COMPARISONS: [(&str, Option<&str>); 4] = [
 fn command_lines_of_a_comparison(rt: HostRuntime) -> Result<(), Fail> {
     for &(line, report) in &COMPARISONS {
         let orders = "o.json";
-        names(rt.alloc(), line, Job::Verify { orders, report })?;
+        let progress = false;
+        let job = Job::Verify {
+            orders,
+            report,
+            progress,
+        };
+        names(rt.alloc(), line, job)?;
     }
     Ok(())
 }
@@ -133,7 +170,7 @@ fn command_lines_of_a_comparison(rt: HostRuntime) -> Result<(), Fail> {
 fn drive(
     alloc: Global,
     moment: u64,
-    follow: bool,
+    (follow, short_plan): (bool, bool),
     (require_done, require_now): (bool, bool),
     report: Option<&str>,
 ) -> Job<'_> {
@@ -142,8 +179,10 @@ fn drive(
         journal: "b.bin",
         moment,
         follow,
+        short_plan,
         require_done,
         require_now,
+        progress: false,
         report,
         older: Vec::new(alloc),
     }
@@ -160,7 +199,13 @@ dali_bench drive --moment 18446744073709551615 o.json b.bin|18446744073709551615
 fn command_lines_of_a_drive(rt: HostRuntime) -> Result<(), Fail> {
     for case in DRIVES.split('\n') {
         let (line, moment) = case.split_once('|').ok_or("a command line")?;
-        let job = drive(rt.alloc(), moment.parse()?, false, (false, false), None);
+        let job = drive(
+            rt.alloc(),
+            moment.parse()?,
+            (false, false),
+            (false, false),
+            None,
+        );
         names(rt.alloc(), line, job)?;
     }
     Ok(())
@@ -234,7 +279,23 @@ static DRIVES_WITH_OPTIONS: [(&str, bool, (bool, bool), Option<&str>); 10] = [
 #[test]
 fn command_lines_of_a_drive_with_options(rt: HostRuntime) -> Result<(), Fail> {
     for &(line, follow, required, report) in &DRIVES_WITH_OPTIONS {
-        let job = drive(rt.alloc(), 0, follow, required, report);
+        let job = drive(rt.alloc(), 0, (follow, false), required, report);
+        names(rt.alloc(), line, job)?;
+    }
+    Ok(())
+}
+
+// Command lines of a drive by the short plan, and whether each has orders that come line by line.
+static DRIVES_BY_THE_SHORT_PLAN: [(&str, bool); 3] = [
+    ("dali_bench drive --short-plan o.json b.bin", false),
+    ("dali_bench drive o.json b.bin --short-plan", false),
+    ("dali_bench drive --follow o.json --short-plan b.bin", true),
+];
+
+#[test]
+fn command_lines_of_a_drive_by_the_short_plan(rt: HostRuntime) -> Result<(), Fail> {
+    for &(line, follow) in &DRIVES_BY_THE_SHORT_PLAN {
+        let job = drive(rt.alloc(), 0, (follow, true), (false, false), None);
         names(rt.alloc(), line, job)?;
     }
     Ok(())
@@ -272,8 +333,10 @@ fn command_lines_of_a_drive_with_older_journals(rt: HostRuntime) -> Result<(), F
             journal: "b.bin",
             moment: 0,
             follow: false,
+            short_plan: false,
             require_done: false,
             require_now: false,
+            progress: false,
             report: None,
             older: words_of(rt.alloc(), older)?,
         };
@@ -286,6 +349,7 @@ fn reading(unit: u8) -> Job<'static> {
     Job::Read {
         unit,
         bank: "bank.hex",
+        progress: false,
     }
 }
 
@@ -354,7 +418,6 @@ dali_bench read -1 a
 dali_bench verify a b
 dali_bench verify --require-done a
 dali_bench verify --older c a
-dali_bench scan a
 dali_bench scan --all";
 
 const TWICE: &str = "dali_bench run --frames a --frames
@@ -363,7 +426,8 @@ dali_bench drive --moment 1 a b --moment 1
 dali_bench drive --require-done a b --require-done
 dali_bench drive --follow a b --follow
 dali_bench drive --report r a b --report r
-dali_bench journal --updates a --updates";
+dali_bench journal --updates a --updates
+dali_bench scan --gtin 5 --gtin";
 
 const NO_VALUE: &str = "dali_bench check a --journal
 dali_bench check a --older
@@ -391,7 +455,11 @@ dali_bench read x a
 dali_bench read 5.0 a
 dali_bench read 0x10 a
 dali_bench read  a
-dali_bench read -- -1 a";
+dali_bench read -- -1 a
+dali_bench scan a
+dali_bench scan 64
+dali_bench scan 5 --gtin 256 9
+dali_bench scan ";
 
 // The kind of the error of each of the command lines beside it.
 static REFUSED: [(ErrorKind, &str); 9] = [

@@ -14,6 +14,7 @@ use dali_commands::{
 };
 use dali_journal::{JoinFault, Journal, JournalFault};
 use dali_shared_tests::expect_that;
+use dali_writer::Pace;
 use std::alloc::{AllocError, Global};
 use std::test::Fail;
 
@@ -238,6 +239,7 @@ fn is_behind(alloc: Global, drive: &Behind<'_>) -> Result<bool, AllocError> {
         journal: "journal",
         older: &[],
         moment: 7,
+        pace: Pace::Checked,
         required: Required::Nothing,
     };
     let mut desk = StoreDesk {
@@ -248,7 +250,7 @@ fn is_behind(alloc: Global, drive: &Behind<'_>) -> Result<bool, AllocError> {
             output: Output::new(&mut told),
         },
     };
-    let mut report = Report::new(alloc, 1, Some(Output::new(&mut reported)));
+    let mut report = Report::new(alloc, 1, Some(Output::new(&mut reported)), None);
     let older = older_of(alloc, &SILENT)?;
     let mut input = Input::new(drive.orders.as_bytes());
     let status = drive_input(alloc, older, task, &mut input, &mut desk, &mut report);

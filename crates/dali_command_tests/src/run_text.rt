@@ -9,7 +9,7 @@ use dali_gear::{SimBus, Unit};
 use dali_journal::{Code, Record};
 use dali_shared_tests::{expect_at, expect_that};
 use dali_text::write_run;
-use dali_writer::{Event, Happening, Reply, run};
+use dali_writer::{Event, Happening, Pace, Reply, run};
 use std::alloc::{AllocError, Global};
 use std::test::Fail;
 
@@ -47,18 +47,18 @@ fn happening_of(told: Told) -> Happening
     match told {
         Told::Asked(id) => match Order::from_pairs(id, 5, &GTIN) {
             Some(order) => Happening::Asked(order, LARGEST),
-            None => Happening::Stopped,
+            None => Happening::Stopped(Pace::Checked),
         },
         Told::Answered(id, reply) => Happening::Answered(id, reply),
         Told::Sent(word, answer) => Happening::Sent(frame_of(word), answer),
         Told::Began(id, unit, moment) => match Order::from_pairs(id, unit, &GTIN) {
             Some(order) => Happening::Kept(Record::Began(order, moment)),
-            None => Happening::Stopped,
+            None => Happening::Stopped(Pace::Checked),
         },
         Told::Opened(unit) => Happening::Kept(Record::Opened(unit)),
         Told::Ended(code) => Happening::Kept(Record::Ended(code)),
         Told::Closed(unit) => Happening::Kept(Record::Closed(unit)),
-        Told::Stopped => Happening::Stopped,
+        Told::Stopped => Happening::Stopped(Pace::Checked),
         Told::Powered(address) => Happening::Powered(address),
     }
 }
@@ -339,7 +339,7 @@ fn blank_bus(alloc: Global) -> Result<SimBus, Fail> {
 fn a_whole_run(rt: HostRuntime) -> Result<(), Fail> {
     let mut bus = blank_bus(rt.alloc())?;
     let events = gtin_events(rt.alloc())?;
-    let outcome = run(rt.alloc(), &mut bus, 10, &events)?;
+    let outcome = run(rt.alloc(), &mut bus, 10, Pace::Checked, &events)?;
     let text = GTIN_TOLD.as_bytes();
     let journal = outcome.journal.len();
     let is_so = writes(

@@ -21,11 +21,12 @@ use Rattle.dali_trace.specs.Cut.{kept_in}
 use Rattle.dali_trace.specs.Legal.{Legal}
 use Rattle.dali_trace.specs.Replies.{IsReplyBy, IsKnownReply}
 use Rattle.dali_trace.specs.Trace.{Start, records_of, is_busy, is_full}
-use Rattle.dali_engine.specs.WriterState.{start_of}
+use Rattle.dali_engine.specs.WriterState.{start_by}
 use Rattle.dali_drive.specs.Behind.{IsBegunBehind, ActsOnceBehind}
 use Rattle.dali_drive.specs.Driven.{KeepsRecords}
 use Rattle.dali_drive.specs.Transcript.{Streams}
 use Rattle.dali_drive.proofs.SittingLemmas.{kept_so}
+use Rattle.dali_write.specs.declared.pace.Pace.{Pace}
 
 -- where nothing is at work, no order is unfinished
 none_unfinished : (records : List Record) (id : ℕ) (order : Contents) → IsSentence records
@@ -57,11 +58,12 @@ known_reply order (kepts.Ended other code) busy full replies.Full a u is = absur
 known_reply order (kepts.Ended other code) busy full replies.Taken a u is = absurd is.0
 known_reply order kept busy full (replies.Blocked unit) a u is = absurd is
 
-pub acts_once : (older : JournalState) (limit most : ℕ) (first : Streams) (past : List Happening)
+pub acts_once : (older : JournalState) (limit most : ℕ) (pace : Pace) (first : Streams) (past : List Happening)
     (b : IsBegunBehind (Some older) limit most first) → standing_of older.records ≡ standings.Idle
-    → Legal (start_of b.journal) past → KeepsRecords past → ActsOnceBehind older limit (start_of b.journal) past
-acts_once older limit most first past b rests legal keeps =
-    let start : Start = start_of b.journal in
+    → Legal (start_by pace b.journal) past → KeepsRecords past
+    → ActsOnceBehind older limit (start_by pace b.journal) past
+acts_once older limit most pace first past b rests legal keeps =
+    let start : Start = start_by pace b.journal in
     let own : List Record = kept_in past ++ b.begun.journal.records in
     let are : records_of start past ≡ own ++ older.records =
     ap (λ (rs : List Record). kept_in past ++ rs) b.whole.records_are

@@ -7,7 +7,7 @@ use Rattle.dali_bank.specs.Order.{Contents}
 use Rattle.dali_trace.specs.declared.happening.Happening.{Happening}
 use Rattle.dali_trace.specs.declared.happening.Happening.TheVariants.{Asked}
 use Rattle.dali_trace.specs.Trace.{Start, is_busy}
-use Rattle.dali_engine.specs.WriterState.{WriterState, start_of}
+use Rattle.dali_engine.specs.WriterState.{WriterState, start_by}
 use Rattle.dali_store.specs.Stores.{IsBetween}
 use Rattle.dali_trace.specs.declared.fault.DriveFault.{DriveFault}
 use Rattle.dali_trace.specs.declared.fault.DriveFault.TheVariants.{Out}
@@ -23,6 +23,7 @@ use Rattle.dali_drive.specs.Followed.{BrokenLine, BrokenStep, IsBrokenFollow}
 use Rattle.dali_drive.specs.Followed.Step.{Happened}
 use Rattle.dali_drive.proofs.SittingLemmas.{from, made, drive_holds, between_still, kept_known, came_to_its_end}
 use Rattle.dali_drive.proofs.SittingLemmas.{some_broken}
+use Rattle.dali_write.specs.declared.pace.Pace.{Pace}
 
 -- the orders that were asked are those that were given
 pub asked_given : (steps : List Step) → orders_asked (happenings steps) ≡ submitted (given_in steps)
@@ -129,34 +130,34 @@ fell {start} {given} {fault} {first} {last} so f is_so = by fault f.broken where
   by Out (inr order) = of_order Out order
   by fault order = of_order fault order
 
-module _ {limit most : ℕ} {found : List ℕ} {first : Streams} (is : first.journal ≡ Some found)
+module _ (pace : Pace) {limit most : ℕ} {found : List ℕ} {first : Streams} (is : first.journal ≡ Some found)
     (b : IsBegun limit most first) where
   pub fell_sat : {orders : List (Contents × ℕ)} {fault : DriveFault} {last : Streams} (left : List ℕ)
-      → Fell (start_of b.journal) orders fault (from b) last (λ then. IsBetween then last.journal left)
-      → (past : List Happening) × HasSat limit most found (record { start = start_of b.journal; past = past }) left
+      → Fell (start_by pace b.journal) orders fault (from b) last (λ then. IsBetween then last.journal left)
+      → (past : List Happening) × HasSat limit most found (record { start = start_by pace b.journal; past = past }) left
   fell_sat left (inl (d, between)) =
-      let sat = some_broken is b d left between in (sat.0, inr (inl sat.1))
+      let sat = some_broken pace is b d left between in (sat.0, inr (inl sat.1))
   fell_sat {last = last} left (inr (writer, then, d, keeps, between, still_drive)) =
       let holds = drive_holds d.driven (made is b) in
       let still = kept_known last.journal _ (rw holds at keeps) in
       let same = between_still _ left (rw (holds, still) at between) in
-      (d.past, inl (came_to_its_end is b d (holds ∙ ap Some (sym same))))
+      (d.past, inl (came_to_its_end pace is b d (holds ∙ ap Some (sym same))))
 
-module _ {limit most : ℕ} {found : List ℕ} {first : Streams} (is : first.journal ≡ Some found)
+module _ (pace : Pace) {limit most : ℕ} {found : List ℕ} {first : Streams} (is : first.journal ≡ Some found)
     (b : IsBegun limit most first) where
   -- a journal is opened whatever the replies' stream is
   abbrev begun_so : IsBegun limit most (muted first)
   begun_so = record { journal = b.journal; opened = b.opened; middle = b.middle; written = b.written }
 
   pub followed_ended : (given : List Given) (writer : WriterState) (last : Streams) (left : List ℕ)
-      (follow : IsFollowed (start_of b.journal) given (from b) writer last) → last.journal ≡ Some left
-      → CameToItsEnd limit most found (record { start = start_of b.journal; past = happenings follow.steps }) left
+      (follow : IsFollowed (start_by pace b.journal) given (from b) writer last) → last.journal ≡ Some left
+      → CameToItsEnd limit most found (record { start = start_by pace b.journal; past = happenings follow.steps }) left
   followed_ended given writer last left follow held =
-      came_to_its_end is begun_so (as_drive (start_of b.journal) given (from b) writer last follow) held
+      came_to_its_end pace is begun_so (as_drive (start_by pace b.journal) given (from b) writer last follow) held
 
   pub followed_broken : (given : List Given) (fault : DriveFault) (last : Streams) (left : List ℕ)
-      (follow : IsBrokenFollow (start_of b.journal) given fault (from b) last)
+      (follow : IsBrokenFollow (start_by pace b.journal) given fault (from b) last)
       → IsBetween follow.then.journal last.journal left
-      → (past : List Happening) × HasSat limit most found (record { start = start_of b.journal; past = past }) left
+      → (past : List Happening) × HasSat limit most found (record { start = start_by pace b.journal; past = past }) left
   followed_broken given fault last left follow between =
-      fell_sat is begun_so left (fell (λ then. IsBetween then last.journal left) follow between)
+      fell_sat pace is begun_so left (fell (λ then. IsBetween then last.journal left) follow between)

@@ -51,7 +51,7 @@ happened_lines (Sent frame answer ∷ more) steps =
 happened_lines (Kept entry ∷ more) steps =
     nothing_said (told_lines (map Happened more ++ steps)) (told_lines steps) (said_lines more)
     (happened_lines more steps)
-happened_lines (Stopped ∷ more) steps =
+happened_lines (Stopped pace ∷ more) steps =
     nothing_said (told_lines (map Happened more ++ steps)) (told_lines steps) (said_lines more)
     (happened_lines more steps)
 happened_lines (Powered address ∷ more) steps =
@@ -66,7 +66,7 @@ happened_given (Asked order moment ∷ more) steps =
 happened_given (Answered id reply ∷ more) steps = happened_given more steps
 happened_given (Sent frame answer ∷ more) steps = happened_given more steps
 happened_given (Kept entry ∷ more) steps = happened_given more steps
-happened_given (Stopped ∷ more) steps = happened_given more steps
+happened_given (Stopped pace ∷ more) steps = happened_given more steps
 happened_given (Powered address ∷ more) steps = happened_given more steps
 
 -- a driven trace, of which the replies aren't looked at

@@ -23,7 +23,7 @@ use Rattle.dali_trace.specs.declared.happening.Happening.{Happening}
 use Rattle.dali_trace.specs.declared.happening.Happening.TheVariants.{Asked, Answered, Sent, Kept, Stopped, Powered}
 use Rattle.dali_trace.specs.Cut.{since, is_stop, frames_in, kept_in}
 use Rattle.dali_trace.proofs.CutLemmas.{frames_joined}
-use Rattle.dali_trace.specs.Trace.{Start, records_of, standing_at, sent_of, sent_since_taken, waiting, course_of}
+use Rattle.dali_trace.specs.Trace.{Start, records_of, standing_at, sent_of, sent_since_taken, waiting, course_of, pace_at}
 use Rattle.dali_trace.specs.Trace.{is_at_work, is_unsaid, is_busy, Course, Quiet, Waiting, Working, JustEnded, replied}
 use Rattle.dali_trace.specs.Trace.{next_course, unsaid_in}
 use Rattle.dali_trace.specs.Legal.{Serves, MaySend, IsDue, HasNumber, MayHappen, Replies, MayFollow, Legal, IsFinished}
@@ -44,6 +44,7 @@ use Rattle.dali_drive.specs.Lines.{link_line}
 use Rattle.dali_drive.specs.Transcript.{Streams, Transcript, AreAnswers, sent_lines}
 use Rattle.dali_drive.specs.Driven.{IsInTurn, KeepsRecords, IsDrive}
 use Rattle.dali_drive.proofs.WorkLemmas.{in_order, both_said}
+use Rattle.dali_write.specs.declared.pace.Pace.{Pace}
 
 -- Looks back that reach the older trace
 
@@ -75,7 +76,7 @@ since_alike past (Sent frame answer ∷ more) waits =
     ap (◌∷◌ (record { frame = frame; answer = answer })) (since_alike past more waits)
 since_alike past (Kept (Began order moment) ∷ more) waits = cc
 since_alike past (Kept (Ended code) ∷ more) waits = cc
-since_alike past (Stopped ∷ more) waits = refl
+since_alike past (Stopped pace ∷ more) waits = refl
 since_alike past (_ ∷ more) waits = since_alike past more waits
 
 -- an order is at work, or one waits
@@ -94,17 +95,18 @@ told_alike next past (Answered id reply ∷ more) idle (inr waits) = cc
 told_alike next past (Sent frame answer ∷ more) idle at =
     ap (◌∷◌ (record { frame = frame; answer = answer })) (told_alike next past more idle at)
 told_alike next past (Kept entry ∷ more) idle at = refl
-told_alike next past (Stopped ∷ more) idle at = refl
+told_alike next past (Stopped pace ∷ more) idle at = refl
 told_alike next past (_ ∷ more) idle at = told_alike next past more idle at
 
 -- What is at hand where something is done
 
-at_hand : (past : List Happening) (stands : Standing) (told : List Exchange) (ask : Ask) → Asks stands told ask
+at_hand : (pace : Pace) (past : List Happening) (stands : Standing) (told : List Exchange) (ask : Ask)
+    → Asks pace stands told ask
     → ((unit : ℕ) → stands ≡ standings.Left unit → IsSome (waiting past))
     → (is_at_work stands ≡ true) ⊎ IsSome (waiting past)
-at_hand past standings.Idle told ask asked waits = absurd asked
-at_hand past (standings.Left unit) told ask asked waits = inr (waits unit refl)
-at_hand past _ told ask asked waits = inl refl
+at_hand pace past standings.Idle told ask asked waits = absurd asked
+at_hand pace past (standings.Left unit) told ask asked waits = inr (waits unit refl)
+at_hand pace past _ told ask asked waits = inl refl
 
 -- an order that has a number waits
 number_waits : (waits : Option Contents) (id : ℕ) → HasNumber id waits → IsSome waits
@@ -122,6 +124,7 @@ blocked_waits start past id unit may = number_waits (waiting past) id may.1
 -- older frames
 record IsBehind (start next : Start) (whole more : List Happening) : Type 0 where
   pub limit : start.limit ≡ next.limit
+  pub pace : pace_at start whole ≡ pace_at next more
   pub records : records_of start whole ≡ records_of next more
   pub course : course_of whole ≡ course_of more
   pub older : List Exchange
@@ -178,16 +181,19 @@ module _ {start next : Start} {whole more : List Happening} (behind : IsBehind s
 
   planned_at_hand : (newest : Happening) → IsAtHand next more → IsPlanned next more newest
       → IsPlanned start whole newest
-  planned_at_hand newest at planned = planned_too start next whole more newest behind.records (behind.told at) planned
+  planned_at_hand newest at planned = planned_too start next whole more newest behind.pace behind.records
+      (behind.told at) planned
 
   planned_behind : (newest : Happening) → MayFollow next more newest → IsPlanned next more newest
       → IsPlanned start whole newest
   planned_behind (Sent frame answer) may planned =
-      planned_at_hand (Sent frame answer) (at_hand more (standing_at next more) (told_in more) (asks.Send frame) planned
+      planned_at_hand (Sent frame answer)
+      (at_hand (pace_at next more) more (standing_at next more) (told_in more) (asks.Send frame) planned
       (λ unit is. waits_on more unit frame (rw is at (may_send next more frame answer may)))) planned
   planned_behind (Kept (Began order moment)) may planned = tt
   planned_behind (Kept entry) may planned =
-      planned_at_hand (Kept entry) (at_hand more (standing_at next more) (told_in more) (asks.Ended planned.0) planned.1
+      planned_at_hand (Kept entry)
+      (at_hand (pace_at next more) more (standing_at next more) (told_in more) (asks.Ended planned.0) planned.1
       (λ unit is.
       let closed = closed_verdict unit planned.0 entry (rw is at planned.2) in
       (subst (IsDue more) closed.1 (may_keep next more entry may).due).0)) planned
@@ -214,7 +220,7 @@ module _ {start : Start} {orders : List (Contents × ℕ)} {first middle : Strea
   past = one.past
 
   abbrev next : Start
-  next = start_of handed.journal
+  next = start_of handed
 
   both_quiet : (is_at_work (standing_at start past) ≡ false) × (is_unsaid past ≡ false)
   both_quiet = neither (is_at_work (standing_at start past)) (is_unsaid past) one.quiet
@@ -228,9 +234,15 @@ module _ {start : Start} {orders : List (Contents × ℕ)} {first middle : Strea
   course_both (Answered id reply ∷ Asked order moment ∷ more) = ap (replied order moment reply) (course_both more)
   course_both (newest ∷ more) = ap (λ (before : Course). next_course before newest) (course_both more)
 
+  pace_both : (more : List Happening) → pace_at start (more ++ past) ≡ pace_at next more
+  pace_both [] = one.described.pace
+  pace_both (Stopped pace ∷ more) = refl
+  pace_both (_ ∷ more) = pace_both more
+
   is_behind : (more : List Happening) → IsBehind start next (more ++ past) more
   is_behind more = record {
     limit = one.described.limit;
+    pace = pace_both more;
     records = records_both more;
     course = course_both more;
     older = (sent_behind past more).0;
@@ -262,7 +274,7 @@ module _ {start : Start} {orders : List (Contents × ℕ)} {first middle : Strea
   in_turn_both : (more : List Happening) → AtEachPast (IsInTurn next) more → AtEachPast (IsInTurn start) (more ++ past)
   in_turn_both [] after = one.driven.in_turn
   in_turn_both (Asked order moment ∷ more) after = (busy_both more ∙ after.0, in_turn_both more after.1)
-  in_turn_both (Stopped ∷ more) after = absurd after.0
+  in_turn_both (Stopped pace ∷ more) after = absurd after.0
   in_turn_both (Powered address ∷ more) after = absurd after.0
   in_turn_both (_ ∷ more) after = (tt, in_turn_both more after.1)
 
@@ -304,25 +316,26 @@ text_both newer older first middle last one two = record {
 -- The drive of both
 
 -- a writer at rest with nothing to be done is idle
-rests_idle : (stands : Standing) (phase : Phase) → is_at_work stands ≡ false → IsResumed stands phase → phase ≡ Idle
-rests_idle (standings.Began order) phase idle resumed = cc
-rests_idle (standings.Opened order) phase idle resumed = cc
-rests_idle _ phase idle resumed = resumed
+rests_idle : (pace : Pace) (stands : Standing) (phase : Phase) → is_at_work stands ≡ false → IsResumed pace stands phase
+    → phase ≡ Idle
+rests_idle pace (standings.Began order) phase idle resumed = cc
+rests_idle pace (standings.Opened order) phase idle resumed = cc
+rests_idle pace _ phase idle resumed = resumed
 
 quiet_idle : (start : Start) (past : List Happening) (writer : WriterState) → Describes start past writer
     → is_busy start past ≡ false → IsAtRest writer → writer.phase ≡ Idle
 quiet_idle start past writer described quiet (inl is) = is
 quiet_idle start past writer described quiet (inr resumed) =
-    rests_idle (standing_of writer.journal.records) writer.phase
+    rests_idle writer.pace (standing_of writer.journal.records) writer.phase
     (rw (← described.same) (neither (is_at_work (standing_at start past)) (is_unsaid past) quiet).0) resumed
 
 pub one_drive : (start : Start) (orders more : List (Contents × ℕ)) (first middle last : Streams)
     (handed writer : WriterState)
-    → IsDrive start orders first handed middle → IsDrive (start_of handed.journal) more middle writer last
+    → IsDrive start orders first handed middle → IsDrive (start_of handed) more middle writer last
     → IsAtRest writer → IsDrive start (orders ++ more) first writer last
 one_drive start orders more first middle last handed writer one two rests =
     let both : List Happening = two.past ++ one.past in
-    let idle = quiet_idle (start_of handed.journal) two.past writer two.described two.quiet rests in
+    let idle = quiet_idle (start_of handed) two.past writer two.described two.quiet rests in
     let legal = legal_both one two.past two.driven.legal in
     let planned = planned_both one two.past two.driven.legal two.driven.planned in
     let quiet : is_busy start both ≡ false = busy_both one two.past ∙ two.quiet in
@@ -341,6 +354,7 @@ one_drive start orders more first middle last handed writer one two rests =
         finished = finished_both one two.past two.described.finished;
         same = records_both one two.past ∙ two.described.same;
         limit = one.described.limit ∙ two.described.limit;
+        pace = pace_both one two.past ∙ two.described.pace;
         place = rw idle said.1;
       };
       follows = record { planned = planned; told = rw idle tt };

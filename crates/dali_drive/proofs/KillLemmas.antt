@@ -14,7 +14,7 @@ use Rattle.dali_trace.specs.declared.happening.Happening.TheVariants.{Sent, Kept
 use Rattle.dali_trace.specs.Trace.{Start, records_of}
 use Rattle.dali_trace.specs.Legal.{IsFinished}
 use Rattle.dali_trace.specs.Next.{IsNext}
-use Rattle.dali_engine.specs.WriterState.{WriterState, start_of}
+use Rattle.dali_engine.specs.WriterState.{WriterState, start_by}
 use Rattle.dali_store.specs.Opened.{Loads}
 use Rattle.dali_store.proofs.OpenLemmas.{split_front}
 use Rattle.dali_trace.specs.declared.fault.DriveFault.{DriveFault}
@@ -25,6 +25,7 @@ use Rattle.dali_drive.specs.Kills.{RecordInHand, IsKilledAt, MayHaveDriven, Stoo
 use Rattle.dali_drive.proofs.SittingLemmas.{made, loads, drive_holds, journal_recorded, grown_known, kept_known}
 use Rattle.dali_drive.proofs.SittingLemmas.{IsTrail, from, BrokeWith, broke_with}
 use Rattle.dali_drive.proofs.DriveLemmas.{keeps_on}
+use Rattle.dali_write.specs.declared.pace.Pace.{Pace}
 
 -- A driven trace cut short is driven
 
@@ -138,24 +139,27 @@ pub one_records : (limit : ℕ) (bytes : List ℕ) (one other : List Record) →
 one_records limit bytes one other a b =
     ((torn_no_fault limit bytes a.version one a.len a.kept a.loadable).2 b.version other b.len b.kept b.loadable).1
 
-module _ {limit most : ℕ} {found seen left : List ℕ} {first : Streams} (last : Streams)
+module _ (pace : Pace) {limit most : ℕ} {found seen left : List ℕ} {first : Streams} (last : Streams)
     (is : first.journal ≡ Some found) (held : last.journal ≡ Some seen) (b : IsBegun limit most first)
     (orders : List (Contents × ℕ)) (part : IsPartBehind limit (Some found) (Some seen) left) where
   abbrev J : List ℕ
   J = journal_spelling Two b.journal.records
 
-  stood : (trail : List Happening) (rest : List ℕ) (end : Streams) → IsDriven (start_of b.journal) trail (from b) end
+  stood : (trail : List Happening) (rest : List ℕ) (end : Streams)
+      → IsDriven (start_by pace b.journal) trail (from b) end
       → MayHaveDriven limit most first trail last → J ++ recorded trail ≡ left ++ rest
       → StoodOnce limit most found left first last
   stood trail rest end d drove all =
       let front : left ≡ J ++ part.2.0 =
       rw (one_records limit found part.0 b.journal.records part.1 (loads is b)) part.2.2 in
-      let at = stands_at (start_of b.journal) trail left part.2.0 rest (d.legal, d.planned, d.in_range) front all in
-      let older = driven_older (start_of b.journal) at.0 at.1 (from b) end (rw at.3 at d) in record {
+      let at = stands_at (start_by pace b.journal) trail left part.2.0 rest (d.legal, d.planned, d.in_range) front all
+      in
+      let older = driven_older (start_by pace b.journal) at.0 at.1 (from b) end (rw at.3 at d) in record {
         trail = trail;
         drove = drove;
-        sitting = record { start = start_of b.journal; past = at.2 };
+        sitting = record { start = start_by pace b.journal; past = at.2 };
         killed = record {
+          pace = pace;
           first = first;
           now = older.0;
           is_found = is;
@@ -171,32 +175,32 @@ module _ {limit most : ℕ} {found seen left : List ℕ} {first : Streams} (last
       }
 
   -- all that it wrote is seen
-  stood_seen : (trail : List Happening) (end : Streams) → IsDriven (start_of b.journal) trail (from b) end
+  stood_seen : (trail : List Happening) (end : Streams) → IsDriven (start_by pace b.journal) trail (from b) end
       → MayHaveDriven limit most first trail last → Keeps end.journal last.journal
       → StoodOnce limit most found left first last
   stood_seen trail end d drove keeps =
       let end_is = drive_holds d (made is b) in
       let last_is = kept_known last.journal _ (rw end_is at keeps) in
-      let same : seen ≡ journal_spelling Two (records_of (start_of b.journal) trail) = cc in
-      stood trail part.2.1 end d drove (sym (journal_recorded (start_of b.journal) trail) ∙ sym same ∙ part.2.3)
+      let same : seen ≡ journal_spelling Two (records_of (start_by pace b.journal) trail) = cc in
+      stood trail part.2.1 end d drove (sym (journal_recorded (start_by pace b.journal) trail) ∙ sym same ∙ part.2.3)
 
-  pub stood_in : (writer : WriterState) → IsDrive (start_of b.journal) orders (from b) writer last
+  pub stood_in : (writer : WriterState) → IsDrive (start_by pace b.journal) orders (from b) writer last
       → StoodOnce limit most found left first last
-  stood_in writer d = stood_seen d.past last d.driven (b, orders, inl (writer, d, refl)) (rw held refl)
+  stood_in writer d = stood_seen d.past last d.driven (b, pace, orders, inl (writer, d, refl)) (rw held refl)
 
-  pub stood_before : (fault : DriveFault) → IsBrokenDrive (start_of b.journal) orders fault (from b) last
+  pub stood_before : (fault : DriveFault) → IsBrokenDrive (start_by pace b.journal) orders fault (from b) last
       → StoodOnce limit most found left first last
-  stood_before fault d = by (broke_with (start_of b.journal) d.past d.middle last fault d.rest d.broken) where
-    by : BrokeWith (start_of b.journal) d.past d.middle last fault → StoodOnce limit most found left first last
-    by (inl (keeps, _, _, _, _)) = stood_seen d.past d.middle d.driven (b, orders, inr (fault, d, inl refl)) keeps
+  stood_before fault d = by (broke_with (start_by pace b.journal) d.past d.middle last fault d.rest d.broken) where
+    by : BrokeWith (start_by pace b.journal) d.past d.middle last fault → StoodOnce limit most found left first last
+    by (inl (keeps, _, _, _, _)) = stood_seen d.past d.middle d.driven (b, pace, orders, inr (fault, d, inl refl)) keeps
     by (inr (journal, (entry, next, cut))) =
         let sp = spelling Two entry in
         let n = cut.journal.count in
-        let was = journal_spelling Two (records_of (start_of b.journal) d.past) in
+        let was = journal_spelling Two (records_of (start_by pace b.journal) d.past) in
         let last_is =
         grown_known last.journal was (take n sp) (rw (drive_holds d.driven (made is b)) at cut.journal.part) in
         let now : seen ≡ (J ++ recorded d.past) ++ take n sp =
-        cc (held, last_is, journal_recorded (start_of b.journal) d.past) in
+        cc (held, last_is, journal_recorded (start_by pace b.journal) d.past) in
         let all : J ++ (recorded d.past ++ sp) ≡ left ++ (part.2.1 ++ drop n sp) =
         sym (append_assoc J (recorded d.past) sp)
         ∙ ap (λ (l : List ℕ). (J ++ recorded d.past) ++ l) (sym (take-append-drop n sp))
@@ -204,6 +208,7 @@ module _ {limit most : ℕ} {found seen left : List ℕ} {first : Streams} (last
         ∙ ap (λ (l : List ℕ). l ++ drop n sp) (sym now ∙ part.2.3) ∙ append_assoc left part.2.1 (drop n sp) in
         let more = append_known d.middle.journal sp in
         stood (Kept entry ∷ d.past) (part.2.1 ++ drop n sp) (record d.middle { journal = more })
-        (keeps_on (start_of b.journal) d.past (from b) d.middle.journal more d.middle.link d.middle.answers d.middle.out
+        (keeps_on (start_by pace b.journal) d.past (from b) d.middle.journal more d.middle.link d.middle.answers
+        d.middle.out
         entry d.driven next cut.in_range (appends_known d.middle.journal sp))
-        (b, orders, inr (fault, d, inr (Kept entry, rw journal (entry, refl, next), refl))) all
+        (b, pace, orders, inr (fault, d, inr (Kept entry, rw journal (entry, refl, next), refl))) all

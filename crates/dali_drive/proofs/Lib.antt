@@ -16,6 +16,7 @@ pub mod BehindLemmas
 pub mod WorkedDriveLemmas
 pub mod WorkedSittingLemmas
 pub mod ReadingLemmas
+pub mod UnitLineLemmas
 pub mod SurveyLemmas
 pub mod WorkedSurveyLemmas
 pub mod WorkedBehindLemmas

@@ -30,6 +30,7 @@ use Rattle.dali_drive.specs.Stored.{IsStoredDrive, EndsAtFault}
 use Rattle.dali_drive.specs.Transcript.{Streams, said_lines}
 use Rattle.dali_drive.proofs.DriveLemmas.{at_append}
 use Rattle.dali_drive.proofs.FollowLawLemmas.{asked_given, given_then, submitted_both}
+use Rattle.dali_write.specs.declared.pace.Pace.{Pace}
 
 -- orders were given and no lines
 abbrev AreOrders : List Given → Type 0
@@ -139,21 +140,22 @@ module _ {B : Type 0} (told : Start → B → B → List Happening → Type 0) (
 
 module _ {B : Type 0} (told : Start → B → B → List Happening → Type 0)
     (told_end : Start → B → B → List Happening → DriveFault → Frame → List ℕ → Type 0)
-    (older : Option JournalState) (limit most : ℕ) (orders : List Contents) (moment : ℕ) (listed : ListedOrders)
+    (older : Option JournalState) (limit most : ℕ) (pace : Pace) (orders : List Contents) (moment : ℕ)
+    (listed : ListedOrders)
     (is : state_of listed ≡ record { rest = orders; moment = moment }) (first : Streams) (before : B)
     (orders_left : ListedOrders) (last : Streams) (after : B) where
   pub behind_driven : length orders ≤ 2 ^ 64 - 1 → (writer : WriterState)
-      → IsFollowBehind GaveListed IsEmpty told older limit most listed first before writer orders_left last after
-      → IsDriveBehind told older limit most (at_moment moment orders) first before writer last after
+      → IsFollowBehind GaveListed IsEmpty told older limit most pace listed first before writer orders_left last after
+      → IsDriveBehind told older limit most pace (at_moment moment orders) first before writer last after
   behind_driven few writer o = record {
     behind = o.behind;
     observed = listed_driven told _ orders moment listed is _ _ _ _ _ few writer o.observed;
   }
 
   pub behind_broken : (may_leave : List ℕ → Type 0) (fault : DriveFault)
-      → IsFollowBehindBreak GaveListed told told_end older limit most listed fault first before orders_left last after
-      may_leave
-      → IsDriveBehindBreak told told_end older limit most (at_moment moment orders) fault first before last after
+      → IsFollowBehindBreak GaveListed told told_end older limit most pace listed fault first before orders_left last
+      after may_leave
+      → IsDriveBehindBreak told told_end older limit most pace (at_moment moment orders) fault first before last after
       may_leave
   behind_broken may_leave fault o = record {
     behind = o.behind;
@@ -162,17 +164,18 @@ module _ {B : Type 0} (told : Start → B → B → List Happening → Type 0)
 
 -- behind none it is a drive over the store
 
-pub stored_drive : {B : Type 0} (told : Start → B → B → List Happening → Type 0) (limit most : ℕ)
+pub stored_drive : {B : Type 0} (told : Start → B → B → List Happening → Type 0) (limit most : ℕ) (pace : Pace)
     (orders : List (Contents × ℕ)) (first : Streams) (before : B) (last : Streams) (after : B) (writer : WriterState)
-    → IsDriveBehind told None limit most orders first before writer last after
-    → IsStoredDrive limit most orders first writer last
-stored_drive told limit most orders first before last after writer o =
+    → IsDriveBehind told None limit most pace orders first before writer last after
+    → IsStoredDrive limit most pace orders first writer last
+stored_drive told limit most pace orders first before last after writer o =
     record { begun = o.behind.begun; drive = rw o.behind.whole at o.observed.drive }
 
 pub stored_end : {B : Type 0} (told : Start → B → B → List Happening → Type 0)
-    (told_end : Start → B → B → List Happening → DriveFault → Frame → List ℕ → Type 0) (limit most : ℕ)
+    (told_end : Start → B → B → List Happening → DriveFault → Frame → List ℕ → Type 0) (limit most : ℕ) (pace : Pace)
     (orders : List (Contents × ℕ)) (old new : Look) (before after : B) (fault : DriveFault)
-    → IsDriveBehindBreak told told_end None limit most orders fault old.streams before new.streams after new.may_leave
-    → EndsAtFault limit most orders (Drive fault) old new
-stored_end told told_end limit most orders old new before after fault o =
+    → IsDriveBehindBreak told told_end None limit most pace orders fault old.streams before new.streams after
+    new.may_leave
+    → EndsAtFault limit most pace orders (Drive fault) old new
+stored_end told told_end limit most pace orders old new before after fault o =
     let b = rw o.behind.whole at o.observed.breaks in ((o.behind.begun, b.drive), b.left)

@@ -11,7 +11,7 @@ use Rattle.dali_store.specs.Opened.{Loads, IsOpenFault}
 use Rattle.dali_store.specs.declared.opening.OpenFault.{OpenFault}
 use Rattle.dali_store.specs.declared.opening.OpenFault.TheVariants as openings
 use Rattle.dali_store.specs.declared.store.StoreFault.TheVariants.{TooBig, Failed, NoMemory}
-use Rattle.dali_drive.specs.Repeats.{IsSameFile, HasSat, HaveSat, ActOnce}
+use Rattle.dali_drive.specs.Repeats.{IsSameFile, HasSat, HaveSat, BeginsBy, ActOnce}
 use Rattle.dali_drive.proofs.SittingLemmas.{IsSat, sat_killed, sat_broken, drive_holds, made}
 use Rattle.dali_drive.proofs.KillLemmas.{one_records}
 
@@ -20,13 +20,14 @@ pub sat_so : (limit most : ℕ) (found : List ℕ) (sitting : Sitting) (left : L
 sat_so limit most found sitting left (inl e) =
     let d = e.drive.drive.driven in
     let holds = drive_holds d (made e.is_found e.drive.begun) in
-    rw e.is (sat_killed e.is_found e.drive.begun e.drive.drive.past e.drive.drive.past left
+    rw e.is (sat_killed e.pace e.is_found e.drive.begun e.drive.drive.past e.drive.drive.past left
     (d.legal, d.planned, d.in_range)
     (inl (record { is = refl; finished = e.drive.drive.described.finished; bytes = cc (holds, e.is_left) })))
 sat_so limit most found sitting left (inr (inl b)) =
-    rw b.is (sat_broken b.is_found b.begun b.drive left b.is_left b.past b.happened b.finished b.counts)
+    rw b.is (sat_broken b.pace b.is_found b.begun b.drive left b.is_left b.past b.happened b.finished b.counts)
 sat_so limit most found sitting left (inr (inr k)) =
-    rw k.is (sat_killed k.is_found k.begun k.older k.past left (k.driven.legal, k.driven.planned, k.driven.in_range)
+    rw k.is (sat_killed k.pace k.is_found k.begun k.older k.past left
+    (k.driven.legal, k.driven.planned, k.driven.in_range)
     k.at)
 
 -- No journal was opened
@@ -55,24 +56,24 @@ joined_after start newest (last ∷ older) same =
 
 pub sittings_follow : (start : Start) (most : ℕ) (first last : List ℕ) (sittings : List Sitting)
     → Loads start.limit start.records first → HaveSat start.limit most first sittings last
-    → FollowOn start sittings × Loads start.limit (records_of start (joined sittings)) last
-sittings_follow start most first last [] loads same =
+    → BeginsBy start sittings → FollowOn start sittings × Loads start.limit (records_of start (joined sittings)) last
+sittings_follow start most first last [] loads same begins =
     (loads.kept.whole, loads_still start.limit start.records first last same loads)
-sittings_follow start most first last (newest ∷ older) loads (found, left, sat, newest_sat, same) =
-    let old = sittings_follow start most first found older loads sat in
+sittings_follow start most first last (newest ∷ older) loads (found, left, sat, newest_sat, same) begins =
+    let old = sittings_follow start most first found older loads sat begins.1 in
     let one = sat_so start.limit most found newest left newest_sat in
     let records : newest.start.records ≡ records_of start (joined older) =
     one_records start.limit found (records_of start (joined older)) newest.start.records old.1 one.found_loads in (
-      (one.legal, one.planned, one.finished, records, one.limit_is, old.0),
+      (one.legal, one.planned, one.finished, records, one.limit_is, begins.0, old.0),
       loads_still start.limit (records_of start (joined (newest ∷ older))) left last same
           (rw (joined_after start newest older records) one.left_loads),
     )
 
 pub act_once : (start : Start) (most : ℕ) (first left : List ℕ) (sittings : List Sitting) (stay : Stay)
     → Loads start.limit start.records first → HaveSat start.limit most first sittings left
-    → IsStay start (joined sittings) stay → ActOnce start sittings left stay
-act_once start most first left sittings stay loads sat is =
-    let all = sittings_follow start most first left sittings loads sat in
+    → BeginsBy start sittings → IsStay start (joined sittings) stay → ActOnce start sittings left stay
+act_once start most first left sittings stay loads sat begins is =
+    let all = sittings_follow start most first left sittings loads sat begins in
     let one = joined_sittings start sittings all.0 in
     let right = stay_right start (joined sittings) stay one.0 one.1 is in record {
       trace = one;

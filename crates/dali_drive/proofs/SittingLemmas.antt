@@ -22,7 +22,7 @@ use Rattle.dali_trace.specs.Next.{IsNext}
 use Rattle.dali_laws.specs.Joined.{Sitting}
 use Rattle.dali_laws.proofs.NextLemmas.{one_next}
 use Rattle.dali_laws.proofs.RepeatLemmas.{legal_sentence}
-use Rattle.dali_engine.specs.WriterState.{WriterState, start_of}
+use Rattle.dali_engine.specs.WriterState.{WriterState, start_by}
 use Rattle.dali_engine.proofs.StopLemmas.{cut_of_none, cut_of_some}
 use Rattle.dali_store.specs.Stores.{IsBetween}
 use Rattle.dali_store.specs.Opened.{Loads}
@@ -34,6 +34,7 @@ use Rattle.dali_drive.specs.Driven.{KeepsRecords, IsDriven, IsDrive, IsNextFrame
 use Rattle.dali_drive.specs.Stored.{IsBegun}
 use Rattle.dali_drive.specs.Sittings.{IsBrokenStep, MayHaveHappened, KeptWhereWhole, CameToItsEnd, BrokeOff}
 use Rattle.dali_drive.specs.Kills.{IsKilledAt}
+use Rattle.dali_write.specs.declared.pace.Pace.{Pace}
 
 -- what a sitting is to the sittings around it
 pub record IsSat (limit : ℕ) (found : List ℕ) (sitting : Sitting) (left : List ℕ) : Type 0 where
@@ -117,58 +118,61 @@ from {limit} {most} {first} b = record first { journal = b.middle }
 
 module _ {limit most : ℕ} {found : List ℕ} {first : Streams} (is : first.journal ≡ Some found)
     (b : IsBegun limit most first) where
-  abbrev Sat : List Happening → List ℕ → Type 0
-  Sat past left = IsSat limit found (record { start = start_of b.journal; past = past }) left
-
   pub made : b.middle ≡ Some (journal_spelling Two b.journal.records)
   made = let written = rw is at b.written in grind arith
 
   pub loads : Loads limit b.journal.records found
   loads = rw (rw is at b.opened.found.shown) (found_loads limit most first.journal b.journal _ _ _ b.opened.found)
 
-  so : (past : List Happening) → IsTrail (start_of b.journal) past
-      → AreKept Two limit (records_of (start_of b.journal) past)
+module _ (pace : Pace) {limit most : ℕ} {found : List ℕ} {first : Streams} (is : first.journal ≡ Some found)
+    (b : IsBegun limit most first) where
+  abbrev Sat : List Happening → List ℕ → Type 0
+  Sat past left = IsSat limit found (record { start = start_by pace b.journal; past = past }) left
+
+  so : (past : List Happening) → IsTrail (start_by pace b.journal) past
+      → AreKept Two limit (records_of (start_by pace b.journal) past)
   so past trail =
       let kept = found_kept limit most first.journal b.journal _ _ _ b.opened.found in
       let limit_is = b.opened.found.loaded.0 in
-      rw limit_is at (kept_so (start_of b.journal) past (rw limit_is kept) trail.0 trail.2)
+      rw limit_is at (kept_so (start_by pace b.journal) past (rw limit_is kept) trail.0 trail.2)
 
   -- its records stand there, and behind them a part of another, or nothing
-  with_left : (past : List Happening) (left rest : List ℕ) → IsTrail (start_of b.journal) past → IsFinished past
+  with_left : (past : List Happening) (left rest : List ℕ) → IsTrail (start_by pace b.journal) past → IsFinished past
       → (last : Record) × IsCutOf Two rest last
-      → left ≡ journal_spelling Two (records_of (start_of b.journal) past) ++ rest → Sat past left
+      → left ≡ journal_spelling Two (records_of (start_by pace b.journal) past) ++ rest → Sat past left
   with_left past left rest trail finished cut same =
-      let loads_left : Loads limit (records_of (start_of b.journal) past) left = rw same (record {
+      let loads_left : Loads limit (records_of (start_by pace b.journal) past) left = rw same (record {
         version = Two;
-        len = length (journal_spelling Two (records_of (start_of b.journal) past));
+        len = length (journal_spelling Two (records_of (start_by pace b.journal) past));
         kept = so past trail;
         loadable = record { rest = rest; spelled = refl; cut = cut; counts = refl };
       }) in
-      assumption (b.opened.found.loaded, loads)
+      assumption (b.opened.found.loaded, loads is b)
 
-  whole : (past : List Happening) (left : List ℕ) → IsTrail (start_of b.journal) past → IsFinished past
-      → left ≡ journal_spelling Two (records_of (start_of b.journal) past) → Sat past left
+  whole : (past : List Happening) (left : List ℕ) → IsTrail (start_by pace b.journal) past → IsFinished past
+      → left ≡ journal_spelling Two (records_of (start_by pace b.journal) past) → Sat past left
   whole past left trail finished same = with_left past left [] trail finished cut_of_none (same ∙ sym (append-nil _))
 
   -- whatever was in hand where it was killed
-  pub sat_killed : (older past : List Happening) (left : List ℕ) → IsTrail (start_of b.journal) older
-      → IsKilledAt (start_of b.journal) older past left → Sat past left
+  pub sat_killed : (older past : List Happening) (left : List ℕ) → IsTrail (start_by pace b.journal) older
+      → IsKilledAt (start_by pace b.journal) older past left → Sat past left
   sat_killed older past left t (inl none) = rw none.is (whole older left t none.finished none.bytes)
   sat_killed older past left t (inr (inl sent)) =
       rw sent.is (whole (Sent sent.frame sent.answer ∷ older) left ((t.0, sent.next.may), (t.1, sent.next.planned), t.2)
       tt sent.bytes)
   sat_killed older past left t (inr (inr (inl cut))) =
       rw cut.is (with_left older left (take cut.count (spelling Two cut.entry)) t
-      (record_finished (start_of b.journal) older cut.entry cut.next)
+      (record_finished (start_by pace b.journal) older cut.entry cut.next)
       (cut_of_some cut.entry (spelling Two cut.entry) cut.count refl cut.in_range cut.less) cut.bytes)
   sat_killed older past left t (inr (inr (inr said))) =
       rw said.is (whole (Answered said.id said.reply ∷ older) left
       ((t.0, said.next.may), (t.1, said.next.planned), t.2) tt said.bytes)
 
   pub came_to_its_end : {orders : List (Contents × ℕ)} {writer : WriterState} {last : Streams} {left : List ℕ}
-      (d : IsDrive (start_of b.journal) orders (from b) writer last) → last.journal ≡ Some left
-      → CameToItsEnd limit most found (record { start = start_of b.journal; past = d.past }) left
+      (d : IsDrive (start_by pace b.journal) orders (from b) writer last) → last.journal ≡ Some left
+      → CameToItsEnd limit most found (record { start = start_by pace b.journal; past = d.past }) left
   came_to_its_end {orders} {writer} {last} {left} d held = record {
+    pace = pace;
     orders = orders;
     first = first;
     writer = writer;
@@ -212,12 +216,12 @@ module _ (start : Start) (past : List Happening) (old new : Streams) where
   broke_with Link rest (frame, next, inr none) = still_past Link none.journal (frame_finished start past frame next)
   broke_with fault rest off = still_past fault off.2.journal (frame_finished start past off.0 off.1)
 
-module _ {limit most : ℕ} {found : List ℕ} {first last : Streams} (is : first.journal ≡ Some found)
+module _ (pace : Pace) {limit most : ℕ} {found : List ℕ} {first last : Streams} (is : first.journal ≡ Some found)
     (b : IsBegun limit most first) {orders : List (Contents × ℕ)} {fault : DriveFault}
-    (d : IsBrokenDrive (start_of b.journal) orders fault (from b) last) (left : List ℕ)
+    (d : IsBrokenDrive (start_by pace b.journal) orders fault (from b) last) (left : List ℕ)
     (between : IsBetween d.middle.journal last.journal left) where
   abbrev begins : Start
-  begins = start_of b.journal
+  begins = start_by pace b.journal
 
   abbrev was : List ℕ
   was = journal_spelling Two (records_of begins d.past)
@@ -264,30 +268,32 @@ module _ {limit most : ℕ} {found : List ℕ} {first last : Streams} (is : firs
     broke = broke_with begins d.past d.middle last fault d.rest d.broken
 
     kept : (entry : Record) → IsNext begins d.past (Kept entry) → IsRecord Two entry
-        → left ≡ was ++ spelling Two entry → Sat is b past left
+        → left ≡ was ++ spelling Two entry → Sat pace is b past left
     kept entry next range all =
-        rw ((counts entry next).1 all) (whole is b (Kept entry ∷ d.past) left
+        rw ((counts entry next).1 all) (whole pace is b (Kept entry ∷ d.past) left
         ((trail.0, next.may), (trail.1, next.planned), (range, trail.2)) tt all)
 
     part_kept : (entry : Record) → IsNext begins d.past (Kept entry) → IsRecord Two entry → HasPart entry
-        → past ≡ d.past → Sat is b past left
+        → past ≡ d.past → Sat pace is b past left
     part_kept entry next range (part, [], same, spelled) is_trace =
         kept entry next range (rw (spelled, append-nil) same)
     part_kept entry next range (part, x ∷ more, same, spelled) is_trace =
-        rw is_trace (with_left is b d.past left part trail (record_finished begins d.past entry next)
+        rw is_trace (with_left pace is b d.past left part trail (record_finished begins d.past entry next)
         (entry, (range, x ∷ more, (λ e. cc), spelled)) same)
 
-    no_record : (next : Happening) → IsNext begins d.past next → past ≡ next ∷ d.past → left ≡ was → Sat is b past left
+    no_record : (next : Happening) → IsNext begins d.past next → past ≡ next ∷ d.past → left ≡ was
+        → Sat pace is b past left
     no_record (Kept entry) next grown same =
         let all = longer [] entry (same ∙ sym (append-nil was)) ((counts entry next).0 grown) in
         absurd (omega (arith, all, has_bytes entry))
     no_record newest next grown same =
-        rw grown (whole is b (newest ∷ d.past) left ((trail.0, next.may), (trail.1, next.planned), trail.2)
+        rw grown (whole pace is b (newest ∷ d.past) left ((trail.0, next.may), (trail.1, next.planned), trail.2)
         (rw grown at finished) same)
 
-    by : MayHaveHappened begins d.past fault past → BrokeWith begins d.past d.middle last fault → Sat is b past left
+    by : MayHaveHappened begins d.past fault past → BrokeWith begins d.past d.middle last fault
+        → Sat pace is b past left
     by (inl is_trace) (inl (keeps, _, _, _, _)) =
-        rw is_trace (whole is b d.past left trail (rw is_trace at finished) (still keeps))
+        rw is_trace (whole pace is b d.past left trail (rw is_trace at finished) (still keeps))
     by (inl is_trace) (inr (_, (entry, next, cut))) = part_kept entry next cut.in_range (part_left entry cut) is_trace
     by (inr (next, step, is_more)) (inl (keeps, _, _, _, _)) =
         no_record next (step_next begins d.past fault next step) is_more (still keeps)
@@ -302,6 +308,7 @@ module _ {limit most : ℕ} {found : List ℕ} {first last : Streams} (is : firs
       → KeptWhereWhole begins d.past past left
       → BrokeOff limit most found (record { start = begins; past = past }) left
   broke_off past happened finished counts = record {
+    pace = pace;
     orders = orders;
     fault = fault;
     first = first;

@@ -14,7 +14,7 @@ use Rattle.dali_journal.specs.Spelling.{header, records_spelling, journal_spelli
 use Rattle.dali_journal.proofs.AheadLemmas.{spelling_append}
 use Rattle.dali_trace.specs.declared.happening.Happening.{Happening}
 use Rattle.dali_trace.specs.Trace.{Start}
-use Rattle.dali_engine.specs.WriterState.{WriterState, start_of}
+use Rattle.dali_engine.specs.WriterState.{WriterState, start_by}
 use Rattle.dali_engine.proofs.StopLemmas.{cut_of_none}
 use Rattle.dali_store.specs.Stores.{IsBetween}
 use Rattle.dali_store.proofs.OpenLemmas.{whole_loads}
@@ -32,6 +32,7 @@ use Rattle.dali_drive.specs.Transcript.{Streams, recorded}
 use Rattle.dali_drive.proofs.FollowLawLemmas.{as_drive, Fell, fell, fell_sat}
 use Rattle.dali_drive.proofs.SittingLemmas.{made, loads, came_to_its_end, grown_known, from}
 use Rattle.dali_drive.proofs.KillLemmas.{one_records, stood_in, stood_before}
+use Rattle.dali_write.specs.declared.pace.Pace.{Pace}
 
 module _ (older : List Record) where
   abbrev whole : Option (List ℕ) → Option (List ℕ)
@@ -167,24 +168,24 @@ module _ (older : JournalState) {limit most : ℕ} {first : Streams} (b : IsBegu
     written = refl;
   }
 
-  pub ended_whole : (room : ℕ) (within : length found ≤ room) (given : List Given) (writer : WriterState)
+  pub ended_whole : (pace : Pace) (room : ℕ) (within : length found ≤ room) (given : List Given) (writer : WriterState)
       (last : Streams) (left : List ℕ)
-      (follow : IsFollowed (start_of b.journal) given (from b.begun) writer last)
+      (follow : IsFollowed (start_by pace b.journal) given (from b.begun) writer last)
       → last.journal ≡ Some left → CameToItsEnd (order_count older + limit) room found
-      (record { start = start_of b.journal; past = happenings follow.steps }) (bytes_behind older.records left)
-  ended_whole room within given writer last left follow held =
-      came_to_its_end {first = muted (record first { journal = Some found })} refl (begun_whole room within)
+      (record { start = start_by pace b.journal; past = happenings follow.steps }) (bytes_behind older.records left)
+  ended_whole pace room within given writer last left follow held =
+      came_to_its_end pace {first = muted (record first { journal = Some found })} refl (begun_whole room within)
       (drive_whole older.records (made is b.begun) whole_found
-      (as_drive (start_of b.journal) given (from b.begun) writer last follow)) (ap (whole older.records) held)
+      (as_drive (start_by pace b.journal) given (from b.begun) writer last follow)) (ap (whole older.records) held)
 
-  pub broke_whole : (room : ℕ) (within : length found ≤ room) (given : List Given) (fault : DriveFault)
+  pub broke_whole : (pace : Pace) (room : ℕ) (within : length found ≤ room) (given : List Given) (fault : DriveFault)
       (last : Streams) (left : List ℕ)
-      (follow : IsBrokenFollow (start_of b.journal) given fault (from b.begun) last)
+      (follow : IsBrokenFollow (start_by pace b.journal) given fault (from b.begun) last)
       → IsBetween follow.then.journal last.journal left
       → (past : List Happening) × HasSat (order_count older + limit) room found
-      (record { start = start_of b.journal; past = past }) (bytes_behind older.records left)
-  broke_whole room within given fault last left follow between =
-      fell_sat {first = muted (record first { journal = Some found })} refl (begun_whole room within)
+      (record { start = start_by pace b.journal; past = past }) (bytes_behind older.records left)
+  broke_whole pace room within given fault last left follow between =
+      fell_sat pace {first = muted (record first { journal = Some found })} refl (begun_whole room within)
       (bytes_behind older.records left)
       (fell_whole older.records (made is b.begun) whole_found (λ then. IsBetween then last.journal left)
       (λ then. IsBetween then (whole older.records last.journal) (bytes_behind older.records left))
@@ -213,32 +214,32 @@ module _ (older : JournalState) {limit most : ℕ} {first : Streams} (b : IsBegu
       StoodOnce (order_count older + limit) room found (bytes_behind older.records left)
       (muted (record first { journal = Some found })) (all older.records last)
 
-  module _ (room : ℕ) (within : length found ≤ room) (given : List Given) (seen left : List ℕ) (last : Streams)
-      (held : last.journal ≡ Some seen) (part : IsPartBehind limit (Some shown) (Some seen) left) where
-    pub ended_stood : (writer : WriterState) → IsFollowed (start_of b.journal) given (from b.begun) writer last
+  module _ (pace : Pace) (room : ℕ) (within : length found ≤ room) (given : List Given) (seen left : List ℕ)
+      (last : Streams) (held : last.journal ≡ Some seen) (part : IsPartBehind limit (Some shown) (Some seen) left) where
+    pub ended_stood : (writer : WriterState) → IsFollowed (start_by pace b.journal) given (from b.begun) writer last
         → StoodWhole room left last
     ended_stood writer follow =
-        stood_in {first = muted (record first { journal = Some found })} (all older.records last) refl
+        stood_in pace {first = muted (record first { journal = Some found })} (all older.records last) refl
         (ap (whole older.records) held) (begun_whole room within) (reverse (submitted given))
         (part_whole seen left part) writer
         (drive_whole older.records (made is b.begun) whole_found
-        (as_drive (start_of b.journal) given (from b.begun) writer last follow))
+        (as_drive (start_by pace b.journal) given (from b.begun) writer last follow))
 
-    pub broke_stood : (fault : DriveFault) → IsBrokenFollow (start_of b.journal) given fault (from b.begun) last
+    pub broke_stood : (fault : DriveFault) → IsBrokenFollow (start_by pace b.journal) given fault (from b.begun) last
         → StoodWhole room left last
     broke_stood fault follow =
         by (fell_whole older.records (made is b.begun) whole_found (λ then. ⊤) (λ then. ⊤) (λ then more has so. tt)
         (fell (λ then. ⊤) follow tt))
       where
-        by : Fell (start_of b.journal) (reverse (submitted given)) fault
+        by : Fell (start_by pace b.journal) (reverse (submitted given)) fault
             (muted (record first { journal = Some found })) (all older.records last) (λ then. ⊤)
             → StoodWhole room left last
         by (inl (d, so)) =
-            stood_before {first = muted (record first { journal = Some found })} (all older.records last) refl
+            stood_before pace {first = muted (record first { journal = Some found })} (all older.records last) refl
             (ap (whole older.records) held) (begun_whole room within) (reverse (submitted given))
             (part_whole seen left part) fault d
         by (inr (writer, then, d, keeps, so, still)) =
-            stood_in {first = muted (record first { journal = Some found })} (all older.records last) refl
+            stood_in pace {first = muted (record first { journal = Some found })} (all older.records last) refl
             (ap (whole older.records) held) (begun_whole room within) (reverse (submitted given))
             (part_whole seen left part) writer still
 

@@ -24,7 +24,7 @@ asked_both (Asked order moment ∷ newer) older =
 asked_both (Answered id reply ∷ newer) older = asked_both newer older
 asked_both (Sent frame answer ∷ newer) older = asked_both newer older
 asked_both (Kept entry ∷ newer) older = asked_both newer older
-asked_both (Stopped ∷ newer) older = asked_both newer older
+asked_both (Stopped pace ∷ newer) older = asked_both newer older
 asked_both (Powered address ∷ newer) older = asked_both newer older
 
 said_both : (newer older : List Happening) → said_lines (newer ++ older) ≡ said_lines older ++ said_lines newer
@@ -35,7 +35,7 @@ said_both (Answered id reply ∷ newer) older =
 said_both (Asked order moment ∷ newer) older = said_both newer older
 said_both (Sent frame answer ∷ newer) older = said_both newer older
 said_both (Kept entry ∷ newer) older = said_both newer older
-said_both (Stopped ∷ newer) older = said_both newer older
+said_both (Stopped pace ∷ newer) older = said_both newer older
 said_both (Powered address ∷ newer) older = said_both newer older
 
 -- the orders of both, in their order

@@ -28,6 +28,7 @@ use Rattle.dali_frame.specs.declared.forward.Frame.TheVariants.{Dtr1}
 use Rattle.dali_drive.specs.declared.following.Given.TheVariants as gives
 use Rattle.dali_drive.specs.Followed.{Step, happenings, told_lines, given_in, submitted, as_given, BrokenOrder}
 use Rattle.dali_drive.specs.Followed.Step.{Happened, Told}
+use Rattle.dali_write.specs.declared.pace.Pace.TheVariants.{Checked}
 
 -- ---- the bytes of both
 
@@ -155,7 +156,8 @@ last_line = record { items = codes "item 4 fault 12 Document\n" }
 abbrev followed : List Step
 followed =
     Told last_line ∷ Happened (Answered 2 Full) ∷ Happened (Asked second_order 8)
-    ∷ Happened (Powered 5) ∷ Happened Stopped ∷ Happened (Sent (Dtr1 1) None) ∷ Happened (Kept (Began first_order 7))
+    ∷ Happened (Powered 5) ∷ Happened (Stopped Checked) ∷ Happened (Sent (Dtr1 1) None) ∷ Happened
+    (Kept (Began first_order 7))
     ∷ Happened (Answered 1 Taken) ∷ Happened (Asked first_order 7) ∷ Told first_line ∷ []
 
 -- what was written: each line in its turn
@@ -170,7 +172,8 @@ given_in_turn = refl
 
 -- what happened: all but the lines that were told
 pub happened_in_turn : happenings followed
-    ≡ Answered 2 Full ∷ Asked second_order 8 ∷ Powered 5 ∷ Stopped ∷ Sent (Dtr1 1) None ∷ Kept (Began first_order 7)
+    ≡ Answered 2 Full ∷ Asked second_order 8 ∷ Powered 5 ∷ Stopped Checked ∷ Sent (Dtr1 1) None ∷ Kept
+    (Began first_order 7)
     ∷ Answered 1 Taken ∷ Asked first_order 7 ∷ []
 happened_in_turn = refl
 

@@ -30,6 +30,7 @@ use Rattle.dali_trace.proofs.WorkedPlanLemmas.{first_planned, not_another_first,
 use Rattle.std.specs.List.{AllByRecursion}
 use Rattle.std.specs.Io.BufRead.{strip_last}
 use Rattle.dali_frame.specs.Line.{SpellsAnswer}
+use Rattle.dali_write.specs.declared.pace.Pace.TheVariants.{Checked}
 
 pub first_is_record : IsRecord Two (Began first_order 7)
 first_is_record = grind arith
@@ -88,7 +89,7 @@ asked_in_turn = (refl, tt)
 pub not_asked_at_work : AtEachPast (IsInTurn empty) (Asked first_order 8 ∷ begun) → ⊥
 not_asked_at_work turn = let busy : true ≡ false = turn.0 in cc
 
-pub not_stopped_in_turn : AtEachPast (IsInTurn empty) (Stopped ∷ begun) → ⊥
+pub not_stopped_in_turn : AtEachPast (IsInTurn empty) (Stopped Checked ∷ begun) → ⊥
 not_stopped_in_turn turn = turn.0
 
 pub no_loss_of_power_in_turn : AtEachPast (IsInTurn empty) (Powered 5 ∷ begun) → ⊥

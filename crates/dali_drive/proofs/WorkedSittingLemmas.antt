@@ -38,6 +38,7 @@ use Rattle.dali_drive.proofs.KillLemmas.{one_records}
 use Rattle.dali_drive.proofs.RepeatLemmas.{sat_so, loads_still, act_once}
 use Rattle.dali_drive.proofs.WorkedDriveLemmas.{first_is_record, first_next, taken_line, no_record}
 use Rattle.dali_drive.proofs.SittingLemmas.{broke_off}
+use Rattle.dali_write.specs.declared.pace.Pace.TheVariants.{Checked}
 
 none_kept : AreKept Two 10 []
 none_kept = record { in_range = tt; whole = (tt, omega arith) }
@@ -98,6 +99,7 @@ begun_next = record { work = tt; may = begun_legal.1; planned = first_planned.0.
 
 pub first_killed : WasKilled 10 100 [] first_sitting torn_file
 first_killed = record {
+  pace = Checked;
   first = before_on [];
   now = after_taken;
   is_found = refl;
@@ -142,7 +144,8 @@ frame_broken = record {
 stopped_amid_frame : (past : List Happening) → MayHaveHappened empty begun Link past → IsFinished past
     → BrokeOff 10 100 torn_file (record { start = empty; past = past }) begun_file
 stopped_amid_frame past happened finished =
-    broke_off {first = before_on torn_file} refl (begun_on torn_file 4 (omega arith) torn_is) frame_broken begun_file
+    broke_off Checked {first = before_on torn_file} refl (begun_on torn_file 4 (omega arith) torn_is) frame_broken
+    begun_file
     ([], [], refl, refl) past happened finished (λ entry next. absurd (no_record entry next))
 
 pub second_broke_off : BrokeOff 10 100 torn_file second_sitting begun_file
@@ -176,7 +179,7 @@ pub both_act_once : ActOnce empty (second_sitting ∷ first_sitting ∷ []) begu
 })
 both_act_once =
     act_once empty 100 [] begun_file (second_sitting ∷ first_sitting ∷ []) _
-    (record { version = Two; len = 0; kept = none_kept; loadable = (refl, refl, refl) }) both_sat
+    (record { version = Two; len = 0; kept = none_kept; loadable = (refl, refl, refl) }) both_sat (tt, (refl, tt))
     (record {
       before = [];
       later = [];
@@ -191,8 +194,9 @@ pub over_a_new_unit : ActOnce empty (second_sitting ∷ first_sitting ∷ []) be
     (alone blank_unit ∷ alone blank_unit ∷ alone blank_unit ∷ alone blank_unit ∷ []))
 over_a_new_unit =
     act_once empty 100 [] begun_file (second_sitting ∷ first_sitting ∷ []) _
-    (record { version = Two; len = 0; kept = none_kept; loadable = (refl, refl, refl) }) both_sat (record {
-      before = Stopped ∷ taken;
+    (record { version = Two; len = 0; kept = none_kept; loadable = (refl, refl, refl) }) both_sat (tt, (refl, tt))
+    (record {
+      before = Stopped Checked ∷ taken;
       later = [];
       is_part = refl;
       begins = record { older = []; newest = refl; idle = refl; rests = inr (inl refl) };

@@ -1,8 +1,9 @@
 -- A scan of two units and two orders verified by hand, frames that are broken off, and what is near them and isn't so.
 use Rattle.std.proofs.Common.{◌≡◌, inl, refl, sym, ap, append_assoc, ℕ, zero, suc, List, [], ◌∷◌, ◌++◌, Some, None, codes}
-use Rattle.std.proofs.Common.{true, is_some, take, length, arith, ◌≤◌, append-nil, take-append-drop, inr, false}
+use Rattle.std.proofs.Common.{true, is_some, take, length, arith, ◌≤◌, ◌+◌, append-nil, take-append-drop, inr, false, replicate, reverse}
+use Rattle.std.proofs.Common.{length-append}
 use Rattle.std.proofs.lemmas.Fmt.{decimal_digit}
-use Rattle.std.proofs.lemmas.List.{length-map}
+use Rattle.std.proofs.lemmas.List.{length-map, length-reverse}
 use Rattle.dali_frame.specs.declared.forward.Frame.TheVariants.{Dtr0, Dtr1, AskDtr0, AskDtr1, Read}
 use Rattle.dali_write.specs.Exchanges.{Exchange}
 use Rattle.dali_write.specs.WorkedAccesses.{sent}
@@ -10,20 +11,25 @@ use Rattle.dali_write.specs.declared.request.Wish.TheVariants.{Nothing, Exactly}
 use Rattle.dali_write.specs.Tries.{Misses, Succeeds}
 use Rattle.dali_write.specs.Requests.{request}
 use Rattle.dali_read.specs.declared.finding.Finding.TheVariants.{Same, Other, Short, Format}
-use Rattle.dali_write.specs.Requests.{block_requests}
+use Rattle.dali_write.specs.Requests.{block_requests, each_try}
 use Rattle.dali_write.specs.Blocks.{Fits, IsBlockRead, IsAmid}
 use Rattle.dali_write.specs.Requests.{block}
-use Rattle.dali_read.specs.Places.{first_block, last_course, order_course}
+use Rattle.dali_read.specs.Places.{first_block, last_course, identity_course, order_course}
 use Rattle.dali_read.specs.Readings.{Course, Ends, Done, IsRead, InTurn, bytes_in, told_in}
 use Rattle.dali_drive.specs.Lines.{IsAnswerLine, link_line}
 use Rattle.dali_drive.specs.Transcript.{Streams, AreAnswers, link_shown}
 use Rattle.dali_drive.specs.UnitRead.{LinkText, UnitReadBroke}
 use Rattle.dali_drive.specs.SurveyLines.{last_line, units_line, bytes_line, silent_line, order_head, finding_line}
 use Rattle.dali_drive.specs.SurveyLines.{order_silent_line}
-use Rattle.dali_drive.specs.Surveys.{Report, Surveyed, IsScanReport, link_of, Reported, BreaksReport, TellsLast, IsScan}
-use Rattle.dali_drive.specs.Surveys.{BreaksScan, ScanBroke, items_in, all_told, lines_in, answered, addresses_below}
+use Rattle.dali_bank.specs.Gtin.{IsGtinNumber}
+use Rattle.dali_bank.specs.declared.shown.Shown.TheVariants as shown_as
+use Rattle.dali_drive.specs.Surveys.{Report, Surveyed, IsScanReport, link_of, Reported, BreaksReport, TellsUnit, IsScan}
+use Rattle.dali_drive.specs.Surveys.{BreaksScan, ScanBroke, items_in, all_told, lines_in, answered, sought_course}
+use Rattle.dali_drive.specs.declared.sought.Sought.{Sought}
+use Rattle.dali_drive.specs.declared.sought.Sought.TheVariants as sought
 use Rattle.dali_drive.specs.Surveys.{IsOrderReport, IsSame, TellsOrder, IsVerified, VerifyBroke}
 use Rattle.dali_drive.specs.WorkedSurveys.{missed, length_read, silent_unit, found_unit, two_units, before_two_units}
+use Rattle.dali_drive.specs.WorkedSurveys.{known_bytes, known_line, blank_line}
 use Rattle.dali_drive.specs.WorkedSurveys.{after_two_units, near_order, far_order, same_order, silent_order}
 use Rattle.dali_drive.specs.WorkedSurveys.{amid_third_unit, silent_unit_told, before_one_unit, one_unit_and, byte_read}
 use Rattle.dali_drive.specs.WorkedSurveys.{other_order, short_order, before_two_orders, after_two_orders}
@@ -103,7 +109,7 @@ missed_heard (suc tries) told heard lines =
 
 -- Unit 0 is silent, and unit 1 answers
 
-all_missed : (tries : ℕ) → Misses (block_requests 0 first_block) tries (missed tries)
+all_missed : (tries : ℕ) → Misses (each_try (block_requests 0 first_block)) tries (missed tries)
 all_missed zero = refl
 all_missed (suc tries) =
     let older = all_missed tries in
@@ -117,12 +123,12 @@ silent_ends course next =
     let fits = first_fits in let fails = all_missed 8 in
     record { done = []; in_turn = tt; block = _; fits = fits; next = next; missed = _; fails = fails; told_are = refl }
 
-pub silent_scanned : IsScanReport silent_unit
+pub silent_scanned : IsScanReport sought.Last silent_unit
 silent_scanned = (silent_ends last_course refl, refl)
 
 -- a block that was read at once, and a reading that came to its end
 at_once : (unit : ℕ) (block : Block) (bytes : List ℕ) (told : List Exchange) → IsBlockRead unit block bytes told
-    → Succeeds (block_requests unit block) (Some bytes) told
+    → Succeeds (each_try (block_requests unit block)) (Some bytes) told
 at_once unit block bytes told read =
     (told, [], 0, sym (append-nil told), read.0, ap Some (sym read.1), omega arith, refl)
 
@@ -130,7 +136,7 @@ is_read : {unit : ℕ} {course : Course} (done : List Done) → InTurn unit cour
     → IsRead unit course (bytes_in done) (told_in done)
 is_read done turn over = grind arith
 
-pub length_told : Succeeds (block_requests 1 first_block) (Some (0x77 ∷ [])) length_read
+pub length_told : Succeeds (each_try (block_requests 1 first_block)) (Some (0x77 ∷ [])) length_read
 length_told =
     at_once 1 first_block _ _
     ((_, search, (_, search, (_, search, (_, search, (_, search, (_, search, (_, search, refl))))))), refl)
@@ -138,9 +144,9 @@ length_told =
 abbrev pub first_done : Done
 first_done = record { block = first_block; bytes = 0x77 ∷ []; told = length_read }
 
-pub found_scanned : IsScanReport found_unit
+pub found_scanned : IsScanReport sought.Last found_unit
 found_scanned =
-    (is_read (first_done ∷ []) (tt, first_fits, refl, length_told) refl, (0x77, refl, search (decimal_digit, arith)))
+    (is_read (first_done ∷ []) (tt, first_fits, refl, length_told) refl, search (decimal_digit, arith))
 
 length_heard : AreAnswers (as_sent length_read) (codes "--\n01\n--\n00\n77\n01\n01\n")
 length_heard =
@@ -149,27 +155,62 @@ length_heard =
 two_heard : AreAnswers (as_sent (length_read ++ missed 8)) (lines_of 8 [] ++ codes "--\n01\n--\n00\n77\n01\n01\n")
 two_heard = answers_both length_read (missed 8) (lines_of 8 []) _ (missed_heard 8 [] [] refl) length_heard
 
-pub two_surveyed : Surveyed IsScanReport two_units before_two_units after_two_units
+pub two_surveyed : Surveyed (IsScanReport sought.Last) two_units before_two_units after_two_units
 two_surveyed = search (arith, found_scanned, silent_scanned, two_heard)
 
 -- of a small survey: what its reports are for, their exchanges and lines, and how many units answered
 pub two_units_are : (items_in two_units ≡ 1 ∷ 0 ∷ []) × (all_told two_units ≡ length_read ++ missed 8)
     × (lines_in two_units ≡ codes "unit 1 last 77\n") × (answered two_units ≡ 1)
-    × (answered (silent_unit ∷ []) ≡ 0) × (addresses_below 3 ≡ 2 ∷ 1 ∷ 0 ∷ [])
-two_units_are = (refl, refl, refl, refl, refl, refl)
+    × (answered (silent_unit ∷ []) ≡ 0) × (sought_course sought.Last ≡ last_course)
+    × (sought_course sought.Identity ≡ identity_course)
+two_units_are = (refl, refl, refl, refl, refl, refl, refl)
 
 pub lines_in_turn : lines_in (silent_order ∷ same_order ∷ []) ≡ codes "order 7 unit 1 same\norder 8 unit 0 silent\n"
 lines_in_turn = refl
 
 -- a silent unit has no line, and a unit that answers just its own
-pub no_silent_line : Surveyed IsScanReport two_units before_two_units silent_unit_told → ⊥
+pub no_silent_line : Surveyed (IsScanReport sought.Last) two_units before_two_units silent_unit_told → ⊥
 no_silent_line surveyed = grind arith
 
-pub not_silent_with_a_line : TellsLast 0 None (codes "unit 0 last 00\n") → ⊥
+pub not_silent_with_a_line : TellsUnit 0 None (codes "unit 0 last 00\n") → ⊥
 not_silent_with_a_line is = cc
 
-pub not_two_bytes : (line : List ℕ) → TellsLast 1 (Some (0x77 ∷ 0x00 ∷ [])) line → ⊥
-not_two_bytes line (last, one, is) = cc
+pub not_two_bytes : (line : List ℕ) → TellsUnit 1 (Some (0x77 ∷ 0x00 ∷ [])) line → ⊥
+not_two_bytes line tells = let few = tells.0 in omega arith
+
+-- what a unit is
+
+zeros_are_gtin : IsGtinNumber 0
+zeros_are_gtin =
+    (replicate 14 0x30, refl, record { sized = search arith; digits = search arith; checked = refl }, refl)
+
+pub known_told : TellsUnit 1 (Some (0x77 ∷ known_bytes)) known_line
+known_told = (
+  refl,
+  replicate 14 0x30,
+  codes "01020304050607A8",
+  (
+    shown_as.Number 0,
+    (omega arith, (λ same. cc, (zeros_are_gtin, record { sized = refl; in_range = search arith; adds_up = refl }))),
+    search (decimal_digit, arith),
+  ),
+  (shown_as.Hex, (omega arith, (λ same. cc, tt)), search arith),
+  search (decimal_digit, arith),
+)
+
+pub blank_told : TellsUnit 1 (Some (0x77 ∷ replicate 14 0xFF)) blank_line
+blank_told = (
+  refl,
+  codes "unknown",
+  codes "unknown",
+  (shown_as.Unknown, (omega arith, refl), refl),
+  (shown_as.Unknown, (omega arith, refl), refl),
+  search (decimal_digit, arith),
+)
+
+-- the last location alone is told of no unit whose identity was read
+pub not_without_identity : TellsUnit 1 (Some (0x77 ∷ known_bytes)) (codes "unit 1 last 77\n") → ⊥
+not_without_identity tells = grind (arith, decimal_digit)
 
 -- where a reading is broken off in its first frame
 first_amid : (unit : ℕ) (block : Block) → IsAmid unit block [] (Dtr1 1)
@@ -206,10 +247,10 @@ cut_frame : (frame : Frame) (count : ℕ) (old answers : List ℕ) → count ≤
 cut_frame frame count old answers few = grind arith
 
 -- the third unit is broken off in its first frame
-third_cut : BreaksScan faults.Link 2 1 after_two_units amid_third_unit
-third_cut = inl (omega arith, (frame_broke 2 last_course refl (cut_frame (Dtr1 1) 2 _ _ (omega arith)), refl))
+third_cut : BreaksScan sought.Last faults.Link (2 ∷ []) 1 after_two_units amid_third_unit
+third_cut = (frame_broke 2 last_course refl (cut_frame (Dtr1 1) 2 _ _ (omega arith)), refl)
 
-pub third_broke : ScanBroke faults.Link before_two_units amid_third_unit
+pub third_broke : ScanBroke sought.Last (0 ∷ 1 ∷ 2 ∷ []) faults.Link before_two_units amid_third_unit
 third_broke = search (arith, two_surveyed, third_cut)
 
 -- One unit, and its line whole or in part
@@ -217,54 +258,53 @@ third_broke = search (arith, two_surveyed, third_cut)
 one_text : LinkText length_read (link_of before_one_unit) (link_of (one_unit_and []))
 one_text = record { heard = _; lines = length_heard; journal = tt; link = refl; answers = refl; out = tt }
 
-pub one_reported : Reported IsScanReport 1 (λ report. true ≡ is_some report.outcome) before_one_unit
+pub one_reported : Reported (IsScanReport sought.Last) 1 (λ report. true ≡ is_some report.outcome) before_one_unit
     (one_unit_and (codes "unit 1 last 77\n"))
 one_reported = search (arith, found_scanned, one_text)
 
-pub part_written : BreaksReport IsScanReport faults.Out 1 1 last_course before_one_unit (one_unit_and (codes "unit 1"))
+pub part_written : BreaksReport (IsScanReport sought.Last) faults.Out 1 1 last_course before_one_unit
+    (one_unit_and (codes "unit 1"))
 part_written = (found_unit, refl, found_scanned, one_text, record { count = 6; within = omega arith; part = refl })
 
-pub no_other_text : BreaksReport IsScanReport faults.Out 1 1 last_course before_one_unit (one_unit_and (codes "unit 2"))
-    → ⊥
+pub no_other_text : BreaksReport (IsScanReport sought.Last) faults.Out 1 1 last_course before_one_unit
+    (one_unit_and (codes "unit 2")) → ⊥
 no_other_text broke = grind (arith, decimal_digit, take-append-drop broke.4.count broke.0.line)
 
 -- another fault than Out leaves no part of a line
-pub no_line_of_another_fault : BreaksReport IsScanReport faults.End 1 1 last_course before_one_unit
+pub no_line_of_another_fault : BreaksReport (IsScanReport sought.Last) faults.End 1 1 last_course before_one_unit
     (one_unit_and (codes "unit 1")) → ⊥
 no_line_of_another_fault broke = let never : codes "unit 1" ≡ [] = broke.1 in cc
 
 -- a whole scan
 
-pub all_asked : (units : ℕ) (first last : Streams) (scan : IsScan units first last) → length scan.reports ≡ 64
-all_asked units first last scan = grind (arith, length-map)
+pub all_asked : (what : Sought) (addresses : List ℕ) (units : ℕ) (first last : Streams)
+    → (scan : IsScan what addresses units first last) → length scan.reports ≡ length addresses
+all_asked what addresses units first last scan = grind (arith, length-map, length-reverse)
 
 -- at most so many units as there are addresses
 answered_few : (reports : List (Report ℕ)) → answered reports ≤ length reports
 answered_few [] = omega arith
 answered_few (report ∷ reports) = let few = answered_few reports in grind arith
 
-pub at_most_all : (units : ℕ) (first last : Streams) → IsScan units first last → units ≤ 64
-at_most_all units first last scan = omega (arith, answered_few scan.reports, all_asked _ _ _ scan, scan.units_are)
+pub at_most_all : (what : Sought) (addresses : List ℕ) (units : ℕ) (first last : Streams)
+    → IsScan what addresses units first last → units ≤ length addresses
+at_most_all what addresses units first last scan =
+    omega (arith, answered_few scan.reports, all_asked _ _ _ _ _ scan, scan.units_are)
 
--- a scan that is broken off has a report of each address below
-below_length : (address : ℕ) → length (addresses_below address) ≡ address
-below_length zero = refl
-below_length (suc address) = let below = below_length address in omega (arith, below)
+-- a scan that is broken off has a report of each address before it
+pub all_before_asked : (what : Sought) (addresses : List ℕ) (fault : DriveFault) (first last : Streams)
+    → (broke : ScanBroke what addresses fault first last)
+    → length broke.reports + length broke.rest ≡ length addresses
+all_before_asked what addresses fault first last broke =
+    grind (arith, length-map, length-reverse, length-append (reverse (items_in broke.reports)) broke.rest)
 
-pub all_below_asked : (fault : DriveFault) (first last : Streams) (broke : ScanBroke fault first last)
-    → length broke.reports ≡ broke.next
-all_below_asked fault first last broke = grind (arith, length-map, below_length)
-
-pub only_its_line_behind : (fault : DriveFault) (units : ℕ) (old new : Streams) → BreaksScan fault 64 units old new
-    → fault ≡ faults.Out
-only_its_line_behind fault units old new broke = grind arith
-
-pub nothing_past_it : (fault : DriveFault) (units : ℕ) (old new : Streams) → BreaksScan fault 65 units old new → ⊥
-nothing_past_it fault units old new broke = grind arith
+pub only_its_line_behind : (what : Sought) (fault : DriveFault) (units : ℕ) (old new : Streams)
+    → BreaksScan what fault [] units old new → fault ≡ faults.Out
+only_its_line_behind what fault units old new broke = grind arith
 
 -- Two orders: the unit of the first one has its byte, and that of the second is silent
 
-byte_told : (byte : ℕ) → Succeeds (block_requests 1 (block 0x03 1)) (Some (byte ∷ [])) (byte_read byte)
+byte_told : (byte : ℕ) → Succeeds (each_try (block_requests 1 (block 0x03 1))) (Some (byte ∷ [])) (byte_read byte)
 byte_told byte =
     at_once 1 (block 0x03 1) _ _
     ((_, search, (_, search, (_, search, (_, search, (_, search, (_, search, (_, search, refl))))))), refl)

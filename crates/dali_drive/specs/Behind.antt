@@ -16,7 +16,7 @@ use Rattle.dali_trace.specs.declared.happening.Happening.{Happening}
 use Rattle.dali_trace.specs.declared.happening.Reply.{Reply}
 use Rattle.dali_trace.specs.Replies.{IsReply, IsKnownReply}
 use Rattle.dali_trace.specs.Trace.{Start, records_of}
-use Rattle.dali_engine.specs.WriterState.{WriterState, start_of}
+use Rattle.dali_engine.specs.WriterState.{WriterState, start_by}
 use Rattle.dali_drive.specs.declared.behind.BehindFault.{BehindFault}
 use Rattle.dali_drive.specs.declared.behind.BehindFault.TheVariants.{Open, Join, Drive}
 use Rattle.dali_trace.specs.declared.fault.DriveFault.{DriveFault}
@@ -27,6 +27,7 @@ use Rattle.dali_drive.specs.Desks.{Failures, Look, Settled, IsUnfailed, FailsOpe
 use Rattle.dali_drive.specs.Observed.{IsObserved, IsObservedBreak}
 use Rattle.dali_drive.specs.Stored.{IsBegun, EndsAtFault}
 use Rattle.dali_drive.specs.Transcript.{Streams}
+use Rattle.dali_write.specs.declared.pace.Pace.{Pace}
 
 -- the journal of both: its own records and behind them the older ones, for as many orders more as its own
 pub record IsJoined (older : JournalState) (limit : ℕ) (own whole : JournalState) : Type 0 where
@@ -55,36 +56,36 @@ pub record IsBegunBehind (older : Option JournalState) (limit most : ℕ) (first
   pub whole : IsWhole older limit begun.journal journal
 
 pub record IsFollowBehind {G B : Type 0} (gave : G → G → List Given → Type 0) (over : G → Type 0)
-    (told : Start → B → B → List Happening → Type 0) (older : Option JournalState) (limit most : ℕ) (orders : G)
-    (first : Streams) (before : B) (writer : WriterState) (orders_left : G) (last : Streams) (after : B)
+    (told : Start → B → B → List Happening → Type 0) (older : Option JournalState) (limit most : ℕ) (pace : Pace)
+    (orders : G) (first : Streams) (before : B) (writer : WriterState) (orders_left : G) (last : Streams) (after : B)
     : Type 0 where
   pub behind : IsBegunBehind older limit most first
-  pub observed : IsObservedFollow gave over told (start_of behind.journal) orders
+  pub observed : IsObservedFollow gave over told (start_by pace behind.journal) orders
       (record first { journal = behind.begun.middle }) before writer orders_left last after
 
 pub record IsFollowBehindBreak {G B : Type 0} (gave : G → G → List Given → Type 0)
     (told : Start → B → B → List Happening → Type 0)
     (told_end : Start → B → B → List Happening → DriveFault → Frame → List ℕ → Type 0) (older : Option JournalState)
-    (limit most : ℕ) (orders : G) (fault : DriveFault) (first : Streams) (before : B) (orders_left : G)
+    (limit most : ℕ) (pace : Pace) (orders : G) (fault : DriveFault) (first : Streams) (before : B) (orders_left : G)
     (last : Streams) (after : B) (may_leave : List ℕ → Type 0) : Type 0 where
   pub behind : IsBegunBehind older limit most first
-  pub observed : IsObservedFollowBreak gave told told_end (start_of behind.journal) orders fault
+  pub observed : IsObservedFollowBreak gave told told_end (start_by pace behind.journal) orders fault
       (record first { journal = behind.begun.middle }) before orders_left last after may_leave
 
 -- a drive of a list behind an older journal, where there is one
 pub record IsDriveBehind {B : Type 0} (told : Start → B → B → List Happening → Type 0) (older : Option JournalState)
-    (limit most : ℕ) (orders : List (Contents × ℕ)) (first : Streams) (before : B) (writer : WriterState)
+    (limit most : ℕ) (pace : Pace) (orders : List (Contents × ℕ)) (first : Streams) (before : B) (writer : WriterState)
     (last : Streams) (after : B) : Type 0 where
   pub behind : IsBegunBehind older limit most first
-  pub observed : IsObserved told (start_of behind.journal) orders (record first { journal = behind.begun.middle })
+  pub observed : IsObserved told (start_by pace behind.journal) orders (record first { journal = behind.begun.middle })
       before writer last after
 
 pub record IsDriveBehindBreak {B : Type 0} (told : Start → B → B → List Happening → Type 0)
     (told_end : Start → B → B → List Happening → DriveFault → Frame → List ℕ → Type 0) (older : Option JournalState)
-    (limit most : ℕ) (orders : List (Contents × ℕ)) (fault : DriveFault) (first : Streams) (before : B)
+    (limit most : ℕ) (pace : Pace) (orders : List (Contents × ℕ)) (fault : DriveFault) (first : Streams) (before : B)
     (last : Streams) (after : B) (may_leave : List ℕ → Type 0) : Type 0 where
   pub behind : IsBegunBehind older limit most first
-  pub observed : IsObservedBreak told told_end (start_of behind.journal) orders fault
+  pub observed : IsObservedBreak told told_end (start_by pace behind.journal) orders fault
       (record first { journal = behind.begun.middle }) before last after may_leave
 
 -- the journal was opened, and with the older one it is none; nothing else was done
@@ -99,14 +100,15 @@ pub record EndsUnjoined {G B : Type 0} (fault : JoinFault) (older : Option Journ
 
 -- why not all was followed
 abbrev pub EndsBehind : {G B : Type 0} → (G → G → List Given → Type 0) → (Start → B → B → List Happening → Type 0)
-    → (Start → B → B → List Happening → DriveFault → Frame → List ℕ → Type 0) → Option JournalState → ℕ → ℕ → G
+    → (Start → B → B → List Happening → DriveFault → Frame → List ℕ → Type 0) → Option JournalState → ℕ → ℕ → Pace → G
     → BehindFault → Look → B → G → Look → B → Type 0
-EndsBehind gave told told_end older limit most orders (Open fault) first before orders_left last after =
-    EndsAtFault limit most [] (stored.Open fault) first last × (orders_left ≡ orders) × (after ≡ before)
-EndsBehind gave told told_end older limit most orders (Join fault) first before orders_left last after =
+EndsBehind gave told told_end older limit most pace orders (Open fault) first before orders_left last after =
+    EndsAtFault limit most pace [] (stored.Open fault) first last × (orders_left ≡ orders) × (after ≡ before)
+EndsBehind gave told told_end older limit most pace orders (Join fault) first before orders_left last after =
     EndsUnjoined fault older limit most orders first.streams before orders_left last after
-EndsBehind gave told told_end older limit most orders (Drive fault) first before orders_left last after =
-    IsFollowBehindBreak gave told told_end older limit most orders fault first.streams before orders_left last.streams
+EndsBehind gave told told_end older limit most pace orders (Drive fault) first before orders_left last after =
+    IsFollowBehindBreak gave told told_end older limit most pace orders fault first.streams before orders_left
+    last.streams
     after last.may_leave
 
 -- which streams have failed where this fault comes

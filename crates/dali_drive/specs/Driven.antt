@@ -42,7 +42,7 @@ at_moment moment orders = map (λ order. (order, moment)) orders
 -- program doesn't know
 abbrev pub IsInTurn : Start → List Happening → Type 0
 IsInTurn start (Asked order moment ∷ past) = is_busy start past ≡ false
-IsInTurn start (Stopped ∷ past) = ⊥
+IsInTurn start (Stopped pace ∷ past) = ⊥
 IsInTurn start (Powered address ∷ past) = ⊥
 IsInTurn start other = ⊤
 

@@ -11,13 +11,14 @@ use Rattle.dali_trace.specs.declared.happening.Happening.TheVariants.{Answered, 
 use Rattle.dali_trace.specs.Trace.{Start, records_of}
 use Rattle.dali_trace.specs.Legal.{IsFinished}
 use Rattle.dali_trace.specs.Next.{IsNext}
-use Rattle.dali_engine.specs.WriterState.{WriterState, start_of}
+use Rattle.dali_engine.specs.WriterState.{WriterState, start_by}
 use Rattle.dali_laws.specs.Joined.{Sitting}
 use Rattle.dali_trace.specs.declared.fault.DriveFault.{DriveFault}
 use Rattle.dali_drive.specs.Transcript.{Streams}
 use Rattle.dali_drive.specs.Driven.{IsDriven, IsDrive, IsBrokenDrive}
 use Rattle.dali_drive.specs.Stored.{IsBegun}
 use Rattle.dali_drive.specs.Sittings.{MayHaveHappened}
+use Rattle.dali_write.specs.declared.pace.Pace.{Pace}
 
 -- nothing was in hand
 pub record NoneInHand (start : Start) (older past : List Happening) (left : List ℕ) : Type 0 where
@@ -59,26 +60,27 @@ IsKilledAt start older past left =
 
 -- From a store that showed these bytes a drive was killed: until then this much had been driven.
 pub record WasKilled (limit most : ℕ) (found : List ℕ) (sitting : Sitting) (left : List ℕ) : Type 0 where
+  pub pace : Pace
   pub first : Streams
   pub now : Streams
   pub is_found : first.journal ≡ Some found
   pub begun : IsBegun limit most first
   pub older : List Happening
-  pub driven : IsDriven (start_of begun.journal) older (record first { journal = begun.middle }) now
+  pub driven : IsDriven (start_by pace begun.journal) older (record first { journal = begun.middle }) now
   pub past : List Happening
-  pub at : IsKilledAt (start_of begun.journal) older past left
-  pub is : sitting ≡ record { start = start_of begun.journal; past = past }
+  pub at : IsKilledAt (start_by pace begun.journal) older past left
+  pub is : sitting ≡ record { start = start_by pace begun.journal; past = past }
 
 -- a drive over a store came to its end and this happened, or it broke off and this may have happened
 abbrev pub MayHaveDriven : ℕ → ℕ → Streams → List Happening → Streams → Type 0
 MayHaveDriven limit most first trail last =
-    (begun : IsBegun limit most first) × (orders : List (Contents × ℕ))
+    (begun : IsBegun limit most first) × (pace : Pace) × (orders : List (Contents × ℕ))
     × (((writer : WriterState)
-    × (d : IsDrive (start_of begun.journal) orders (record first { journal = begun.middle }) writer last)
+    × (d : IsDrive (start_by pace begun.journal) orders (record first { journal = begun.middle }) writer last)
     × (trail ≡ d.past))
     ⊎ ((fault : DriveFault)
-    × (b : IsBrokenDrive (start_of begun.journal) orders fault (record first { journal = begun.middle }) last)
-    × MayHaveHappened (start_of begun.journal) b.past fault trail))
+    × (b : IsBrokenDrive (start_by pace begun.journal) orders fault (record first { journal = begun.middle }) last)
+    × MayHaveHappened (start_by pace begun.journal) b.past fault trail))
 
 -- Killed at some moment of such a drive, it would have left this.
 pub record StoodOnce (limit most : ℕ) (found left : List ℕ) (first last : Streams) : Type 0 where

@@ -8,6 +8,7 @@ pub mod LentSinks
 pub mod StoreDesks
 pub mod UnitRead
 pub mod SurveyLines
+pub mod Found
 pub mod Surveys
 pub mod Stored
 pub mod Observed

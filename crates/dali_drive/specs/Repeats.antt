@@ -1,8 +1,8 @@
 -- Drives over a store one after another, each from what the one before it left there.
-use Rattle.std.specs.Prelude.{◌≡◌, ◌⊎◌, ◌++◌, ℕ, List, [], ◌∷◌, Some}
+use Rattle.std.specs.Prelude.{◌≡◌, ◌⊎◌, ◌++◌, ℕ, List, [], ◌∷◌, Some, ⊤}
 use Rattle.dali_trace.specs.Trace.{Start, records_of}
 use Rattle.dali_trace.specs.Taken.{taken_orders, begun_orders}
-use Rattle.dali_laws.specs.Joined.{Sitting, joined, IsOneTrace}
+use Rattle.dali_laws.specs.Joined.{Sitting, joined, IsFirstPace, IsOneTrace}
 use Rattle.dali_laws.specs.Stays.{Stay, IsRightThrough, IsReadyAtRest}
 use Rattle.dali_store.specs.Opened.{Loads, LoadsAlike}
 use Rattle.dali_drive.specs.Sittings.{CameToItsEnd, BrokeOff}
@@ -25,6 +25,11 @@ HaveSat limit most first [] last = IsSameFile limit first last
 HaveSat limit most first (newest ∷ older) last =
     (found : List ℕ) × (left : List ℕ) × HaveSat limit most first older found × HasSat limit most found newest left
     × IsSameFile limit left last
+
+-- the first of them has the plan of the start
+abbrev pub BeginsBy : Start → List Sitting → Type 0
+BeginsBy start [] = ⊤
+BeginsBy start (newest ∷ older) = IsFirstPace start newest.start older × BeginsBy start older
 
 -- What a bench may rely on that is switched off and on again any number of times, while units lose their power, and
 -- come and go between the stays: all that the program knows of is one legal trace that keeps to the plans, what is left

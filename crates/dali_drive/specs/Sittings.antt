@@ -11,7 +11,7 @@ use Rattle.dali_trace.specs.declared.happening.Happening.TheVariants.{Answered, 
 use Rattle.dali_trace.specs.Trace.{Start, records_of}
 use Rattle.dali_trace.specs.Legal.{IsFinished}
 use Rattle.dali_trace.specs.Next.{IsNext}
-use Rattle.dali_engine.specs.WriterState.{WriterState, start_of}
+use Rattle.dali_engine.specs.WriterState.{WriterState, start_by}
 use Rattle.dali_laws.specs.Joined.{Sitting}
 use Rattle.dali_store.specs.Stores.{IsBetween}
 use Rattle.dali_trace.specs.declared.fault.DriveFault.{DriveFault}
@@ -19,6 +19,7 @@ use Rattle.dali_trace.specs.declared.fault.DriveFault.TheVariants.{Journal, NoMe
 use Rattle.dali_drive.specs.Transcript.{Streams}
 use Rattle.dali_drive.specs.Driven.{IsBrokenDrive}
 use Rattle.dali_drive.specs.Stored.{IsBegun, IsStoredDrive}
+use Rattle.dali_write.specs.declared.pace.Pace.{Pace}
 
 -- the step after this trace that the fault broke off, if it was done all the same: a record, a reply, or a frame with
 -- whatever answer
@@ -43,28 +44,30 @@ KeptWhereWhole start trace past left =
 
 -- From a store that showed these bytes a drive came to its end: its trace happened, and is what the store then shows.
 pub record CameToItsEnd (limit most : ℕ) (found : List ℕ) (sitting : Sitting) (left : List ℕ) : Type 0 where
+  pub pace : Pace
   pub orders : List (Contents × ℕ)
   pub first : Streams
   pub writer : WriterState
   pub last : Streams
   pub is_found : first.journal ≡ Some found
-  pub drive : IsStoredDrive limit most orders first writer last
+  pub drive : IsStoredDrive limit most pace orders first writer last
   pub is_left : last.journal ≡ Some left
-  pub is : sitting ≡ record { start = start_of drive.begun.journal; past = drive.drive.past }
+  pub is : sitting ≡ record { start = start_by pace drive.begun.journal; past = drive.drive.past }
 
 -- From a store that showed these bytes a drive broke off: all that may have happened did so or did not, and this is
 -- left of what was put last.
 pub record BrokeOff (limit most : ℕ) (found : List ℕ) (sitting : Sitting) (left : List ℕ) : Type 0 where
+  pub pace : Pace
   pub orders : List (Contents × ℕ)
   pub fault : DriveFault
   pub first : Streams
   pub last : Streams
   pub is_found : first.journal ≡ Some found
   pub begun : IsBegun limit most first
-  pub drive : IsBrokenDrive (start_of begun.journal) orders fault (record first { journal = begun.middle }) last
+  pub drive : IsBrokenDrive (start_by pace begun.journal) orders fault (record first { journal = begun.middle }) last
   pub is_left : IsBetween drive.middle.journal last.journal left
   pub past : List Happening
-  pub happened : MayHaveHappened (start_of begun.journal) drive.past fault past
+  pub happened : MayHaveHappened (start_by pace begun.journal) drive.past fault past
   pub finished : IsFinished past
-  pub counts : KeptWhereWhole (start_of begun.journal) drive.past past left
-  pub is : sitting ≡ record { start = start_of begun.journal; past = past }
+  pub counts : KeptWhereWhole (start_by pace begun.journal) drive.past past left
+  pub is : sitting ≡ record { start = start_by pace begun.journal; past = past }

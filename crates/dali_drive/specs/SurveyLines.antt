@@ -1,16 +1,41 @@
 -- The lines that tell what was read of units.
-use Rattle.std.specs.Prelude.{ℕ, ◌++◌, List, codes, decimal}
+use Rattle.std.specs.Prelude.{◌≡◌, ◌⊎◌, ℕ, ◌++◌, List, [], ◌∷◌, codes, decimal, length}
+use Rattle.dali_bank.specs.declared.field.Field.TheVariants.{Gtin, Identification}
 use Rattle.dali_bank.specs.Order.{Contents}
 use Rattle.dali_frame.specs.Hex.{byte_digits}
 use Rattle.dali_read.specs.declared.finding.Finding.{Finding}
 use Rattle.dali_read.specs.declared.finding.Finding.TheVariants.{Same, Other, Short, Format}
+use Rattle.dali_text.specs.BankLines.{IsRowText}
+use Rattle.dali_text.specs.declared.bank_lines.Row.TheVariants.{Of}
 
 abbrev pub unit_head : ℕ → List ℕ
 unit_head unit = codes "unit " ++ decimal unit
 
 -- a unit whose bank 1 has this last location
+abbrev pub last_head : ℕ → ℕ → List ℕ
+last_head unit last = unit_head unit ++ codes " last " ++ byte_digits last
+
 abbrev pub last_line : ℕ → ℕ → List ℕ
-last_line unit last = unit_head unit ++ codes " last " ++ byte_digits last ++ codes "\n"
+last_line unit last = last_head unit last ++ codes "\n"
+
+-- a bank with this last location and these bytes from 03h on; what stands between them isn't known
+abbrev pub bank_with : ℕ → List ℕ → List ℕ
+bank_with last more = last ∷ 0xFF ∷ 0xFF ∷ more
+
+-- 00h was read, or with it the locations from 03h to 10h
+abbrev pub HasUnitLine : List ℕ → Type 0
+HasUnitLine bytes = (length bytes ≡ 1) ⊎ (length bytes ≡ 15)
+
+-- The line of a unit of which these bytes were read: its last location, and where those from 03h to 10h were read what
+-- a bank with them is told to have there.
+abbrev pub IsUnitLine : ℕ → List ℕ → List ℕ → Type 0
+IsUnitLine unit [] line = ⊥
+IsUnitLine unit (last ∷ []) line = line ≡ last_line unit last
+IsUnitLine unit (last ∷ byte ∷ more) line =
+    (length more ≡ 13) × (gtin : List ℕ) × (identification : List ℕ)
+    × IsRowText (bank_with last (byte ∷ more)) (Of Gtin) gtin
+    × IsRowText (bank_with last (byte ∷ more)) (Of Identification) identification
+    × (line ≡ last_head unit last ++ codes " gtin " ++ gtin ++ codes " identification " ++ identification ++ codes "\n")
 
 -- so many units answered
 abbrev pub units_line : ℕ → List ℕ

@@ -1,12 +1,12 @@
 -- Readings of one unit after another, and the line that tells of each.
-use Rattle.std.specs.Prelude.{◌≡◌, ◌<◌, ◌⊎◌, ◌↔◌, ℕ, zero, suc, ◌+◌, List, [], ◌∷◌, ◌++◌, Bool, true, Option, Some, None, is_some, map}
+use Rattle.std.specs.Prelude.{◌≡◌, ◌↔◌, ℕ, ◌+◌, List, [], ◌∷◌, ◌++◌, Bool, true, Option, Some, None, is_some, map}
 use Rattle.std.specs.Prelude.{reverse, if◌then◌else◌}
 use Rattle.std.specs.List.{AllByRecursion}
 use Rattle.std.specs.Io.KnownBytes.{Appends, Keeps}
 use Rattle.dali_bank.specs.Order.{Contents}
 use Rattle.dali_write.specs.Exchanges.{Exchange}
 use Rattle.dali_read.specs.Readings.{Course, Ends}
-use Rattle.dali_read.specs.Places.{last_course, order_course}
+use Rattle.dali_read.specs.Places.{last_course, identity_course, order_course}
 use Rattle.dali_read.specs.Findings.{IsFound}
 use Rattle.dali_read.specs.declared.finding.Finding.{Finding}
 use Rattle.dali_read.specs.declared.finding.Finding.TheVariants.{Same}
@@ -15,7 +15,10 @@ use Rattle.dali_trace.specs.declared.fault.DriveFault.TheVariants.{Out}
 use Rattle.dali_drive.specs.Transcript.{Streams, link_shown}
 use Rattle.dali_drive.specs.Driven.{AppendsPart}
 use Rattle.dali_drive.specs.UnitRead.{LinkText, UnitReadBroke}
-use Rattle.dali_drive.specs.SurveyLines.{last_line, units_line, finding_line, order_silent_line}
+use Rattle.dali_drive.specs.declared.sought.Sought.{Sought}
+use Rattle.dali_drive.specs.declared.sought.Sought.TheVariants.{Last, Identity}
+use Rattle.dali_drive.specs.SurveyLines.{IsUnitLine, units_line, finding_line, order_silent_line}
+use Rattle.dali_drive.specs.Found.{Found}
 
 -- what a reading is for, what it ended with, its exchanges, and the line that tells of it
 pub record Report (A : Type 0) : Type 0 where
@@ -72,44 +75,45 @@ BreaksReport is_report fault item unit course old new =
 
 -- ---- which units answer
 
+-- what a scan reads of each unit
+abbrev pub sought_course : Sought → Course
+sought_course Last = last_course
+sought_course Identity = identity_course
+
 -- a unit that answers has a line, and no other
-abbrev pub TellsLast : ℕ → Option (List ℕ) → List ℕ → Type 0
-TellsLast unit None line = line ≡ []
-TellsLast unit (Some bytes) line = (last : ℕ) × (bytes ≡ last ∷ []) × (line ≡ last_line unit last)
+abbrev pub TellsUnit : ℕ → Option (List ℕ) → List ℕ → Type 0
+TellsUnit unit None line = line ≡ []
+TellsUnit unit (Some bytes) line = IsUnitLine unit bytes line
 
-abbrev pub IsScanReport : Report ℕ → Type 0
-IsScanReport report =
-    Ends report.item last_course report.outcome report.told × TellsLast report.item report.outcome report.line
+abbrev pub IsScanReport : Sought → Report ℕ → Type 0
+IsScanReport sought report =
+    Ends report.item (sought_course sought) report.outcome report.told
+    × TellsUnit report.item report.outcome report.line
 
--- the short addresses below this one, the highest first
-abbrev pub addresses_below : ℕ → List ℕ
-addresses_below zero = []
-addresses_below (suc address) = address ∷ addresses_below address
-
--- all short addresses were asked, and so many units answered
-pub record IsScan (units : ℕ) (first last : Streams) : Type 0 where
+-- all of these addresses were asked, in this order, and so many units answered
+pub record IsScan (sought : Sought) (addresses : List ℕ) (units : ℕ) (first last : Streams) : Type 0 where
   pub reports : List (Report ℕ)
-  pub each : AllByRecursion IsScanReport reports
-  pub all : items_in reports ≡ addresses_below 64
+  pub each : AllByRecursion (IsScanReport sought) reports
+  pub all : reverse (items_in reports) ≡ addresses
   pub link : LinkText (all_told reports) (link_of first) (link_of last)
   pub out : Appends first.out last.out (lines_in reports ++ units_line units)
   pub units_are : units ≡ answered reports
 
--- where a fault broke a scan off: at the unit of an address, or where all were asked in the last line
-abbrev pub BreaksScan : DriveFault → ℕ → ℕ → Streams → Streams → Type 0
-BreaksScan fault next units old new =
-    ((next < 64) × BreaksReport IsScanReport fault next next last_course old new)
-    ⊎ ((next ≡ 64) × (fault ≡ Out) × LinkText [] (link_of old) (link_of new)
-    × AppendsPart old.out new.out (units_line units))
+-- where a fault broke a scan off: at the next of these addresses, or where none was left in the last line
+abbrev pub BreaksScan : Sought → DriveFault → List ℕ → ℕ → Streams → Streams → Type 0
+BreaksScan sought fault [] units old new =
+    (fault ≡ Out) × LinkText [] (link_of old) (link_of new) × AppendsPart old.out new.out (units_line units)
+BreaksScan sought fault (next ∷ rest) units old new =
+    BreaksReport (IsScanReport sought) fault next next (sought_course sought) old new
 
--- all units below an address were asked, and there the fault broke the scan off
-pub record ScanBroke (fault : DriveFault) (first last : Streams) : Type 0 where
+-- the first of these addresses were asked, and behind them the fault broke the scan off
+pub record ScanBroke (sought : Sought) (addresses : List ℕ) (fault : DriveFault) (first last : Streams) : Type 0 where
   pub reports : List (Report ℕ)
-  pub next : ℕ
-  pub asked : items_in reports ≡ addresses_below next
+  pub rest : List ℕ
+  pub asked : reverse (items_in reports) ++ rest ≡ addresses
   pub middle : Streams
-  pub surveyed : Surveyed IsScanReport reports first middle
-  pub broke : BreaksScan fault next (answered reports) middle last
+  pub surveyed : Surveyed (IsScanReport sought) reports first middle
+  pub broke : BreaksScan sought fault rest (answered reports) middle last
 
 -- ---- units beside orders
 
@@ -145,34 +149,35 @@ pub record VerifyBroke (orders : List Contents) (fault : DriveFault) (first last
   pub surveyed : Surveyed IsOrderReport reports first middle
   pub broke : BreaksReport IsOrderReport fault next next.unit (order_course next.updates) middle last
 
--- what was found of an order: nothing of a silent unit
-abbrev pub FoundOf : Contents → Option (List ℕ) → Option Finding → Type 0
-FoundOf order None found = found ≡ None
-FoundOf order (Some bytes) found = (finding : Finding) × IsFound order.updates bytes finding × (found ≡ Some finding)
+-- what was found of an order, and in which bytes: nothing of a silent unit
+abbrev pub FoundOf : Contents → Option (List ℕ) → Option Finding → List ℕ → Type 0
+FoundOf order None found read = (found ≡ None) × (read ≡ [])
+FoundOf order (Some bytes) found read =
+    (finding : Finding) × IsFound order.updates bytes finding × (found ≡ Some finding) × (read ≡ bytes)
 
 -- this was found of the orders that were read, the newest first
-abbrev pub AreFound : List (Report Contents) → List (Contents × Option Finding) → Type 0
+abbrev pub AreFound : List (Report Contents) → List Found → Type 0
 AreFound [] found = found ≡ []
 AreFound (report ∷ reports) [] = ⊥
 AreFound (report ∷ reports) (one ∷ found) =
-    (one.0 ≡ report.item) × FoundOf report.item report.outcome one.1 × AreFound reports found
+    (one.order ≡ report.item) × FoundOf report.item report.outcome one.finding one.bytes × AreFound reports found
 
 -- and all of it was told
-pub record IsAllTold {B : Type 0} (told : B → B → List (Contents × Option Finding) → Type 0)
+pub record IsAllTold {B : Type 0} (told : B → B → List Found → Type 0)
     (reports : List (Report Contents)) (before after : B) : Type 0 where
-  pub found : List (Contents × Option Finding)
+  pub found : List Found
   pub are_found : AreFound reports found
   pub told_all : told before after found
 
 -- units were read beside orders, and what was found was told
-pub record IsVerifiedTold {B : Type 0} (told : B → B → List (Contents × Option Finding) → Type 0)
+pub record IsVerifiedTold {B : Type 0} (told : B → B → List Found → Type 0)
     (orders : List Contents) (all_same : Bool) (first : Streams) (before : B) (last : Streams) (after : B)
     : Type 0 where
   pub verified : IsVerified orders all_same first last
   pub told_all : IsAllTold told verified.reports before after
 
 -- the same where a fault broke it off: of the order at which it came nothing was told
-pub record VerifyBrokeTold {B : Type 0} (told : B → B → List (Contents × Option Finding) → Type 0)
+pub record VerifyBrokeTold {B : Type 0} (told : B → B → List Found → Type 0)
     (orders : List Contents) (fault : DriveFault) (first : Streams) (before : B) (last : Streams) (after : B)
     : Type 0 where
   pub broke : VerifyBroke orders fault first last

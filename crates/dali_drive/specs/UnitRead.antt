@@ -6,7 +6,7 @@ use Rattle.dali_write.specs.Exchanges.{Exchange}
 use Rattle.dali_write.specs.declared.block.Block.{Block}
 use Rattle.dali_write.specs.declared.session.Session.{Session}
 use Rattle.dali_write.specs.Blocks.{Fits, IsAmid}
-use Rattle.dali_write.specs.Requests.{block_requests}
+use Rattle.dali_write.specs.Requests.{block_requests, each_try}
 use Rattle.dali_write.specs.Told.{Told, IsReadingBlock}
 use Rattle.dali_write.specs.Tries.{most_tries, Misses, Succeeds}
 use Rattle.dali_read.specs.Readings.{Course, Done, InTurn, Ends, IsReading, bytes_in, told_in}
@@ -39,12 +39,12 @@ pub record BlockSoFar (unit : ℕ) (block : Block) (session : Session) (first la
 
 pub record BlockTold (unit : ℕ) (block : Block) (bytes : List ℕ) (first last : Streams) : Type 0 where
   pub told : List Exchange
-  pub succeeds : Succeeds (block_requests unit block) (Some bytes) told
+  pub succeeds : Succeeds (each_try (block_requests unit block)) (Some bytes) told
   pub text : LinkText told first last
 
 pub record BlockFailed (unit : ℕ) (block : Block) (first last : Streams) : Type 0 where
   pub told : List Exchange
-  pub fails : Misses (block_requests unit block) most_tries told
+  pub fails : Misses (each_try (block_requests unit block)) most_tries told
   pub text : LinkText told first last
 
 pub record BlockBroke (unit : ℕ) (block : Block) (fault : DriveFault) (first last : Streams) : Type 0 where

@@ -11,6 +11,7 @@ use Rattle.dali_trace.specs.Worked.{empty, first_order, taken, begun, alone, bla
 use Rattle.dali_trace.specs.WorkedPlans.{first_frame}
 use Rattle.dali_laws.specs.Joined.{Sitting}
 use Rattle.dali_drive.specs.Transcript.{Streams, shown}
+use Rattle.dali_write.specs.declared.pace.Pace.TheVariants.{Checked}
 
 -- the file of no records, of the begun order, and with that record cut off
 abbrev pub bare_file : List ℕ
@@ -49,7 +50,7 @@ second_without_the_frame = record { start = empty; past = begun }
 
 -- all that happened, and a world for each moment of it: the unit hears none of the frames
 abbrev pub both_sittings : List Happening
-both_sittings = first_frame ++ Stopped ∷ taken
+both_sittings = first_frame ++ Stopped Checked ∷ taken
 
 abbrev pub worlds : List World
 worlds =

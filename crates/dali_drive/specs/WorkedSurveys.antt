@@ -1,5 +1,5 @@
 -- A scan of two units of which one is silent, two orders verified, and what is near them and isn't so.
-use Rattle.std.specs.Prelude.{ℕ, zero, suc, List, [], ◌∷◌, ◌++◌, Some, None, codes}
+use Rattle.std.specs.Prelude.{ℕ, zero, suc, replicate, List, [], ◌∷◌, ◌++◌, Some, None, codes}
 use Rattle.dali_frame.specs.declared.forward.Frame.TheVariants.{Dtr0, Dtr1, AskDtr0, AskDtr1, Read}
 use Rattle.dali_bank.specs.Order.{Contents}
 use Rattle.dali_write.specs.Exchanges.{Exchange}
@@ -66,6 +66,16 @@ before_one_unit = shown None (Some []) (Some (codes "--\n01\n--\n00\n77\n01\n01\
 
 abbrev pub one_unit_and : List ℕ → Streams
 one_unit_and out = shown None (Some (codes "C301\n039C\nA300\n0398\n03C5\n0398\n039C\n")) (Some []) (Some out)
+
+-- a GTIN of zeros and an identification number, as a unit has them from 03h on, with its line, and that of a blank unit
+abbrev pub known_bytes : List ℕ
+known_bytes = replicate 6 0 ++ 1 ∷ 2 ∷ 3 ∷ 4 ∷ 5 ∷ 6 ∷ 7 ∷ 0xA8 ∷ []
+
+abbrev pub known_line : List ℕ
+known_line = codes "unit 1 last 77 gtin 00000000000000 identification 01020304050607A8\n"
+
+abbrev pub blank_line : List ℕ
+blank_line = codes "unit 1 last 77 gtin unknown identification unknown\n"
 
 -- ---- units beside orders
 

@@ -15,6 +15,7 @@ use dali_engine::Writer;
 use dali_journal::{JoinFault, Journal};
 use dali_store::OpenFault;
 use dali_trace::DriveFault;
+use dali_write::Pace;
 use std::alloc::Global;
 
 /// Why orders weren't all followed behind older journals.
@@ -28,13 +29,15 @@ pub enum BehindFault {
     Drive(DriveFault),
 }
 
-/// What a journal may have at most (profile).
+/// What a drive goes by (profile).
 #[derive(Clone, Copy, Debug, PartialEq, Eq)]
-pub struct JournalLimits {
-    /// So many orders, 1 to 100000.
+pub struct Terms {
+    /// The journal has at most so many orders, 1 to 100000,
     pub orders: u32,
-    /// So many bytes, where it is opened.
+    /// and at most so many bytes, where it is opened.
     pub bytes: usize,
+    /// The plan of its sessions.
+    pub pace: Pace,
 }
 
 /// Opens the journal of a desk and follows what a source of orders gives, as `follow` does.
@@ -45,23 +48,25 @@ pub struct JournalLimits {
 pub fn follow_stored<D: OpenDesk, G: Orders, B: Observer>(
     alloc: Global,
     older: Option<Journal>,
-    limits: JournalLimits,
+    terms: Terms,
     orders: &mut G,
     desk: &mut D,
     observer: &mut B,
 ) -> Result<Writer, BehindFault>
     requires ready { IsReadyBehind older (D.look desk.old) }
-    ensures followed { IfOk result (λ writer. IsFollowBehind G.gave G.over B.told older limits.orders limits.bytes
+    ensures followed { IfOk result (λ writer. IsFollowBehind G.gave G.over B.told older terms.orders terms.bytes
+        terms.pace
         orders.old (D.look desk.old).streams observer.old writer orders.new (D.look desk.new).streams observer.new) }
     ensures ready { IfOk result (λ writer. IsReady writer (D.look desk.new)) }
-    ensures broken { IfErr result (λ fault. EndsBehind G.gave B.told B.told_end older limits.orders limits.bytes
+    ensures broken { IfErr result (λ fault. EndsBehind G.gave B.told B.told_end older terms.orders terms.bytes
+        terms.pace
         orders.old fault (D.look desk.old) observer.old orders.new (D.look desk.new) observer.new) }
     ensures settled { OnOk result (Settled (D.look desk.new)) }
     ensures err { IfErr result (λ fault. BehindShows fault (D.look desk.new).failed) }
-    ensures any_moment { LeavesOnly D.moment D.left_since desk.old desk.new (LeavesPart limits.orders
+    ensures any_moment { LeavesOnly D.moment D.left_since desk.old desk.new (LeavesPart terms.orders
         (D.look desk.old).streams.journal (D.look desk.new).streams.journal (D.look desk.old).may_leave) }
 {
-    let own = match desk.open(alloc, limits.orders, limits.bytes) {
+    let own = match desk.open(alloc, terms.orders, terms.bytes) {
         Ok(own) => own,
         Err(fault) => return Err(BehindFault::Open(fault)),
     };
@@ -69,7 +74,7 @@ pub fn follow_stored<D: OpenDesk, G: Orders, B: Observer>(
         Ok(whole) => whole,
         Err(fault) => return Err(BehindFault::Join(fault)),
     };
-    match follow(Writer::new(whole), orders, desk, observer) {
+    match follow(Writer::with_pace(whole, terms.pace), orders, desk, observer) {
         Ok(writer) => Ok(writer),
         Err(fault) => Err(BehindFault::Drive(fault)),
     }

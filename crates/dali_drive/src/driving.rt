@@ -114,7 +114,7 @@ pub fn drive<I: Source, L: Sink, J: Sink, O: Sink>(
     requires rests { IsAtRest writer }
     requires unfailed { NoneFailed (J.failed journal_out.old) (L.failed link_out.old) (I.failed link_in.old)
         (O.failed out.old) }
-    ensures driven { IfOk result (λ driven. IsDrive (start_of writer.journal) (at_moment moment orders.now)
+    ensures driven { IfOk result (λ driven. IsDrive (start_of writer) (at_moment moment orders.now)
         (shown (J.held journal_out.old) (L.held link_out.old) (I.left link_in.old) (O.held out.old))
         driven (shown (J.held journal_out.new) (L.held link_out.new) (I.left link_in.new) (O.held out.new))) }
     ensures rests { IfOk result IsAtRest }
@@ -123,7 +123,7 @@ pub fn drive<I: Source, L: Sink, J: Sink, O: Sink>(
     ensures flushed { OnOk result
         (IsSettled (J.held journal_out.old) (SinkLeaves (J.flushed journal_out.old) (J.held journal_out.old))
         → IsSettled (J.held journal_out.new) (SinkLeaves (J.flushed journal_out.new) (J.held journal_out.new))) }
-    ensures broken { IfErr result (λ fault. BreaksOff (start_of writer.journal) (at_moment moment orders.now) fault
+    ensures broken { IfErr result (λ fault. BreaksOff (start_of writer) (at_moment moment orders.now) fault
         (shown (J.held journal_out.old) (L.held link_out.old) (I.left link_in.old) (O.held out.old))
         (shown (J.held journal_out.new) (L.held link_out.new) (I.left link_in.new) (O.held out.new))
         (λ c. IsSettled (J.held journal_out.old) (SinkLeaves (J.flushed journal_out.old) (J.held journal_out.old))
@@ -148,10 +148,10 @@ pub fn drive_at<D: Desk>(
     desk: &mut D,
 ) -> Result<Writer, DriveFault>
     requires ready { IsReady writer (D.look desk.old) }
-    ensures driven { IfOk result (λ driven. IsDrive (start_of writer.journal) (at_moment moment orders.now)
+    ensures driven { IfOk result (λ driven. IsDrive (start_of writer) (at_moment moment orders.now)
         (D.look desk.old).streams driven (D.look desk.new).streams) }
     ensures rests { IfOk result IsAtRest }
-    ensures broken { IfErr result (λ fault. BreaksOff (start_of writer.journal) (at_moment moment orders.now) fault
+    ensures broken { IfErr result (λ fault. BreaksOff (start_of writer) (at_moment moment orders.now) fault
         (D.look desk.old).streams (D.look desk.new).streams (LeavesSince (D.look desk.old) (D.look desk.new))) }
     ensures ends { EndsAs result (D.look desk.old) (D.look desk.new) }
     ensures settled { OnOk result (Settled (D.look desk.old) → Settled (D.look desk.new)) }
@@ -169,10 +169,10 @@ pub(crate) fn begin<D: Desk, B: Observer>(
 ) -> Result<(), DriveFault>
     requires ready { IsReady writer.old (D.look desk.old) }
     ensures worked { Works D.look D.moment D.left_since D.same result desk.old desk.new
-        (WorkedOn (start_of writer.old.journal) [] [] (D.look desk.old).streams result writer.new
+        (WorkedOn (start_of writer.old) [] [] (D.look desk.old).streams result writer.new
         (D.look desk.old) (D.look desk.new)
-        (B.told (start_of writer.old.journal) observer.old observer.new)
-        (B.told_end (start_of writer.old.journal) observer.old observer.new)) }
+        (B.told (start_of writer.old) observer.old observer.new)
+        (B.told_end (start_of writer.old) observer.old observer.new)) }
     ensures done { OnOk result (IsDone writer.new) }
 {
     writer.rest();

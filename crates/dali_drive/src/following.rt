@@ -54,11 +54,11 @@ pub fn follow<D: Desk, G: Orders, B: Observer>(
 ) -> Result<Writer, DriveFault>
     requires ready { IsReady writer (D.look desk.old) }
     ensures followed { IfOk result (λ followed.
-        IsObservedFollow G.gave G.over B.told (start_of writer.journal) orders.old (D.look desk.old).streams
+        IsObservedFollow G.gave G.over B.told (start_of writer) orders.old (D.look desk.old).streams
         observer.old followed orders.new (D.look desk.new).streams observer.new) }
     ensures rests { IfOk result IsAtRest }
     ensures broken { IfErr result (λ fault.
-        IsObservedFollowBreak G.gave B.told B.told_end (start_of writer.journal) orders.old fault
+        IsObservedFollowBreak G.gave B.told B.told_end (start_of writer) orders.old fault
         (D.look desk.old).streams observer.old orders.new (D.look desk.new).streams observer.new
         (LeavesSince (D.look desk.old) (D.look desk.new))) }
     ensures ends { EndsAs result (D.look desk.old) (D.look desk.new) }

@@ -12,7 +12,7 @@ ghost use Rattle.dali_read.specs.Readings.{Course};
 ghost use Rattle.dali_read.specs.Shown.{Finds, ShowsBank, WhenTold};
 ghost use Rattle.dali_trace.specs.declared.happening.Happening.{Happening};
 ghost use Rattle.dali_trace.specs.Trace.{Start};
-ghost use Rattle.dali_engine.specs.WriterState.{WriterState, start_of, IsAtRest};
+ghost use Rattle.dali_engine.specs.WriterState.{WriterState, start_of, start_by, IsAtRest};
 ghost use Rattle.dali_laws.specs.Joined.{Sitting, joined, FollowOn};
 ghost use Rattle.dali_laws.specs.Stays.{Stay, IsStay};
 ghost use Rattle.dali_store.specs.declared.opening.OpenFault.{OpenFault};
@@ -31,26 +31,27 @@ ghost use Rattle.dali_drive.specs.Driven.{IsDrive, IsBrokenDrive, KeepsRecords};
 ghost use Rattle.dali_drive.specs.Stored.{IsBegun, IsStoredDrive, IsPartBehind};
 ghost use Rattle.dali_drive.specs.Sittings.{CameToItsEnd, BrokeOff};
 ghost use Rattle.dali_drive.specs.Kills.{StoodOnce};
-ghost use Rattle.dali_drive.specs.Repeats.{IsSameFile, HasSat, HaveSat, ActOnce};
+ghost use Rattle.dali_drive.specs.Repeats.{IsSameFile, HasSat, HaveSat, BeginsBy, ActOnce};
 ghost use Rattle.dali_drive.specs.declared.following.Given.{Given};
 ghost use Rattle.dali_drive.specs.Followed.{submitted, happenings, muted, IsFollowed, IsBrokenFollow};
 ghost use Rattle.dali_drive.specs.UnitRead.{IsUnitRead, UnitReadBroke};
+ghost use Rattle.dali_write.specs.declared.pace.Pace.{Pace};
 
 /// What a call of `drive_stored` leaves, by its contract: where it came to its end, just its trace; where it broke off,
 /// whatever a stop may leave of it bears out something that may have happened; and where no journal was opened, the
 /// same records, or what a stop might have left before.
 pub fn drives_leave_what_happened()
-    ensures ended { (limit most : ℕ) (orders : List (Contents × ℕ)) (found left : List ℕ)
+    ensures ended { (limit most : ℕ) (pace : Pace) (orders : List (Contents × ℕ)) (found left : List ℕ)
         (first : Streams) (writer : WriterState) (last : Streams)
         → first.journal ≡ Some found → last.journal ≡ Some left
-        → (d : IsStoredDrive limit most orders first writer last)
-        → CameToItsEnd limit most found (record { start = start_of d.begun.journal; past = d.drive.past }) left }
-    ensures broken { (limit most : ℕ) (orders : List (Contents × ℕ)) (fault : DriveFault) (found left : List ℕ)
-        (first last : Streams) (begun : IsBegun limit most first)
-        (d : IsBrokenDrive (start_of begun.journal) orders fault (record first { journal = begun.middle }) last)
+        → (d : IsStoredDrive limit most pace orders first writer last)
+        → CameToItsEnd limit most found (record { start = start_by pace d.begun.journal; past = d.drive.past }) left }
+    ensures broken { (limit most : ℕ) (pace : Pace) (orders : List (Contents × ℕ)) (fault : DriveFault)
+        (found left : List ℕ) (first last : Streams) (begun : IsBegun limit most first)
+        (d : IsBrokenDrive (start_by pace begun.journal) orders fault (record first { journal = begun.middle }) last)
         → first.journal ≡ Some found → IsBetween d.middle.journal last.journal left
         → (past : List Happening)
-        × BrokeOff limit most found (record { start = start_of begun.journal; past = past }) left }
+        × BrokeOff limit most found (record { start = start_by pace begun.journal; past = past }) left }
     ensures unopened { (limit most : ℕ) (found left : List ℕ) (fault : OpenFault)
         → IsOpenFault limit most (Some found) (Some left) fault → IsSameFile limit found left }
 {}
@@ -61,7 +62,7 @@ pub fn drives_leave_what_happened()
 pub fn drives_handed_on_are_one()
     ensures { (start : Start) (orders more : List (Contents × ℕ)) (first middle last : Streams)
         (handed writer : WriterState)
-        → IsDrive start orders first handed middle → IsDrive (start_of handed.journal) more middle writer last
+        → IsDrive start orders first handed middle → IsDrive (start_of handed) more middle writer last
         → IsAtRest writer → IsDrive start (orders ++ more) first writer last }
 {}
 
@@ -69,31 +70,32 @@ pub fn drives_handed_on_are_one()
 /// it would have left if it had been killed at some moment of what may have happened: with nothing in hand, or a record
 /// that is cut off.
 pub fn stops_leave_a_part()
-    ensures ended { (limit most : ℕ) (orders : List (Contents × ℕ)) (found seen left : List ℕ) (first : Streams)
+    ensures ended { (limit most : ℕ) (pace : Pace) (orders : List (Contents × ℕ)) (found seen left : List ℕ)
+        (first : Streams)
         (writer : WriterState) (last : Streams) → first.journal ≡ Some found → last.journal ≡ Some seen
-        → IsStoredDrive limit most orders first writer last
+        → IsStoredDrive limit most pace orders first writer last
         → IsPartBehind limit (Some found) (Some seen) left → StoodOnce limit most found left first last }
-    ensures broken { (limit most : ℕ) (orders : List (Contents × ℕ)) (fault : DriveFault)
+    ensures broken { (limit most : ℕ) (pace : Pace) (orders : List (Contents × ℕ)) (fault : DriveFault)
         (found seen left : List ℕ) (first last : Streams) (begun : IsBegun limit most first)
         → first.journal ≡ Some found → last.journal ≡ Some seen
-        → IsBrokenDrive (start_of begun.journal) orders fault (record first { journal = begun.middle }) last
+        → IsBrokenDrive (start_by pace begun.journal) orders fault (record first { journal = begun.middle }) last
         → IsPartBehind limit (Some found) (Some seen) left → StoodOnce limit most found left first last }
 {}
 
 /// Drives over a store one after another, however many and however each ended (it returned, it broke off, it was
-/// killed), each from what the one before it left there, the first from a journal of either version: together they act
-/// as one, and each order once. While the journal stands idle, between drives or in one, units may be exchanged, read,
-/// verified and used by other masters. Each stay between is right by itself: from a world that fits the start world and
-/// the start records, where it is the first; else from any world in which no unit is write-enabled and the lock bytes
-/// of the banks from 2 up are FFh, as each stay leaves its units where it comes to rest, and as after power-up. Units
-/// may lose their power at any moment.
+/// killed), each from what the one before it left there and by a plan of its own, the first from a journal of either
+/// version: together they act as one, and each order once. While the journal stands idle, between drives or in one,
+/// units may be exchanged, read, verified and used by other masters. Each stay between is right by itself: from a
+/// world that fits the start world and the start records, where it is the first; else from any world in which no unit
+/// is write-enabled and the lock bytes of the banks from 2 up are FFh, as each stay leaves its units where it comes to
+/// rest, and as after power-up. Units may lose their power at any moment.
 pub fn drives_act_once()
     ensures follow { (start : Start) (most : ℕ) (first left : List ℕ) (sittings : List Sitting)
         → Loads start.limit start.records first → HaveSat start.limit most first sittings left
-        → FollowOn start sittings }
+        → BeginsBy start sittings → FollowOn start sittings }
     ensures once { (start : Start) (most : ℕ) (first left : List ℕ) (sittings : List Sitting) (stay : Stay)
         → Loads start.limit start.records first → HaveSat start.limit most first sittings left
-        → IsStay start (joined sittings) stay → ActOnce start sittings left stay }
+        → BeginsBy start sittings → IsStay start (joined sittings) stay → ActOnce start sittings left stay }
 {}
 
 /// Orders that are followed are one drive of those that were given, each at its moment; and over a store they leave
@@ -103,18 +105,19 @@ pub fn followed_orders_are_driven()
     ensures drive { (start : Start) (given : List Given) (first : Streams) (writer : WriterState) (last : Streams)
         → IsFollowed start given first writer last
         → IsDrive start (reverse (submitted given)) (muted first) writer last }
-    ensures ended { (limit most : ℕ) (given : List Given) (found left : List ℕ) (first : Streams)
+    ensures ended { (limit most : ℕ) (pace : Pace) (given : List Given) (found left : List ℕ) (first : Streams)
         (writer : WriterState) (last : Streams) (begun : IsBegun limit most first)
-        (follow : IsFollowed (start_of begun.journal) given (record first { journal = begun.middle }) writer last)
+        (follow : IsFollowed (start_by pace begun.journal) given (record first { journal = begun.middle }) writer last)
         → first.journal ≡ Some found → last.journal ≡ Some left
         → CameToItsEnd limit most found
-        (record { start = start_of begun.journal; past = happenings follow.steps }) left }
-    ensures broken { (limit most : ℕ) (given : List Given) (fault : DriveFault) (found left : List ℕ)
+        (record { start = start_by pace begun.journal; past = happenings follow.steps }) left }
+    ensures broken { (limit most : ℕ) (pace : Pace) (given : List Given) (fault : DriveFault) (found left : List ℕ)
         (first last : Streams) (begun : IsBegun limit most first)
-        (follow : IsBrokenFollow (start_of begun.journal) given fault (record first { journal = begun.middle }) last)
+        (follow : IsBrokenFollow (start_by pace begun.journal) given fault (record first { journal = begun.middle })
+        last)
         → first.journal ≡ Some found → IsBetween follow.then.journal last.journal left
         → (past : List Happening)
-        × HasSat limit most found (record { start = start_of begun.journal; past = past }) left }
+        × HasSat limit most found (record { start = start_by pace begun.journal; past = past }) left }
 {}
 
 /// What a call of `read_unit` gives, by its contract, along every chain of worlds over any bus, with losses of power
@@ -151,10 +154,10 @@ pub fn what_is_read_stays()
 /// one of them has with other contents is refused as `reused`; and no number is begun twice in all. What the store
 /// keeps is a journal by itself.
 pub fn older_orders_act_once()
-    ensures { (older : JournalState) (limit most : ℕ) (first : Streams) (past : List Happening)
+    ensures { (older : JournalState) (limit most : ℕ) (pace : Pace) (first : Streams) (past : List Happening)
         (b : IsBegunBehind (Some older) limit most first) → standing_of older.records ≡ Idle
-        → Legal (start_of b.journal) past → KeepsRecords past
-        → ActsOnceBehind older limit (start_of b.journal) past }
+        → Legal (start_by pace b.journal) past → KeepsRecords past
+        → ActsOnceBehind older limit (start_by pace b.journal) past }
 {}
 
 /// What is followed behind an older journal, over a store that showed known bytes, is followed over the whole: over a
@@ -162,20 +165,22 @@ pub fn older_orders_act_once()
 /// all that is so of drives one after another, killed and started again, is so of drives behind older journals; and
 /// where there are no records yet, the whole is just what the older journals' own drives left.
 pub fn what_is_followed_behind_is_of_the_whole()
-    ensures ended { (older : JournalState) (limit most room : ℕ) (given : List Given) (found left : List ℕ)
+    ensures ended { (older : JournalState) (limit most room : ℕ) (pace : Pace) (given : List Given)
+        (found left : List ℕ)
         (first : Streams) (writer : WriterState) (last : Streams) (b : IsBegunBehind (Some older) limit most first)
-        (follow : IsFollowed (start_of b.journal) given (record first { journal = b.begun.middle }) writer last)
+        (follow : IsFollowed (start_by pace b.journal) given (record first { journal = b.begun.middle }) writer last)
         → first.journal ≡ Some found → last.journal ≡ Some left
         → length (journal_spelling Two b.journal.records) ≤ room
         → CameToItsEnd (order_count older + limit) room (journal_spelling Two b.journal.records)
-        (record { start = start_of b.journal; past = happenings follow.steps }) (bytes_behind older.records left) }
-    ensures broken { (older : JournalState) (limit most room : ℕ) (given : List Given) (fault : DriveFault)
+        (record { start = start_by pace b.journal; past = happenings follow.steps }) (bytes_behind older.records left) }
+    ensures broken { (older : JournalState) (limit most room : ℕ) (pace : Pace) (given : List Given)
+        (fault : DriveFault)
         (found left : List ℕ) (first last : Streams) (b : IsBegunBehind (Some older) limit most first)
-        (follow : IsBrokenFollow (start_of b.journal) given fault (record first { journal = b.begun.middle }) last)
+        (follow : IsBrokenFollow (start_by pace b.journal) given fault (record first { journal = b.begun.middle }) last)
         → first.journal ≡ Some found → IsBetween follow.then.journal last.journal left
         → length (journal_spelling Two b.journal.records) ≤ room
         → (past : List Happening) × HasSat (order_count older + limit) room (journal_spelling Two b.journal.records)
-        (record { start = start_of b.journal; past = past }) (bytes_behind older.records left) }
+        (record { start = start_by pace b.journal; past = past }) (bytes_behind older.records left) }
     ensures again { (older : JournalState) (limit most : ℕ) (found : List ℕ) (first : Streams)
         (b : IsBegunBehind (Some older) limit most first)
         → first.journal ≡ Some found → b.begun.opened.version ≡ Two
@@ -187,9 +192,10 @@ pub fn what_is_followed_behind_is_of_the_whole()
 /// opened there, is with the older records what it would have left if a drive of the whole had been killed at some
 /// moment of what may have happened, as `stops_leave_a_part` says of a drive without older ones.
 pub fn stops_behind_leave_a_part_of_the_whole()
-    ensures ended { (older : JournalState) (limit most room : ℕ) (given : List Given) (found seen left : List ℕ)
+    ensures ended { (older : JournalState) (limit most room : ℕ) (pace : Pace) (given : List Given)
+        (found seen left : List ℕ)
         (first : Streams) (writer : WriterState) (last : Streams) (b : IsBegunBehind (Some older) limit most first)
-        → IsFollowed (start_of b.journal) given (record first { journal = b.begun.middle }) writer last
+        → IsFollowed (start_by pace b.journal) given (record first { journal = b.begun.middle }) writer last
         → first.journal ≡ Some found → last.journal ≡ Some seen
         → length (journal_spelling Two b.journal.records) ≤ room
         → IsPartBehind limit (Some found) (Some seen) left
@@ -197,9 +203,10 @@ pub fn stops_behind_leave_a_part_of_the_whole()
         (bytes_behind older.records left)
         (muted (record first { journal = Some (journal_spelling Two b.journal.records) }))
         (streams_behind older.records last) }
-    ensures broken { (older : JournalState) (limit most room : ℕ) (given : List Given) (fault : DriveFault)
+    ensures broken { (older : JournalState) (limit most room : ℕ) (pace : Pace) (given : List Given)
+        (fault : DriveFault)
         (found seen left : List ℕ) (first last : Streams) (b : IsBegunBehind (Some older) limit most first)
-        → IsBrokenFollow (start_of b.journal) given fault (record first { journal = b.begun.middle }) last
+        → IsBrokenFollow (start_by pace b.journal) given fault (record first { journal = b.begun.middle }) last
         → first.journal ≡ Some found → last.journal ≡ Some seen
         → length (journal_spelling Two b.journal.records) ≤ room
         → IsPartBehind limit (Some found) (Some seen) left

@@ -1,12 +1,11 @@
 // Who is told what happens in a drive.
-ghost use Rattle.std.specs.Prelude.{◌≡◌, ◌∷◌, [], ℕ, List, Option, ⊤};
-ghost use Rattle.dali_bank.specs.Order.{Contents};
+ghost use Rattle.std.specs.Prelude.{◌≡◌, ◌∷◌, [], ℕ, List, ⊤};
 ghost use Rattle.dali_frame.specs.Frame.{IsProper};
 ghost use Rattle.dali_frame.specs.declared.forward.Frame.{Frame};
-ghost use Rattle.dali_read.specs.declared.finding.Finding.{Finding};
 ghost use Rattle.dali_trace.specs.declared.happening.Happening.{Happening};
 ghost use Rattle.dali_trace.specs.Trace.{Start, records_of};
 ghost use Rattle.dali_trace.specs.declared.fault.DriveFault.{DriveFault};
+ghost use Rattle.dali_drive.specs.Found.{Found, was_found};
 
 use dali_bank::Order;
 use dali_frame::Frame;
@@ -43,13 +42,13 @@ pub trait Observer {
 
 /// Who is told what is found of orders, one after the other (profile).
 pub trait FindingObserver {
-    /// Since it was the first of the two, it was told this of these orders, the newest first: nothing of a silent unit.
-    ghost told_found: { Self → Self → List (Contents × Option Finding) → Type 0 };
+    /// Since it was the first of the two, it was told that all this was found, the newest first.
+    ghost told_found: { Self → Self → List Found → Type 0 };
 
-    /// This was found of the order.
-    fn find(&mut self, order: &Order, found: Option<Finding>)
-        ensures { (first : Self) (past : List (Contents × Option Finding)) → told_found first self.old past
-            → told_found first self.new ((order.now, found) ∷ past) };
+    /// This was found of the order, in all these bytes that were read for it: nothing of a silent unit.
+    fn find(&mut self, order: &Order, found: Option<Finding>, read: &[u8])
+        ensures { (first : Self) (past : List Found) → told_found first self.old past
+            → told_found first self.new (was_found order.now found read.now ∷ past) };
 
     /// At first it was told of none.
     ghost told_none: { (observer : Self) → told_found observer observer [] };

@@ -12,7 +12,7 @@ use dali_trace::DriveFault;
 use dali_write::{Ask, Session, Verdict};
 
 // The most bytes of a bank that can be read.
-const MOST_OF_BANK: usize = 255;
+pub(crate) const MOST_OF_BANK: usize = 255;
 
 // Keeps the bytes of a block.
 fn keep_block(bytes: &mut ArrayVec<u8, MOST_OF_BANK>, more: &[u8])

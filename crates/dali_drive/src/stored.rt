@@ -6,7 +6,7 @@ ghost use Rattle.dali_drive.specs.Desks.{IsUnfailed, Settled};
 ghost use Rattle.dali_drive.specs.Driven.{at_moment};
 ghost use Rattle.dali_drive.specs.WorkedOn.{IsReady};
 
-use crate::behind::{BehindFault, JournalLimits, follow_stored};
+use crate::behind::{BehindFault, Terms, follow_stored};
 use crate::desk::OpenDesk;
 use crate::listed::ListedOrders;
 use crate::observer::Nobody;
@@ -31,24 +31,26 @@ pub enum StoredFault {
 /// itself failed, of what was put last a stop may leave a first part.
 pub fn drive_stored<D: OpenDesk>(
     alloc: Global,
-    limits: JournalLimits,
+    terms: Terms,
     orders: &[Order],
     moment: u64,
     desk: &mut D,
 ) -> Result<Writer, StoredFault>
     requires unfailed { IsUnfailed (D.look desk.old).failed }
-    ensures driven { IfOk result (λ writer. IsStoredDrive limits.orders limits.bytes (at_moment moment orders.now)
+    ensures driven { IfOk result (λ writer. IsStoredDrive terms.orders terms.bytes terms.pace
+        (at_moment moment orders.now)
         (D.look desk.old).streams writer (D.look desk.new).streams) }
     ensures ready { IfOk result (λ writer. IsReady writer (D.look desk.new)) }
-    ensures broken { IfErr result (λ fault. EndsAtFault limits.orders limits.bytes (at_moment moment orders.now) fault
+    ensures broken { IfErr result (λ fault. EndsAtFault terms.orders terms.bytes terms.pace
+        (at_moment moment orders.now) fault
         (D.look desk.old) (D.look desk.new)) }
     ensures settled { OnOk result (Settled (D.look desk.new)) }
     ensures err { IfErr result (λ fault. StoredShows fault (D.look desk.new).failed) }
-    ensures any_moment { LeavesOnly D.moment D.left_since desk.old desk.new (LeavesPart limits.orders
+    ensures any_moment { LeavesOnly D.moment D.left_since desk.old desk.new (LeavesPart terms.orders
         (D.look desk.old).streams.journal (D.look desk.new).streams.journal (D.look desk.old).may_leave) }
 {
     let mut listed = ListedOrders::new(orders, moment);
-    match follow_stored(alloc, None, limits, &mut listed, desk, &mut Nobody) {
+    match follow_stored(alloc, None, terms, &mut listed, desk, &mut Nobody) {
         Ok(writer) => Ok(writer),
         Err(BehindFault::Open(fault)) => Err(StoredFault::Open(fault)),
         Err(BehindFault::Join(_)) => unreachable!(),

@@ -1,67 +1,76 @@
 ghost use Rattle.std.specs.Prelude.{◌≡◌, ◌<◌, ◌↔◌, ◌≤◌, IfOk, IfErr, OnOk, Some, false, true, is_some};
-ghost use Rattle.dali_read.specs.Places.{last_course, order_course};
+ghost use Rattle.dali_read.specs.Places.{order_course};
 ghost use Rattle.dali_drive.specs.Transcript.{link_shown, shown};
 ghost use Rattle.dali_drive.specs.Driven.{FailedAs, LinkEnds, NoneFailed};
 ghost use Rattle.dali_drive.specs.Surveys.{IsScanReport, IsOrderReport, Reported, BreaksReport, FoundOf};
-ghost use Rattle.dali_drive.specs.Surveys.{IsScan, ScanBroke};
+ghost use Rattle.dali_drive.specs.Surveys.{IsScan, ScanBroke, sought_course};
 ghost use Rattle.dali_drive.specs.Surveys.{IsVerifiedTold, VerifyBrokeTold};
 ghost use Rattle.std.specs.Prelude.{None};
+ghost use Rattle.std.specs.List.{AllByRecursion};
 
 use crate::observer::FindingObserver;
-use crate::reading::read_unit;
+use crate::reading::{MOST_OF_BANK, read_unit};
+use crate::sought::Sought;
 use crate::streams::{Sink, Source, put_all};
-use crate::survey_lines::{finding_line, last_line, order_silent_line, units_line};
+use crate::survey_lines::{finding_line, order_silent_line, units_line};
+use crate::unit_lines::unit_line;
+use arrayvec::ArrayVec;
 use dali_bank::Order;
 use dali_read::{Finding, Places, compare};
 use dali_trace::DriveFault;
 
-// One more than the highest short address.
-const ADDRESSES: u8 = 64;
-
-// Reads the last location of a unit, and tells of one that answers. The answer is whether it does.
+// Reads what is sought of a unit, and tells of one that answers. The answer is whether it does.
 fn scan_unit<I: Source, L: Sink, O: Sink>(
     unit: u8,
+    sought: Sought,
     link_in: &mut I,
     link_out: &mut L,
     out: &mut O,
 ) -> Result<bool, DriveFault>
     requires ready { (unit ≤ 63)
         × NoneFailed false (L.failed link_out.old) (I.failed link_in.old) (O.failed out.old) }
-    ensures told { IfOk result (λ answers. Reported IsScanReport unit (λ report. answers ≡ is_some report.outcome)
+    ensures told { IfOk result (λ answers.
+        Reported (IsScanReport sought) unit (λ report. answers ≡ is_some report.outcome)
         (shown None (L.held link_out.old) (I.left link_in.old) (O.held out.old))
         (shown None (L.held link_out.new) (I.left link_in.new) (O.held out.new))) }
-    ensures broken { IfErr result (λ fault. BreaksReport IsScanReport fault unit unit last_course
+    ensures broken { IfErr result (λ fault.
+        BreaksReport (IsScanReport sought) fault unit unit (sought_course sought)
         (shown None (L.held link_out.old) (I.left link_in.old) (O.held out.old))
         (shown None (L.held link_out.new) (I.left link_in.new) (O.held out.new))) }
     ensures ends { LinkEnds result (L.failed link_out.new) (I.failed link_in.new) (O.failed out.new) }
 {
-    let Some(bytes) = read_unit(unit, &Places::Last, link_in, link_out)? else {
+    let places = sought.places();
+    let Some(bytes) = read_unit(unit, &places, link_in, link_out)? else {
         return Ok(false);
     };
-    if put_all(out, &last_line(unit, bytes[0])) {
+    if put_all(out, &unit_line(unit, &bytes)) {
         Ok(true)
     } else {
         Err(DriveFault::Out)
     }
 }
 
-/// Asks each short address for the last location of its memory bank 1 (profile): a line `unit U last LL` to `out` for
-/// each unit that answers, as it is found, and then `units K`, where that is the answer too. A unit counts as absent
-/// where eight tries missed.
+/// Asks the units at these short addresses, one after the other, for the last location of their memory bank 1, and
+/// where it is sought for their GTIN and their identification number (profile): a line `unit U last LL` to `out` for
+/// each unit that answers, as it is found, with ` gtin G identification I` behind it where these were read, and then
+/// `units K`, where that is the answer too. A unit counts as absent where eight tries of one block missed.
 ///
 /// The link is used as by `read_unit`. No stream may have failed.
 ///
 /// `Link`, `Line`, `End` and `TooLong` say what ended it, and `Out` that a line couldn't be written.
 pub fn scan_units<I: Source, L: Sink, O: Sink>(
+    addresses: &[u8],
+    sought: Sought,
     link_in: &mut I,
     link_out: &mut L,
     out: &mut O,
-) -> Result<u8, DriveFault>
+) -> Result<usize, DriveFault>
+    requires addresses { AllByRecursion (λ address. address ≤ 63) addresses.now }
     requires unfailed { NoneFailed false (L.failed link_out.old) (I.failed link_in.old) (O.failed out.old) }
-    ensures scanned { IfOk result (λ units. IsScan units
+    ensures scanned { IfOk result (λ units. IsScan sought addresses.now units
         (shown None (L.held link_out.old) (I.left link_in.old) (O.held out.old))
         (shown None (L.held link_out.new) (I.left link_in.new) (O.held out.new))) }
-    ensures broken { IfErr result (λ fault. ScanBroke fault
+    ensures broken { IfErr result (λ fault. ScanBroke sought addresses.now fault
         (shown None (L.held link_out.old) (I.left link_in.old) (O.held out.old))
         (shown None (L.held link_out.new) (I.left link_in.new) (O.held out.new))) }
     ensures ok { OnOk result
@@ -70,8 +79,8 @@ pub fn scan_units<I: Source, L: Sink, O: Sink>(
         FailedAs fault false (L.failed link_out.new) (I.failed link_in.new) (O.failed out.new)) }
 {
     let mut units = 0;
-    for unit in 0..ADDRESSES {
-        if scan_unit(unit, link_in, link_out, out)? {
+    for &unit in addresses {
+        if scan_unit(unit, sought, link_in, link_out, out)? {
             units += 1;
         }
     }
@@ -82,16 +91,23 @@ pub fn scan_units<I: Source, L: Sink, O: Sink>(
     }
 }
 
-// Reads what an order writes, and tells what is found: nothing of a silent unit.
+// What was found of an order, and all bytes that were read for it: nothing of a silent unit.
+#[derive(Drop)]
+struct Compared {
+    finding: Option<Finding>,
+    bytes: ArrayVec<u8, MOST_OF_BANK>,
+}
+
+// Reads what an order writes, and tells what is found.
 fn verify_order<I: Source, L: Sink, O: Sink>(
     order: &Order,
     link_in: &mut I,
     link_out: &mut L,
     out: &mut O,
-) -> Result<Option<Finding>, DriveFault>
+) -> Result<Compared, DriveFault>
     requires unfailed { NoneFailed false (L.failed link_out.old) (I.failed link_in.old) (O.failed out.old) }
     ensures told { IfOk result (λ found. Reported IsOrderReport order.now
-        (λ report. FoundOf report.item report.outcome found)
+        (λ report. FoundOf report.item report.outcome found.finding found.bytes.items)
         (shown None (L.held link_out.old) (I.left link_in.old) (O.held out.old))
         (shown None (L.held link_out.new) (I.left link_in.new) (O.held out.new))) }
     ensures broken { IfErr result (λ fault. BreaksReport IsOrderReport fault order.now order.now.unit
@@ -102,14 +118,20 @@ fn verify_order<I: Source, L: Sink, O: Sink>(
 {
     let Some(bytes) = read_unit(order.unit(), &Places::Order(order), link_in, link_out)? else {
         return if put_all(out, &order_silent_line(order)) {
-            Ok(None)
+            Ok(Compared {
+                finding: None,
+                bytes: ArrayVec::new(),
+            })
         } else {
             Err(DriveFault::Out)
         };
     };
     let finding = compare(order, &bytes);
     if put_all(out, &finding_line(order, finding)) {
-        Ok(Some(finding))
+        Ok(Compared {
+            finding: Some(finding),
+            bytes,
+        })
     } else {
         Err(DriveFault::Out)
     }
@@ -118,7 +140,8 @@ fn verify_order<I: Source, L: Sink, O: Sink>(
 /// Reads for each of the orders, one after the other, the locations that it writes, and before them its unit's last
 /// location and where it needs that the content format (profile). A line to `out` for each: `order N unit U same`,
 /// `order N unit U other LL BB` with the first location that holds another byte than the order's, and that byte,
-/// `short`, `format` or `silent`, and then the observer is told. The answer is whether all are the same.
+/// `short`, `format` or `silent`, and then the observer is told, with all bytes that were read for the order. The
+/// answer is whether all are the same.
 ///
 /// The link is used as by `read_unit`. No stream may have failed.
 ///
@@ -145,8 +168,8 @@ pub fn verify_orders<I: Source, L: Sink, O: Sink, B: FindingObserver>(
     let mut all_same = true;
     for order in orders {
         let found = verify_order(order, link_in, link_out, out)?;
-        observer.find(order, found);
-        all_same &= is_same(found);
+        observer.find(order, found.finding, found.bytes.as_slice());
+        all_same &= is_same(found.finding);
     }
     Ok(all_same)
 }

@@ -2,7 +2,7 @@
 ghost use Rattle.std.specs.Prelude.{◌≡◌, ◌+◌, ◌≤◌, ◌++◌, length};
 ghost use Rattle.arrayvec.specs.ArrayVec.{array_vec_len};
 ghost use Rattle.dali_frame.specs.Hex.{byte_digits};
-ghost use Rattle.dali_drive.specs.SurveyLines.{unit_head, order_head, last_line, units_line, bytes_line, silent_line};
+ghost use Rattle.dali_drive.specs.SurveyLines.{unit_head, order_head, units_line, bytes_line, silent_line};
 ghost use Rattle.dali_drive.specs.SurveyLines.{finding_line, order_silent_line};
 
 use crate::lines::{Line, push_decimal, push_text};
@@ -10,7 +10,7 @@ use dali_bank::Order;
 use dali_read::Finding;
 
 // Puts a byte's two hexadecimal digits at the end of a line, which has room for them.
-fn push_digits(line: &mut Line, byte: u8)
+pub(crate) fn push_digits(line: &mut Line, byte: u8)
     requires { array_vec_len line.old + 2 ≤ 80 }
     ensures items { line.new.items ≡ line.old.items ++ byte_digits byte }
     ensures len { array_vec_len line.new ≡ array_vec_len line.old + 2 }
@@ -19,9 +19,10 @@ fn push_digits(line: &mut Line, byte: u8)
 }
 
 // The beginning of a unit's line.
-fn begin_unit(unit: u8) -> Line
+#[tactic(auto, using(crate::proofs::UnitLineLemmas::short_byte))]
+pub(crate) fn begin_unit(unit: u8) -> Line
     ensures items { result.items ≡ unit_head unit }
-    ensures short { array_vec_len result ≤ 25 }
+    ensures short { array_vec_len result ≤ 8 }
 {
     let mut line = Line::new();
     push_text(&mut line, "unit ");
@@ -29,24 +30,13 @@ fn begin_unit(unit: u8) -> Line
     line
 }
 
-/// The line of a unit whose bank 1 has this last location.
-pub(crate) fn last_line(unit: u8, last: u8) -> Line
-    ensures { result.items ≡ last_line unit last }
-{
-    let mut line = begin_unit(unit);
-    push_text(&mut line, " last ");
-    push_digits(&mut line, last);
-    push_text(&mut line, "\n");
-    line
-}
-
 /// The line of so many units that answered.
-pub(crate) fn units_line(units: u8) -> Line
+pub(crate) fn units_line(units: usize) -> Line
     ensures { result.items ≡ units_line units }
 {
     let mut line = Line::new();
     push_text(&mut line, "units ");
-    push_decimal(&mut line, u64::from(units));
+    push_decimal(&mut line, units as u64);
     push_text(&mut line, "\n");
     line
 }

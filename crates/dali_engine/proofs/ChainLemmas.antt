@@ -23,6 +23,7 @@ use Rattle.dali_engine.specs.Follows.{Follows}
 use Rattle.dali_laws.proofs.AgreeLemmas.{may_follow}
 use Rattle.dali_trace.specs.WhenKept.{WhenKept}
 use Rattle.dali_laws.proofs.MomentLemmas.{every_moment, each_kept}
+use Rattle.dali_write.specs.declared.pace.Pace.{Pace}
 
 -- a longer trace that is written oldest first describes the same writer
 pub onto : (start : Start) (w : WriterState) (trace new : List Happening) (next : Happening) → new ≡ trace ++ next ∷ []
@@ -38,6 +39,7 @@ onto_power start w trace new address is d = onto start w trace new (Powered addr
   finished = tt;
   same = d.same;
   limit = d.limit;
+  pace = d.pace;
   place = place w.phase d.place;
 }) where
   place : (phase : Phase) → IsAt phase (reverse trace) → IsAt phase (Powered address ∷ reverse trace)
@@ -68,17 +70,17 @@ module _ {S : Type 0} (world : S → World) (step : S → BusEvent → S → Typ
     moves old _ new same = ap world same
 
     -- each moment of a chain along a legal trace is right
-    pub right : (limit : ℕ) (first last : S) (past : List Happening) → Legal (fresh limit) past
+    pub right : (limit : ℕ) (pace : Pace) (first last : S) (past : List Happening) → Legal (fresh limit pace) past
         → Chain (MovesBy step) first past last
-        → LeadsRight world step limit first past last
-    right limit first last past legal chain = record {
+        → LeadsRight world step limit pace first past last
+    right limit pace first last past legal chain = record {
       states = chain.states;
       chain = chain.steps;
-      kept = shown_moments world (WhenKept (fresh limit)) past last chain.states
-          (each_kept (fresh limit) (world first) past (world last) (map world chain.states) legal
+      kept = shown_moments world (WhenKept (fresh limit pace)) past last chain.states
+          (each_kept (fresh limit pace) (world first) past (world last) (map world chain.states) legal
           (shown_chain (MovesBy step) Moves world moves first past last chain.states chain.steps)).1;
       right = λ none locked.
-          shown_moments world (IsRight (world first) [] (fresh limit)) past last chain.states (each none locked);
+          shown_moments world (IsRight (world first) [] (fresh limit pace)) past last chain.states (each none locked);
     } where
       fits : Fits (world first) [] [] (world first)
       fits = record {
@@ -93,9 +95,10 @@ module _ {S : Type 0} (world : S → World) (step : S → BusEvent → S → Typ
       only none address on = let off = none address in cc
 
       each : NoneEnabled (world first) → IsLockedAbove (world first)
-          → AtEachMoment (IsRight (world first) [] (fresh limit)) past (world last) (map world chain.states)
+          → AtEachMoment (IsRight (world first) [] (fresh limit pace)) past (world last) (map world chain.states)
       each none locked =
-          every_moment (world first) [] (fresh limit) (world first) past (world last) (map world chain.states) legal
+          every_moment (world first) [] (fresh limit pace) (world first) past (world last) (map world chain.states)
+          legal
           (record {
             locked = locked;
             fits = fits;

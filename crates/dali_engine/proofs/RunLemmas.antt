@@ -18,8 +18,9 @@ use Rattle.dali_engine.specs.Follows.{Follows}
 use Rattle.dali_engine.specs.Served.{IsServed, AreServed}
 use Rattle.dali_engine.proofs.ChainLemmas.{starts, right}
 use Rattle.dali_engine.proofs.PartsLemmas.{more_parts}
+use Rattle.dali_write.specs.declared.pace.Pace.{Pace}
 
--- what a call gave is said in other words, in both cases
+-- what a call gave is said pace in other words, in both cases
 pub if_ok : {A E : Type 0} (result : Result A E) (P Q R : A → Type 0) → ((a : A) → P a → Q a → R a) → IfOk result P
     → IfOk result Q → IfOk result R
 if_ok (Ok a) P Q R f p q = f a p q
@@ -63,40 +64,43 @@ module _ {S : Type 0} (world : S → World) (step : S → BusEvent → S → Typ
     (allowed : (old : S) (event : BusEvent) (new : S) → step old event new
     → WorldStep (world old) event (world new)) where
   -- nothing was served
-  pub nothing_served : (limit : ℕ) (events : List Event) (bus : S) → IsCutShort world step limit events bus bus
-  nothing_served limit events bus = record {
+  pub nothing_served : (limit : ℕ) (pace : Pace) (events : List Event) (bus : S)
+      → IsCutShort world step limit pace events bus bus
+  nothing_served limit pace events bus = record {
     past = [];
     served = 0;
     parts = refl;
     legal = (tt, omega arith);
     planned = tt;
-    leads = right world step allowed limit bus bus [] (tt, omega arith) (starts world step bus);
+    leads = right world step allowed limit pace bus bus [] (tt, omega arith) (starts world step bus);
   }
 
   -- the first of the events were served
-  pub cut_short : (limit : ℕ) (events : List Event) (served : ℕ) (bus new_bus : S) (writer new : WriterState)
-      (past : List Happening) → Describes (fresh limit) [] writer → Follows (fresh limit) [] writer
+  pub cut_short : (limit : ℕ) (pace : Pace) (events : List Event) (served : ℕ) (bus new_bus : S)
+      (writer new : WriterState)
+      (past : List Happening) → Describes (fresh limit pace) [] writer → Follows (fresh limit pace) [] writer
       → AreServed step (take served events) bus writer new_bus new past
-      → IsCutShort world step limit events bus new_bus
-  cut_short limit events served bus new_bus writer new past d f are =
-      let described = are.described (fresh limit) d in
+      → IsCutShort world step limit pace events bus new_bus
+  cut_short limit pace events served bus new_bus writer new past d f are =
+      let described = are.described (fresh limit pace) d in
       record {
         past = past;
         served = served;
-        parts = are.parts (fresh limit) d f;
+        parts = are.parts (fresh limit pace) d f;
         legal = described.legal;
-        planned = (are.follows (fresh limit) d f).planned;
-        leads = right world step allowed limit bus new_bus past described.legal are.leads;
+        planned = (are.follows (fresh limit pace) d f).planned;
+        leads = right world step allowed limit pace bus new_bus past described.legal are.leads;
       }
 
   -- all were served
-  pub ran : (limit : ℕ) (events : List Event) (bus new_bus : S) (writer new : WriterState) (trace : List Happening)
-      (journal : List ℕ) → Describes (fresh limit) [] writer → Follows (fresh limit) [] writer
+  pub ran : (limit : ℕ) (pace : Pace) (events : List Event) (bus new_bus : S) (writer new : WriterState)
+      (trace : List Happening)
+      (journal : List ℕ) → Describes (fresh limit pace) [] writer → Follows (fresh limit pace) [] writer
       → AreServed step events bus writer new_bus new (reverse trace)
       → journal ≡ journal_spelling Two new.journal.records
-      → IsRun world step limit events bus trace journal new_bus
-  ran limit events bus new_bus writer new trace journal d f are spelled =
-      let start : Start = fresh limit in
+      → IsRun world step limit pace events bus trace journal new_bus
+  ran limit pace events bus new_bus writer new trace journal d f are spelled =
+      let start : Start = fresh limit pace in
       let described = are.described start d in
       let planned = (are.follows start d f).planned in
       let parts = are.parts start d f in
@@ -112,5 +116,5 @@ module _ {S : Type 0} (world : S → World) (step : S → BusEvent → S → Typ
         parts = parts;
         journal_is = spelled ∙ ap (journal_spelling Two) (sym described.same);
         taken = taken_from_none start (reverse trace) refl described.legal;
-        leads = right world step allowed limit bus new_bus (reverse trace) described.legal are.leads;
+        leads = right world step allowed limit pace bus new_bus (reverse trace) described.legal are.leads;
       }

@@ -27,6 +27,7 @@ use Rattle.dali_engine.specs.WriterState.{IsReady}
 use Rattle.dali_engine.specs.Describes.{Describes}
 use Rattle.dali_laws.proofs.AgreeLemmas.{may_follow}
 use Rattle.dali_engine.proofs.StepLemmas.{stands_so}
+use Rattle.dali_write.specs.declared.pace.Pace.{Pace}
 
 -- what a writer may say
 abbrev IsSaying : Reply → Type 0
@@ -42,14 +43,17 @@ all_said past id (replies.Kept code) saying finished = refl
 all_said past id (replies.Blocked unit) saying finished = refl
 all_said past id _ saying finished = absurd saying
 
-said : (start : Start) (past : List Happening) (journal : JournalState) (phase : Phase) (id : ℕ) (reply : Reply)
-    → Describes start past (record { journal = journal; phase = phase }) → IsSaying reply → MaySay start past id reply
-    → Describes start (Answered id reply ∷ past) (record { journal = journal; phase = Idle })
-said start past journal phase id reply d saying may = record {
+said : (pace : Pace) (start : Start) (past : List Happening) (journal : JournalState) (phase : Phase) (id : ℕ)
+    (reply : Reply)
+    → Describes start past (record { journal = journal; phase = phase; pace = pace }) → IsSaying reply
+    → MaySay start past id reply
+    → Describes start (Answered id reply ∷ past) (record { journal = journal; phase = Idle; pace = pace })
+said pace start past journal phase id reply d saying may = record {
   legal = (d.legal, may_follow start past (Answered id reply) d.finished may);
   finished = tt;
   same = d.same;
   limit = d.limit;
+  pace = d.pace;
   place = all_said past id reply saying d.finished;
 }
 
@@ -88,25 +92,28 @@ numbered : (past : List Happening) (order : Contents) (id : ℕ) → waiting pas
     → HasNumber id (waiting past)
 numbered past order id waits number = rw waits number
 
-pub said_on : (start : Start) (past : List Happening) (journal : JournalState) (phase : Phase) (id : ℕ) (reply : Reply)
-    → Describes start past (record { journal = journal; phase = phase }) → IsReady phase journal
+pub said_on : (pace : Pace) (start : Start) (past : List Happening) (journal : JournalState) (phase : Phase) (id : ℕ)
+    (reply : Reply)
+    → Describes start past (record { journal = journal; phase = phase; pace = pace }) → IsReady pace phase journal
     → want_of phase ≡ Say id reply
-    → Describes start (Answered id reply ∷ past) (record { journal = journal; phase = Idle })
-said_on start past journal Idle id reply d ready e = cc
-said_on start past journal (Begins order moment) id reply d ready e = cc
-said_on start past journal (Checks order s) id reply d ready e = no_check order.unit id (aim_of s) reply e
-said_on start past journal (Writes order s) id reply d ready e = no_write id (aim_of s) reply e
-said_on start past journal (Says last code) id reply d ready e =
+    → Describes start (Answered id reply ∷ past) (record { journal = journal; phase = Idle; pace = pace })
+said_on pace start past journal Idle id reply d ready e = cc
+said_on pace start past journal (Begins order moment) id reply d ready e = cc
+said_on pace start past journal (Checks order s) id reply d ready e = no_check order.unit id (aim_of s) reply e
+said_on pace start past journal (Writes order s) id reply d ready e = no_write id (aim_of s) reply e
+said_on pace start past journal (Says last code) id reply d ready e =
     let same : last ≡ id = cc in
     let is : replies.Kept code ≡ reply = cc in
     let ends : EndsAs last code (orders_of (records_of start past)) = rw d.same ready.1 in
     let may : MaySay start past last (replies.Kept code) = (d.place, ends) in
-    subst (λ (r : Reply). Describes start (Answered id r ∷ past) (record { journal = journal; phase = Idle })) is
+    subst (λ (r : Reply). Describes start (Answered id r ∷ past)
+    (record { journal = journal; phase = Idle; pace = pace })) is
     (subst
-    (λ (n : ℕ). Describes start (Answered n (replies.Kept code) ∷ past) (record { journal = journal; phase = Idle }))
+    (λ (n : ℕ). Describes start (Answered n (replies.Kept code) ∷ past)
+    (record { journal = journal; phase = Idle; pace = pace }))
     same
-    (said start past journal (Says last code) last (replies.Kept code) d tt may))
-said_on start past journal (Closes order moment s) id reply d ready e =
+    (said pace start past journal (Says last code) last (replies.Kept code) d tt may))
+said_on pace start past journal (Closes order moment s) id reply d ready e =
     let b = blocks order.id (unit_of s) id (aim_of s) reply e in
     let ends = (closing_over (unit_of s) (sent_since_taken past) s b.verdict ready.1 d.place.2 b.ended).0 in
     let aim : aim_of s ≡ asks.Ended verdicts.NotClosed = b.ended ∙ ap asks.Ended (not_closed b.verdict ends b.other) in
@@ -115,8 +122,9 @@ said_on start past journal (Closes order moment s) id reply d ready e =
       numbered past order id d.place.0 b.number,
       closing_unreached (unit_of s) (sent_since_taken past) s ready.1 d.place.2 aim,
     ) in
-    subst (λ (r : Reply). Describes start (Answered id r ∷ past) (record { journal = journal; phase = Idle })) b.blocked
-    (said start past journal (Closes order moment s) id (replies.Blocked (unit_of s)) d tt may)
+    subst (λ (r : Reply). Describes start (Answered id r ∷ past)
+    (record { journal = journal; phase = Idle; pace = pace })) b.blocked
+    (said pace start past journal (Closes order moment s) id (replies.Blocked (unit_of s)) d tt may)
 
 -- a wanted frame is the session's
 pub check_sends : (unit : ℕ) (ask : Ask) (frame : Frame) → check_of unit ask ≡ Send frame → ask ≡ asks.Send frame

@@ -80,11 +80,12 @@ module _ {S : Type 0} (step : S → BusEvent → S → Type 0) where
 
   -- the writer was stopped and began anew
   pub stopped : (event : Event) (bytes : ℕ) (bus : S) (old new : WriterState) (trace after : List Happening)
-      (kept : Option Record) → event ≡ events.Stop bytes → reverse after ≡ stopped_after kept (reverse trace)
+      (kept : Option Record) → event ≡ events.Stop bytes → reverse after ≡ stopped_after old.pace kept (reverse trace)
       → IsStop bytes old kept new → IsServed step event bus old (reverse trace) bus new (reverse after)
   stopped event bytes bus old new trace after kept is longer stop =
       subst (λ (past : List Happening). IsServed step event bus old (reverse trace) bus new past) (sym longer)
-      (subst (λ (e : Event). IsServed step e bus old (reverse trace) bus new (stopped_after kept (reverse trace)))
+      (subst (λ (e : Event). IsServed step e bus old (reverse trace) bus new
+      (stopped_after old.pace kept (reverse trace)))
       (sym is)
       (record {
         described = λ start d. stop.described start (reverse trace) d;
@@ -96,17 +97,17 @@ module _ {S : Type 0} (step : S → BusEvent → S → Type 0) where
       }))
     where
       proper : (kept : Option Record) → SendsAllProper (reverse trace)
-          → SendsAllProper (stopped_after kept (reverse trace))
+          → SendsAllProper (stopped_after old.pace kept (reverse trace))
       proper (Some entry) all = (tt, (tt, all))
       proper None all = (tt, all)
 
       orders : (kept : Option Record) → AsksAllProper (reverse trace)
-          → AsksAllProper (stopped_after kept (reverse trace))
+          → AsksAllProper (stopped_after old.pace kept (reverse trace))
       orders (Some entry) all = (tt, (tt, all))
       orders None all = (tt, all)
 
       leads : (kept : Option Record) (first : S) → Chain (MovesBy step) first (reverse trace) bus
-          → Chain (MovesBy step) first (stopped_after kept (reverse trace)) bus
+          → Chain (MovesBy step) first (stopped_after old.pace kept (reverse trace)) bus
       leads (Some entry) first chain =
           record { states = bus ∷ bus ∷ chain.states; steps = (refl, (refl, chain.steps)) }
       leads None first chain = record { states = bus ∷ chain.states; steps = (refl, chain.steps) }

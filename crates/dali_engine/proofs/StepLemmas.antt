@@ -35,6 +35,7 @@ use Rattle.dali_engine.specs.Phases.{want_of, check_of, write_of, closing_of, is
 use Rattle.dali_engine.specs.WriterState.{WriterState, IsReady}
 use Rattle.dali_engine.specs.Describes.{ToldNewest, IsAt, Describes}
 use Rattle.dali_laws.proofs.TakenLemmas.{waits, ended_unsaid, waits_unsaid}
+use Rattle.dali_write.specs.declared.pace.Pace.{Pace}
 
 -- a session always wants something
 pub check_wants : (unit : ℕ) (ask : Ask) → is_wanting (check_of unit ask) ≡ true
@@ -66,21 +67,21 @@ unsaid start past e = by (is_at_work (standing_at start past)) where
   by false = e
 
 -- the trace is busy exactly where the writer wants something
-pub busy_at : (start : Start) (past : List Happening) (journal : JournalState) (phase : Phase)
-    → Describes start past (record { journal = journal; phase = phase }) → IsReady phase journal
+pub busy_at : (pace : Pace) (start : Start) (past : List Happening) (journal : JournalState) (phase : Phase)
+    → Describes start past (record { journal = journal; phase = phase; pace = pace }) → IsReady pace phase journal
     → is_busy start past ≡ is_wanting (want_of phase)
-busy_at start past journal Idle d ready = rw (ap (λ r. is_at_work (standing_of r)) d.same ∙ ready, d.place) refl
-busy_at start past journal (Begins order moment) d ready =
+busy_at pace start past journal Idle d ready = rw (ap (λ r. is_at_work (standing_of r)) d.same ∙ ready, d.place) refl
+busy_at pace start past journal (Begins order moment) d ready =
     unsaid start past (waits_unsaid (course_of past) order d.place.0)
-busy_at start past journal (Checks order s) d ready =
+busy_at pace start past journal (Checks order s) d ready =
     at_work start past (standings.Began order) (stands_so start past _ _ d ready.0) refl
     ∙ sym (check_wants order.unit (aim_of s))
-busy_at start past journal (Writes order s) d ready =
+busy_at pace start past journal (Writes order s) d ready =
     at_work start past (standings.Opened order) (stands_so start past _ _ d ready.0) refl ∙ sym (write_wants (aim_of s))
-busy_at start past journal (Closes order moment s) d ready =
+busy_at pace start past journal (Closes order moment s) d ready =
     unsaid start past (waits_unsaid (course_of past) order d.place.0)
     ∙ sym (closing_wants order.id (unit_of s) (aim_of s))
-busy_at start past journal (Says id code) d ready = unsaid start past (ended_unsaid (course_of past) d.place)
+busy_at pace start past journal (Says id code) d ready = unsaid start past (ended_unsaid (course_of past) d.place)
 
 -- an update of an order is found by its location
 has_found : (bound : ℕ) (updates : List (ℕ × ℕ)) (location byte : ℕ) → RisesAbove bound updates
@@ -174,16 +175,18 @@ since_part past =
     (frames_in part.0, ap frames_in part.1 ∙ frames_joined (since is_start past) part.0)
 
 -- one frame more, that may be sent
-sent_on : (start : Start) (past : List Happening) (journal : JournalState) (old new : Phase) (frame : Frame)
-    (answer : Option ℕ)
-    → Describes start past (record { journal = journal; phase = old }) → MaySend past (standing_at start past) frame
+sent_on : (pace : Pace) (start : Start) (past : List Happening) (journal : JournalState) (old new : Phase)
+    (frame : Frame) (answer : Option ℕ)
+    → Describes start past (record { journal = journal; phase = old; pace = pace })
+    → MaySend past (standing_at start past) frame
     → IsAt new (Sent frame answer ∷ past)
-    → Describes start (Sent frame answer ∷ past) (record { journal = journal; phase = new })
-sent_on start past journal old new frame answer d may place = record {
+    → Describes start (Sent frame answer ∷ past) (record { journal = journal; phase = new; pace = pace })
+sent_on pace start past journal old new frame answer d may place = record {
   legal = (d.legal, may_follow start past (Sent frame answer) d.finished may);
   finished = tt;
   same = d.same;
   limit = d.limit;
+  pace = d.pace;
   place = place;
 }
 
@@ -198,45 +201,51 @@ told_on past s next frame answer (told, older, parts, is_told) f = (
 )
 
 -- a session is told the answer to the frame that it wanted
-pub checks_on : (start : Start) (past : List Happening) (journal : JournalState) (order : Contents) (s next : Session)
+pub checks_on : (pace : Pace) (start : Start) (past : List Happening) (journal : JournalState) (order : Contents)
+    (s next : Session)
     (frame : Frame) (answer : Option ℕ)
-    → Describes start past (record { journal = journal; phase = Checks order s }) → IsReady (Checks order s) journal
+    → Describes start past (record { journal = journal; phase = Checks order s; pace = pace })
+    → IsReady pace (Checks order s) journal
     → aim_of s ≡ asks.Send frame
     → ((told : List Exchange) → Told told s → Told (record { frame = frame; answer = answer } ∷ told) next)
-    → Describes start (Sent frame answer ∷ past) (record { journal = journal; phase = Checks order next })
-checks_on start past journal order s next frame answer d ready aim f =
+    → Describes start (Sent frame answer ∷ past) (record { journal = journal; phase = Checks order next; pace = pace })
+checks_on pace start past journal order s next frame answer d ready aim f =
     let place = d.place in
-    let may = fresh_may past order place.0 frame (fresh_sends order place.0 s frame ready.1 place.3 aim) in
-    sent_on start past journal (Checks order s) (Checks order next) frame answer d
+    let may = fresh_may past order place.0 frame (fresh_sends order pace place.0 s frame ready.1 place.3 aim) in
+    sent_on pace start past journal (Checks order s) (Checks order next) frame answer d
     (rw (stands_so start past _ _ d ready.0) may)
     (told_on past s next frame answer place f)
 
-pub writes_on : (start : Start) (past : List Happening) (journal : JournalState) (order : Contents) (s next : Session)
+pub writes_on : (pace : Pace) (start : Start) (past : List Happening) (journal : JournalState) (order : Contents)
+    (s next : Session)
     (frame : Frame) (answer : Option ℕ)
-    → Describes start past (record { journal = journal; phase = Writes order s }) → IsReady (Writes order s) journal
+    → Describes start past (record { journal = journal; phase = Writes order s; pace = pace })
+    → IsReady pace (Writes order s) journal
     → aim_of s ≡ asks.Send frame
     → ((told : List Exchange) → Told told s → Told (record { frame = frame; answer = answer } ∷ told) next)
-    → Describes start (Sent frame answer ∷ past) (record { journal = journal; phase = Writes order next })
-writes_on start past journal order s next frame answer d ready aim f =
+    → Describes start (Sent frame answer ∷ past) (record { journal = journal; phase = Writes order next; pace = pace })
+writes_on pace start past journal order s next frame answer d ready aim f =
     let place = d.place in
     let guarded =
     older_guarded (writes_of order.updates) order.unit place.0 place.1 frame
-    (opened_sends order place.0 s frame ready.1 place.3 aim) in
+    (opened_sends order pace place.0 s frame ready.1 place.3 aim) in
     let all : IsGuardedFrame (writes_of order.updates) order.unit (sent_of past) frame =
     subst (λ (t : List Exchange). IsGuardedFrame (writes_of order.updates) order.unit t frame) (sym place.2) guarded in
-    sent_on start past journal (Writes order s) (Writes order next) frame answer d
+    sent_on pace start past journal (Writes order s) (Writes order next) frame answer d
     (rw (stands_so start past _ _ d ready.0) (opened_may past order frame ready.2.rising all))
     (told_on past s next frame answer place f)
 
-pub closes_on : (start : Start) (past : List Happening) (journal : JournalState) (order : Contents) (moment : ℕ)
+pub closes_on : (pace : Pace) (start : Start) (past : List Happening) (journal : JournalState) (order : Contents)
+    (moment : ℕ)
     (s next : Session)
     (frame : Frame) (answer : Option ℕ)
-    → Describes start past (record { journal = journal; phase = Closes order moment s })
-    → IsReady (Closes order moment s) journal
+    → Describes start past (record { journal = journal; phase = Closes order moment s; pace = pace })
+    → IsReady pace (Closes order moment s) journal
     → aim_of s ≡ asks.Send frame
     → ((told : List Exchange) → Told told s → Told (record { frame = frame; answer = answer } ∷ told) next)
-    → Describes start (Sent frame answer ∷ past) (record { journal = journal; phase = Closes order moment next })
-closes_on start past journal order moment s next frame answer d ready aim f =
+    → Describes start (Sent frame answer ∷ past)
+    (record { journal = journal; phase = Closes order moment next; pace = pace })
+closes_on pace start past journal order moment s next frame answer d ready aim f =
     let place = d.place in
     let since = since_part past in
     let unit = unit_of s in
@@ -246,7 +255,7 @@ closes_on start past journal order moment s next frame answer d ready aim f =
     let all : IsGuardedFrame ((2, 0xFF) ∷ []) unit (sent_of past) frame =
     subst (λ (t : List Exchange). IsGuardedFrame ((2, 0xFF) ∷ []) unit t frame) (sym since.1) guarded in
     let waits : IsSome (waiting past) = rw place.0 refl in
-    sent_on start past journal (Closes order moment s) (Closes order moment next) frame answer d
+    sent_on pace start past journal (Closes order moment s) (Closes order moment next) frame answer d
     (rw (stands_so start past _ _ d ready.0) (closing_may past unit frame waits all))
     (place.0, place.1, f (sent_since_taken past) place.2)
 

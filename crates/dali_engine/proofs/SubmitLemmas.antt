@@ -33,6 +33,7 @@ use Rattle.dali_engine.specs.Describes.{IsAt, Describes}
 use Rattle.dali_laws.proofs.RepeatLemmas.{never_absent}
 use Rattle.dali_laws.proofs.AgreeLemmas.{may_follow}
 use Rattle.dali_engine.proofs.StepLemmas.{busy_at, check_wants, write_wants, closing_wants}
+use Rattle.dali_write.specs.declared.pace.Pace.{Pace}
 
 -- the replies by which nothing is taken
 abbrev pub IsRefusal : Reply → Type 0
@@ -55,14 +56,15 @@ stays _ past order moment id _ refused at = at
 -- an order moment and its reply
 asked : (start : Start) (past : List Happening) (old new : WriterState) (order : Contents) (moment : ℕ) (reply : Reply)
     → Describes start past old → IsReply start past order reply
-    → new.journal.records ≡ old.journal.records → new.journal.limit ≡ old.journal.limit
+    → new.journal.records ≡ old.journal.records → new.journal.limit ≡ old.journal.limit → new.pace ≡ old.pace
     → IsAt new.phase (Answered order.id reply ∷ Asked order moment ∷ past)
     → Describes start (Answered order.id reply ∷ Asked order moment ∷ past) new
-asked start past old new order moment reply d due records limit place = record {
+asked start past old new order moment reply d due records limit keeps place = record {
   legal = ((d.legal, may_follow start past (Asked order moment) d.finished tt), (refl, due));
   finished = tt;
   same = d.same ∙ sym records;
   limit = d.limit ∙ sym limit;
+  pace = d.pace ∙ sym keeps;
   place = place;
 }
 
@@ -70,7 +72,7 @@ pub refused : (start : Start) (past : List Happening) (w : WriterState) (order :
     → Describes start past w → IsRefusal reply → IsReply start past order reply
     → Describes start (Answered order.id reply ∷ Asked order moment ∷ past) w
 refused start past w order moment reply d refusal due =
-    asked start past w w order moment reply d due refl refl
+    asked start past w w order moment reply d due refl refl refl
     (stays w.phase past order moment order.id reply refusal d.place)
 
 -- what the journal knows of the order
@@ -104,25 +106,27 @@ idle_wants (Writes order s) e = cc
 idle_wants (Closes order moment s) e = cc
 idle_wants (Says id code) e = cc
 
-pub busy_on : (start : Start) (past : List Happening) (journal : JournalState) (phase : Phase) (order : Contents)
-    (moment : ℕ)
-    → Describes start past (record { journal = journal; phase = phase }) → IsReady phase journal
+pub busy_on : (pace : Pace) (start : Start) (past : List Happening) (journal : JournalState) (phase : Phase)
+    (order : Contents) (moment : ℕ)
+    → Describes start past (record { journal = journal; phase = phase; pace = pace }) → IsReady pace phase journal
     → IsNotEnded order (kept_of order.id journal.records)
     → is_idle phase ≡ false → Describes start (Answered order.id replies.Busy ∷ Asked order moment ∷ past)
-    (record { journal = journal; phase = phase })
-busy_on start past journal phase order moment d ready fresh idle =
+    (record { journal = journal; phase = phase; pace = pace })
+busy_on pace start past journal phase order moment d ready fresh idle =
     let due : IsReply start past order replies.Busy = (rw d.same fresh, is_so phase d ready idle) in
     refused start past _ order moment replies.Busy d tt due where
-      is_so : (phase : Phase) → Describes start past (record { journal = journal; phase = phase })
-          → IsReady phase journal → is_idle phase ≡ false → is_busy start past ≡ true
+      is_so : (phase : Phase) → Describes start past (record { journal = journal; phase = phase; pace = pace })
+          → IsReady pace phase journal → is_idle phase ≡ false → is_busy start past ≡ true
       is_so Idle d ready e = cc
-      is_so (Begins order moment) d ready e = busy_at start past journal (Begins order moment) d ready
+      is_so (Begins order moment) d ready e = busy_at pace start past journal (Begins order moment) d ready
       is_so (Checks order s) d ready e =
-          busy_at start past journal (Checks order s) d ready ∙ check_wants order.unit (aim_of s)
-      is_so (Writes order s) d ready e = busy_at start past journal (Writes order s) d ready ∙ write_wants (aim_of s)
+          busy_at pace start past journal (Checks order s) d ready ∙ check_wants order.unit (aim_of s)
+      is_so (Writes order s) d ready e = busy_at pace start past journal (Writes order s) d ready
+          ∙ write_wants (aim_of s)
       is_so (Closes order moment s) d ready e =
-          busy_at start past journal (Closes order moment s) d ready ∙ closing_wants order.id (unit_of s) (aim_of s)
-      is_so (Says id code) d ready e = busy_at start past journal (Says id code) d ready
+          busy_at pace start past journal (Closes order moment s) d ready
+          ∙ closing_wants order.id (unit_of s) (aim_of s)
+      is_so (Says id code) d ready e = busy_at pace start past journal (Says id code) d ready
 
 full_is : (limit count : ℕ) → limit ≤ count → nat_le limit count ≡ true
 full_is limit count le = grind (arith, nat_tests)
@@ -130,22 +134,23 @@ full_is limit count le = grind (arith, nat_tests)
 full_not : (limit count : ℕ) → count < limit → nat_le limit count ≡ false
 full_not limit count less = grind (arith, nat_tests)
 
-idle_busy : (start : Start) (past : List Happening) (journal : JournalState) (phase : Phase)
-    → Describes start past (record { journal = journal; phase = phase })
-    → IsReady phase journal → is_idle phase ≡ true → is_busy start past ≡ false
-idle_busy start past journal phase d ready idle = busy_at start past journal phase d ready ∙ idle_wants phase idle
+idle_busy : (pace : Pace) (start : Start) (past : List Happening) (journal : JournalState) (phase : Phase)
+    → Describes start past (record { journal = journal; phase = phase; pace = pace })
+    → IsReady pace phase journal → is_idle phase ≡ true → is_busy start past ≡ false
+idle_busy pace start past journal phase d ready idle = busy_at pace start past journal phase d ready
+    ∙ idle_wants phase idle
 
-pub full_on : (start : Start) (past : List Happening) (journal : JournalState) (phase : Phase) (order : Contents)
-    (moment : ℕ)
-    → Describes start past (record { journal = journal; phase = phase }) → IsReady phase journal
+pub full_on : (pace : Pace) (start : Start) (past : List Happening) (journal : JournalState) (phase : Phase)
+    (order : Contents) (moment : ℕ)
+    → Describes start past (record { journal = journal; phase = phase; pace = pace }) → IsReady pace phase journal
     → IsNotEnded order (kept_of order.id journal.records)
     → is_idle phase ≡ true → journal.limit ≤ order_count journal
     → Describes start (Answered order.id replies.Full ∷ Asked order moment ∷ past)
-    (record { journal = journal; phase = phase })
-full_on start past journal phase order moment d ready fresh idle le =
+    (record { journal = journal; phase = phase; pace = pace })
+full_on pace start past journal phase order moment d ready fresh idle le =
     let full : is_full start past ≡ true = rw (d.same, d.limit) (full_is journal.limit (order_count journal) le) in
     refused start past _ order moment replies.Full d tt
-    (rw d.same fresh, idle_busy start past journal phase d ready idle, full)
+    (rw d.same fresh, idle_busy pace start past journal phase d ready idle, full)
 
 -- the place of a writer that has taken an order
 first_place : (past : List Happening) (order : Contents) (moment : ℕ) (stands : Standing) (next : Phase)
@@ -162,25 +167,27 @@ first_place past order moment (standings.Left unit) next (s, is, at, closing, is
     (refl, refl, is_told)
 
 -- where the first four replies don't apply, Taken is due
-pub taken_due : (start : Start) (past : List Happening) (journal : JournalState) (phase : Phase) (order : Contents)
-    → Describes start past (record { journal = journal; phase = phase }) → IsReady phase journal
+pub taken_due : (pace : Pace) (start : Start) (past : List Happening) (journal : JournalState) (phase : Phase)
+    (order : Contents)
+    → Describes start past (record { journal = journal; phase = phase; pace = pace }) → IsReady pace phase journal
     → IsNotEnded order (kept_of order.id journal.records)
     → is_idle phase ≡ true → order_count journal < journal.limit → IsReply start past order replies.Taken
-taken_due start past journal phase order d ready fresh idle less =
+taken_due pace start past journal phase order d ready fresh idle less =
     let room : is_full start past ≡ false = rw (d.same, d.limit) (full_not journal.limit (order_count journal) less) in
-    (rw d.same fresh, idle_busy start past journal phase d ready idle, room)
+    (rw d.same fresh, idle_busy pace start past journal phase d ready idle, room)
 
-pub taken_on : (start : Start) (past : List Happening) (journal new : JournalState) (phase next : Phase)
+pub taken_on : (pace : Pace) (start : Start) (past : List Happening) (journal new : JournalState) (phase next : Phase)
     (order : Contents) (moment : ℕ) (stands : Standing)
-    → Describes start past (record { journal = journal; phase = phase }) → IsReady phase journal
+    → Describes start past (record { journal = journal; phase = phase; pace = pace }) → IsReady pace phase journal
     → IsNotEnded order (kept_of order.id journal.records)
     → is_idle phase ≡ true → order_count journal < journal.limit → new.records ≡ journal.records
     → new.limit ≡ journal.limit → IsFirst stands order moment next
     → Describes start (Answered order.id replies.Taken ∷ Asked order moment ∷ past)
-    (record { journal = new; phase = next })
-taken_on start past journal new phase next order moment stands d ready fresh idle less records limit first =
-    asked start past _ _ order moment replies.Taken d (taken_due start past journal phase order d ready fresh idle less)
-    records limit
+    (record { journal = new; phase = next; pace = pace })
+taken_on pace start past journal new phase next order moment stands d ready fresh idle less records limit first =
+    asked start past _ _ order moment replies.Taken d
+    (taken_due pace start past journal phase order d ready fresh idle less)
+    records limit refl
     (first_place past order moment stands next first)
 
 -- all these orders have ended
@@ -279,29 +286,29 @@ new_number records order sentence idle fresh = by (kept_of order.id records) ref
   by (kepts.Ended old code) e is = absurd is
 
 -- the journal is ready for an order that is taken
-is_left_idle : (stands : Standing) (order : Contents) (moment : ℕ) (next : Phase) (new : JournalState)
+is_left_idle : (pace : Pace) (stands : Standing) (order : Contents) (moment : ℕ) (next : Phase) (new : JournalState)
     → standing_of new.records ≡ stands → is_at_work stands ≡ false → IsFirst stands order moment next
-    → MayBegin new (Began order moment) → IsReady next new
-is_left_idle standings.Idle order moment next new at idle is may =
-    subst (λ (p : Phase). IsReady p new) (sym is) (at, may)
-is_left_idle (standings.Left unit) order moment next new at idle (s, is, same, closing, is_told) may =
-    subst (λ (p : Phase). IsReady p new) (sym is)
+    → MayBegin new (Began order moment) → IsReady pace next new
+is_left_idle pace standings.Idle order moment next new at idle is may =
+    subst (λ (p : Phase). IsReady pace p new) (sym is) (at, may)
+is_left_idle pace (standings.Left unit) order moment next new at idle (s, is, same, closing, is_told) may =
+    subst (λ (p : Phase). IsReady pace p new) (sym is)
     (at ∙ ap standings.Left (sym same), subst (λ (u : ℕ). IsClosing u s) (sym same) closing, may)
-is_left_idle (standings.Began other) order moment next new at idle is may = cc
-is_left_idle (standings.Opened other) order moment next new at idle is may = cc
+is_left_idle pace (standings.Began other) order moment next new at idle is may = cc
+is_left_idle pace (standings.Opened other) order moment next new at idle is may = cc
 
-pub ready_taken : (journal new : JournalState) (phase next : Phase) (order : Contents) (moment : ℕ)
+pub ready_taken : (pace : Pace) (journal new : JournalState) (phase next : Phase) (order : Contents) (moment : ℕ)
     → IsSentence journal.records
-    → IsReady phase journal
+    → IsReady pace phase journal
     → IsNotEnded order (kept_of order.id journal.records) → is_idle phase ≡ true → order_count journal < journal.limit
     → new.records ≡ journal.records → new.limit ≡ journal.limit → HasRoom new order
-    → IsFirst (standing_of new.records) order moment next → IsReady next new
-ready_taken journal new phase next order moment sentence ready fresh idle less records limit room first =
+    → IsFirst (standing_of new.records) order moment next → IsReady pace next new
+ready_taken pace journal new phase next order moment sentence ready fresh idle less records limit room first =
     let rest : is_at_work (standing_of journal.records) ≡ false = at_rest phase ready idle in
     let number = new_number journal.records order sentence rest fresh in
-    is_left_idle (standing_of new.records) order moment next new refl (rw records rest) first
+    is_left_idle pace (standing_of new.records) order moment next new refl (rw records rest) first
     (room, rw (records, limit) less, rw records number) where
-      at_rest : (phase : Phase) → IsReady phase journal → is_idle phase ≡ true
+      at_rest : (phase : Phase) → IsReady pace phase journal → is_idle phase ≡ true
           → is_at_work (standing_of journal.records) ≡ false
       at_rest Idle ready e = ready
       at_rest (Begins order moment) ready e = cc

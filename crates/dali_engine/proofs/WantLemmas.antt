@@ -24,7 +24,7 @@ use Rattle.dali_trace.specs.declared.happening.Want.TheVariants.{Keep, Send, Say
 use Rattle.dali_trace.specs.declared.happening.Want.TheVariants as wants
 use Rattle.dali_engine.specs.declared.phase.Phase.{Phase}
 use Rattle.dali_engine.specs.declared.phase.Phase.TheVariants.{Idle, Begins, Checks, Writes, Closes, Says}
-use Rattle.dali_trace.specs.Trace.{waiting_since}
+use Rattle.dali_trace.specs.Trace.{pace_at, waiting_since}
 use Rattle.dali_trace.specs.Trace.{Start, standing_at, sent_of, sent_since_taken, waiting}
 use Rattle.dali_trace.specs.Legal.{Legal, MaySend, MayKeep}
 use Rattle.dali_engine.specs.Phases.{want_of, check_of, write_of, check_record, write_code}
@@ -41,28 +41,30 @@ use Rattle.dali_engine.proofs.SayLemmas.{check_sends, write_sends, closing_sends
 use Rattle.dali_engine.proofs.KeepLemmas.{begun_may, checked_may, written_on, closed_on, same_entry, closing_keeps}
 use Rattle.dali_engine.proofs.FollowLemmas.{said_follows}
 use Rattle.dali_engine.proofs.NextRecordLemmas.{next_record}
+use Rattle.dali_write.specs.declared.pace.Pace.{Pace}
 
-may_send : (start : Start) (past : List Happening) (journal : JournalState) (phase : Phase) (frame : Frame)
-    → Describes start past (record { journal = journal; phase = phase }) → IsReady phase journal
+may_send : (pace : Pace) (start : Start) (past : List Happening) (journal : JournalState) (phase : Phase)
+    (frame : Frame)
+    → Describes start past (record { journal = journal; phase = phase; pace = pace }) → IsReady pace phase journal
     → want_of phase ≡ Send frame → MaySend past (standing_at start past) frame
-may_send start past journal Idle frame d ready e = cc
-may_send start past journal (Begins order moment) frame d ready e = cc
-may_send start past journal (Says id code) frame d ready e = cc
-may_send start past journal (Checks order s) frame d ready e =
+may_send pace start past journal Idle frame d ready e = cc
+may_send pace start past journal (Begins order moment) frame d ready e = cc
+may_send pace start past journal (Says id code) frame d ready e = cc
+may_send pace start past journal (Checks order s) frame d ready e =
     let place = d.place in
     let aim = check_sends order.unit (aim_of s) frame e in
     rw (stands_so start past _ _ d ready.0)
-    (fresh_may past order place.0 frame (fresh_sends order place.0 s frame ready.1 place.3 aim))
-may_send start past journal (Writes order s) frame d ready e =
+    (fresh_may past order place.0 frame (fresh_sends order pace place.0 s frame ready.1 place.3 aim))
+may_send pace start past journal (Writes order s) frame d ready e =
     let place = d.place in
     let aim = write_sends (aim_of s) frame e in
     let guarded =
     older_guarded (writes_of order.updates) order.unit place.0 place.1 frame
-    (opened_sends order place.0 s frame ready.1 place.3 aim) in
+    (opened_sends order pace place.0 s frame ready.1 place.3 aim) in
     let all : IsGuardedFrame (writes_of order.updates) order.unit (sent_of past) frame =
     subst (λ (t : List Exchange). IsGuardedFrame (writes_of order.updates) order.unit t frame) (sym place.2) guarded in
     rw (stands_so start past _ _ d ready.0) (opened_may past order frame ready.2.rising all)
-may_send start past journal (Closes order moment s) frame d ready e =
+may_send pace start past journal (Closes order moment s) frame d ready e =
     let place = d.place in
     let aim = closing_sends_it order.id (unit_of s) (aim_of s) frame e in
     let since = since_part past in
@@ -75,24 +77,25 @@ may_send start past journal (Closes order moment s) frame d ready e =
     let waits : IsSome (waiting past) = rw place.0 refl in
     rw (stands_so start past _ _ d ready.0) (closing_may past unit frame waits all)
 
-may_keep : (start : Start) (past : List Happening) (journal : JournalState) (phase : Phase) (entry : Record)
-    → Describes start past (record { journal = journal; phase = phase }) → IsReady phase journal
+may_keep : (pace : Pace) (start : Start) (past : List Happening) (journal : JournalState) (phase : Phase)
+    (entry : Record)
+    → Describes start past (record { journal = journal; phase = phase; pace = pace }) → IsReady pace phase journal
     → want_of phase ≡ Keep entry → Legal start (Kept entry ∷ past)
-may_keep start past journal Idle entry d ready e = cc
-may_keep start past journal (Says id code) entry d ready e = cc
-may_keep start past journal (Begins order moment) entry d ready e =
+may_keep pace start past journal Idle entry d ready e = cc
+may_keep pace start past journal (Says id code) entry d ready e = cc
+may_keep pace start past journal (Begins order moment) entry d ready e =
     let may : MayKeep start past entry =
-    rw (← same_entry (Began order moment) entry e) (begun_may start past journal order moment d ready) in
+    rw (← same_entry (Began order moment) entry e) (begun_may pace start past journal order moment d ready) in
     (d.legal, may_follow start past (Kept entry) d.finished may)
-may_keep start past journal (Checks order s) entry d ready e = by (aim_of s) refl e where
+may_keep pace start past journal (Checks order s) entry d ready e = by (aim_of s) refl e where
   by : (ask : Ask) → aim_of s ≡ ask → check_of order.unit ask ≡ Keep entry → Legal start (Kept entry ∷ past)
   by (asks.Send frame) aim e = cc
   by (asks.Ended verdict) aim e =
       let may : MayKeep start past entry =
       rw (← same_entry (check_record order.unit verdict) entry e)
-      (checked_may start past journal order s verdict d ready aim) in
+      (checked_may pace start past journal order s verdict d ready aim) in
       (d.legal, may_follow start past (Kept entry) d.finished may)
-may_keep start past journal (Writes order s) entry d ready e = by (aim_of s) refl e where
+may_keep pace start past journal (Writes order s) entry d ready e = by (aim_of s) refl e where
   by : (ask : Ask) → aim_of s ≡ ask → write_of ask ≡ Keep entry → Legal start (Kept entry ∷ past)
   by (asks.Send frame) aim e = cc
   by (asks.Ended verdict) aim e =
@@ -104,8 +107,8 @@ may_keep start past journal (Writes order s) entry d ready e = by (aim_of s) ref
         index_room = journal.index_room;
       } in
       rw (← same_entry (Ended (write_code verdict)) entry e)
-      (written_on start past journal new order s verdict d ready aim refl refl).legal
-may_keep start past journal (Closes order moment s) entry d ready e =
+      (written_on pace start past journal new order s verdict d ready aim refl refl).legal
+may_keep pace start past journal (Closes order moment s) entry d ready e =
     let is = closing_keeps order.id (unit_of s) (aim_of s) entry e in
     let new : JournalState = record {
       records = Closed (unit_of s) ∷ journal.records;
@@ -114,77 +117,85 @@ may_keep start past journal (Closes order moment s) entry d ready e =
       numbers = journal.numbers;
       index_room = journal.index_room;
     } in
-    rw (← is.1) (closed_on start past journal new order moment s d ready is.0 refl refl).legal
+    rw (← is.1) (closed_on pace start past journal new order moment s d ready is.0 refl refl).legal
 
 -- the plan asks for the frame that is wanted
-asks_send : (start : Start) (past : List Happening) (journal : JournalState) (phase : Phase) (frame : Frame)
-    → Describes start past (record { journal = journal; phase = phase })
-    → Follows start past (record { journal = journal; phase = phase }) → IsReady phase journal
-    → want_of phase ≡ Send frame → Asks (standing_at start past) (told_in past) (asks.Send frame)
-asks_send start past journal Idle frame d f ready e = cc
-asks_send start past journal (Begins order moment) frame d f ready e = cc
-asks_send start past journal (Says id code) frame d f ready e = cc
-asks_send start past journal (Checks order s) frame d f ready e =
-    let asked : Asks (standings.Began order) (told_in past) (asks.Send frame) =
-    fresh_wants order (told_in past) s (asks.Send frame) ready.1 f.told (check_sends order.unit (aim_of s) frame e) in
+asks_send : (pace : Pace) (start : Start) (past : List Happening) (journal : JournalState) (phase : Phase)
+    (frame : Frame)
+    → Describes start past (record { journal = journal; phase = phase; pace = pace })
+    → Follows start past (record { journal = journal; phase = phase; pace = pace }) → IsReady pace phase journal
+    → want_of phase ≡ Send frame → Asks pace (standing_at start past) (told_in past) (asks.Send frame)
+asks_send pace start past journal Idle frame d f ready e = cc
+asks_send pace start past journal (Begins order moment) frame d f ready e = cc
+asks_send pace start past journal (Says id code) frame d f ready e = cc
+asks_send pace start past journal (Checks order s) frame d f ready e =
+    let asked : Asks pace (standings.Began order) (told_in past) (asks.Send frame) =
+    fresh_wants order pace (told_in past) s (asks.Send frame) ready.1 f.told (check_sends order.unit (aim_of s) frame e)
+    in
     rw (stands_so start past _ _ d ready.0) asked
-asks_send start past journal (Writes order s) frame d f ready e =
-    let asked : Asks (standings.Opened order) (told_in past) (asks.Send frame) =
-    opened_wants order (told_in past) s (asks.Send frame) ready.1 f.told (write_sends (aim_of s) frame e) in
+asks_send pace start past journal (Writes order s) frame d f ready e =
+    let asked : Asks pace (standings.Opened order) (told_in past) (asks.Send frame) =
+    opened_wants order pace (told_in past) s (asks.Send frame) ready.1 f.told (write_sends (aim_of s) frame e) in
     rw (stands_so start past _ _ d ready.0) asked
-asks_send start past journal (Closes order moment s) frame d f ready e =
-    let asked : Asks (standings.Left (unit_of s)) (told_in past) (asks.Send frame) =
+asks_send pace start past journal (Closes order moment s) frame d f ready e =
+    let asked : Asks pace (standings.Left (unit_of s)) (told_in past) (asks.Send frame) =
     closing_wants (unit_of s) (told_in past) s (asks.Send frame) ready.1 f.told
     (closing_sends_it order.id (unit_of s) (aim_of s) frame e) in
     rw (stands_so start past _ _ d ready.0) asked
 
 -- a record that is to be kept next and begins no order moment follows the end of the session at hand
-ends_next : (stands : Standing) (waits : Option Contents) (since : ℕ) (told : List Exchange) (entry : Record)
-    → ((order : Contents) (moment : ℕ) → entry ≡ Began order moment → ⊥) → NextRecord stands waits since told entry
-    → (verdict : Verdict) × Asks stands told (asks.Ended verdict) × EndsIn stands verdict entry
-ends_next standings.Idle None since told entry other next = absurd next
-ends_next standings.Idle (Some order) since told entry other next = absurd (other order since next)
-ends_next (standings.Left left) None since told entry other next = absurd next
-ends_next (standings.Left left) (Some order) since told entry other next = next
-ends_next (standings.Began order) waits since told entry other next = next
-ends_next (standings.Opened order) waits since told entry other next = next
+ends_next : (pace : Pace) (stands : Standing) (waits : Option Contents) (since : ℕ) (told : List Exchange)
+    (entry : Record)
+    → ((order : Contents) (moment : ℕ) → entry ≡ Began order moment → ⊥) → NextRecord pace stands waits since told entry
+    → (verdict : Verdict) × Asks pace stands told (asks.Ended verdict) × EndsIn stands verdict entry
+ends_next pace standings.Idle None since told entry other next = absurd next
+ends_next pace standings.Idle (Some order) since told entry other next = absurd (other order since next)
+ends_next pace (standings.Left left) None since told entry other next = absurd next
+ends_next pace (standings.Left left) (Some order) since told entry other next = next
+ends_next pace (standings.Began order) waits since told entry other next = next
+ends_next pace (standings.Opened order) waits since told entry other next = next
 
 -- so the plan asks for the record that is to be kept next
 next_planned : (start : Start) (past : List Happening) (entry : Record) → IsKeptNext start past entry
     → IsPlanned start past (Kept entry)
 next_planned start past (Began order moment) next = tt
 next_planned start past (Opened unit) next =
-    ends_next (standing_at start past) (waiting past) (waiting_since past) (told_in past) (Opened unit)
+    ends_next (pace_at start past) (standing_at start past) (waiting past) (waiting_since past) (told_in past)
+    (Opened unit)
     (λ order moment e. cc) next
 next_planned start past (Ended code) next =
-    ends_next (standing_at start past) (waiting past) (waiting_since past) (told_in past) (Ended code)
+    ends_next (pace_at start past) (standing_at start past) (waiting past) (waiting_since past) (told_in past)
+    (Ended code)
     (λ order moment e. cc) next
 next_planned start past (Closed unit) next =
-    ends_next (standing_at start past) (waiting past) (waiting_since past) (told_in past) (Closed unit)
+    ends_next (pace_at start past) (standing_at start past) (waiting past) (waiting_since past) (told_in past)
+    (Closed unit)
     (λ order moment e. cc) next
 
 -- what is wanted is next
-pub done_next : (start : Start) (past : List Happening) (journal : JournalState) (phase : Phase) (want : Want)
+pub done_next : (pace : Pace) (start : Start) (past : List Happening) (journal : JournalState) (phase : Phase)
+    (want : Want)
     (next : Happening)
-    → Describes start past (record { journal = journal; phase = phase })
-    → Follows start past (record { journal = journal; phase = phase }) → IsReady phase journal
+    → Describes start past (record { journal = journal; phase = phase; pace = pace })
+    → Follows start past (record { journal = journal; phase = phase; pace = pace }) → IsReady pace phase journal
     → want_of phase ≡ want → IsDone want next → IsNext start past next
-done_next start past journal phase wants.Idle next d f ready want done = absurd done
-done_next start past journal phase (Keep entry) next d f ready want done =
+done_next pace start past journal phase wants.Idle next d f ready want done = absurd done
+done_next pace start past journal phase (Keep entry) next d f ready want done =
     subst (IsNext start past) (sym done) (record {
       work = tt;
-      may = (may_keep start past journal phase entry d ready want).1;
-      planned = next_planned start past entry ((next_record start past journal phase entry d f ready).0 want);
+      may = (may_keep pace start past journal phase entry d ready want).1;
+      planned = next_planned start past entry ((next_record pace start past journal phase entry d f ready).0 want);
     })
-done_next start past journal phase (Send frame) next d f ready want (answer, done) =
+done_next pace start past journal phase (Send frame) next d f ready want (answer, done) =
     subst (IsNext start past) (sym done) (record {
       work = tt;
-      may = may_follow start past (Sent frame answer) d.finished (may_send start past journal phase frame d ready want);
-      planned = asks_send start past journal phase frame d f ready want;
+      may = may_follow start past (Sent frame answer) d.finished
+          (may_send pace start past journal phase frame d ready want);
+      planned = rw d.pace (asks_send pace start past journal phase frame d f ready want);
     })
-done_next start past journal phase (Say id reply) next d f ready want done =
+done_next pace start past journal phase (Say id reply) next d f ready want done =
     subst (IsNext start past) (sym done) (record {
       work = tt;
-      may = (said_on start past journal phase id reply d ready want).legal.1;
-      planned = (said_follows start past journal phase id reply d f ready want).planned.1;
+      may = (said_on pace start past journal phase id reply d ready want).legal.1;
+      planned = (said_follows pace start past journal phase id reply d f ready want).planned.1;
     })

@@ -6,7 +6,7 @@ use Rattle.dali_write.specs.Told.{Told}
 use Rattle.dali_trace.specs.declared.happening.Happening.{Happening}
 use Rattle.dali_engine.specs.declared.phase.Phase.{Phase}
 use Rattle.dali_engine.specs.declared.phase.Phase.TheVariants.{Idle, Begins, Checks, Writes, Closes, Says}
-use Rattle.dali_trace.specs.Trace.{Start, records_of, sent_of, sent_since_taken, waiting, waiting_since, is_unsaid, has_ended}
+use Rattle.dali_trace.specs.Trace.{pace_at, Start, records_of, sent_of, sent_since_taken, waiting, waiting_since, is_unsaid, has_ended}
 use Rattle.dali_trace.specs.Legal.{Legal, IsFinished}
 use Rattle.dali_engine.specs.WriterState.{WriterState}
 
@@ -25,10 +25,11 @@ IsAt (Closes order moment s) past =
 IsAt (Says id code) past = has_ended past ≡ true
 
 -- a legal trace from the start, with no reply due, describes the writer: its records and its limit are the journal's,
--- and it shows what the writer is about to do
+-- its plan is the writer's, and it shows what the writer is about to do
 pub record Describes (start : Start) (past : List Happening) (writer : WriterState) : Type 0 where
   pub legal : Legal start past
   pub finished : IsFinished past
   pub same : records_of start past ≡ writer.journal.records
   pub limit : start.limit ≡ writer.journal.limit
+  pub pace : pace_at start past ≡ writer.pace
   pub place : IsAt writer.phase past

@@ -14,21 +14,22 @@ use Rattle.dali_trace.specs.Runs.{SendsAllProper, AsksAllProper}
 use Rattle.dali_engine.specs.WriterState.{WriterState}
 use Rattle.dali_engine.specs.Describes.{Describes}
 use Rattle.dali_engine.specs.Follows.{Follows}
+use Rattle.dali_write.specs.declared.pace.Pace.{Pace}
 
 -- the trace after a stop, before which this record was still kept, if one was
-abbrev pub stopped_after : Option Record → List Happening → List Happening
-stopped_after (Some entry) past = Stopped ∷ Kept entry ∷ past
-stopped_after None past = Stopped ∷ past
+abbrev pub stopped_after : Pace → Option Record → List Happening → List Happening
+stopped_after pace (Some entry) past = Stopped pace ∷ Kept entry ∷ past
+stopped_after pace None past = Stopped pace ∷ past
 
 -- A stop that lets through so many bytes, and this record whole, if one: a trace that describes the writer, and
 -- that it follows, goes on by the stop's part, and then describes the writer that began anew, and is followed by it.
 pub record IsStop (bytes : ℕ) (old : WriterState) (kept : Option Record) (new : WriterState) : Type 0 where
   pub described : (start : Start) (past : List Happening) → Describes start past old
-      → Describes start (stopped_after kept past) new
+      → Describes start (stopped_after old.pace kept past) new
   pub follows : (start : Start) (past : List Happening) → Describes start past old → Follows start past old
-      → Follows start (stopped_after kept past) new
+      → Follows start (stopped_after old.pace kept past) new
   pub part : (start : Start) (past : List Happening) → Describes start past old → Follows start past old
-      → Part start (Stop bytes) past (stopped_after kept past)
+      → Part start (Stop bytes) past (stopped_after old.pace kept past)
 
 -- An event that was served, from a bus, a writer and a trace to those after it: the trace went on by the event's part,
 -- and describes the writer, is followed by it and leads to the bus, sends proper frames and asks for proper orders,

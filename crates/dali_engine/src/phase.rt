@@ -10,7 +10,7 @@ ghost use Rattle.dali_engine.specs.WriterState.{IsAfterCheck, IsResumed};
 use dali_bank::Order;
 use dali_journal::{Code, Record, Standing};
 use dali_trace::{Reply, Want};
-use dali_write::{Ask, Session, Verdict};
+use dali_write::{Ask, Pace, Session, Verdict};
 
 // What a writer is about to do.
 #[derive(Drop)]
@@ -124,12 +124,12 @@ pub(crate) fn write_code(verdict: Verdict) -> Code
 }
 
 // What comes after a fresh session that ended so: the order is carried out, or its end is said.
-pub(crate) fn after_check(order: Order, verdict: Verdict) -> Phase
-    ensures { IsAfterCheck order verdict result }
+pub(crate) fn after_check(pace: Pace, order: Order, verdict: Verdict) -> Phase
+    ensures { IsAfterCheck pace order verdict result }
 {
     match verdict {
         Verdict::MayOpen => {
-            let session = Session::opened(order.copy());
+            let session = Session::opened(order.copy(), pace);
             Phase::Writes(order, session)
         }
         _ => Phase::Says(order.id(), check_code(verdict)),
@@ -137,18 +137,18 @@ pub(crate) fn after_check(order: Order, verdict: Verdict) -> Phase
 }
 
 // What comes first where the journal stands so.
-pub(crate) fn resumed_phase(standing: Standing) -> Phase
-    ensures { IsResumed standing result }
+pub(crate) fn resumed_phase(pace: Pace, standing: Standing) -> Phase
+    ensures { IsResumed pace standing result }
 {
     match standing {
         Standing::Idle => Phase::Idle,
         Standing::Left(_) => Phase::Idle,
         Standing::Began(order) => {
-            let session = Session::fresh(order.copy());
+            let session = Session::fresh(order.copy(), pace);
             Phase::Checks(order, session)
         }
         Standing::Opened(order) => {
-            let session = Session::opened(order.copy());
+            let session = Session::opened(order.copy(), pace);
             Phase::Writes(order, session)
         }
     }

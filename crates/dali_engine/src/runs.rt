@@ -21,6 +21,7 @@ use crate::writer::Writer;
 use dali_gear::{Bus, SimBus};
 use dali_journal::Journal;
 use dali_trace::{Event, Happening, RunFault, Want};
+use dali_write::Pace;
 use std::alloc::Global;
 
 // Does once what the writer wants, if it wants something.
@@ -30,6 +31,7 @@ fn advance<B: Bus>(bus: &mut B, writer: &mut Writer) -> Option<Happening>
     ensures follows { IfSome result
         (λ happening. (start : Start) (past : List Happening) → Describes start past writer.old
         → Follows start past writer.old → Follows start (happening ∷ past) writer.new) }
+    ensures pace { writer.new.pace ≡ writer.old.pace }
     ensures moves { IfSome result (λ happening. MovesBy B.step bus.old happening bus.new) }
     ensures work { IfSome result (λ happening. IsWork happening) }
     ensures proper { IfSome result (λ happening. SendsProper happening) }
@@ -83,10 +85,11 @@ fn serve<B: Bus>(
             }
         }
         Event::Stop(bytes) => {
+            let pace = writer.pace();
             if let Some(entry) = stop(alloc, writer, *bytes)? {
                 trace.push_reserved(Happening::Kept(entry));
             }
-            trace.push_reserved(Happening::Stopped);
+            trace.push_reserved(Happening::Stopped(pace));
         }
         Event::Power(address) => {
             bus.power(*address);
@@ -105,7 +108,7 @@ pub struct Outcome {
     pub trace: Vec<Happening>,
 }
 
-/// Serves the events in their order, over a bus and an empty journal for at most so many orders
+/// Serves the events in their order by this plan, over a bus and an empty journal for at most so many orders
 /// (profile).
 ///
 /// A `Submit` takes an order and replies. A `Step` does the next thing, if there is one. A `Stop` leaves
@@ -119,31 +122,33 @@ pub fn run<B: Bus>(
     alloc: Global,
     bus: &mut B,
     limit: u32,
+    pace: Pace,
     events: &[Event],
 ) -> Result<Outcome, RunFault>
     ensures ok { IfOk result
-        (λ outcome. IsRun B.world B.step limit events.now bus.old outcome.trace.items outcome.journal.items bus.new) }
+        (λ outcome. IsRun B.world B.step limit pace events.now bus.old outcome.trace.items outcome.journal.items
+        bus.new) }
     ensures limit { (result ≡ Err faults.Limit) ↔ (¬ IsLimit limit) }
     ensures untouched { result ≡ Err faults.Limit → bus.new ≡ bus.old }
-    ensures err { OnErr result (IsCutShort B.world B.step limit events.now bus.old bus.new) }
+    ensures err { OnErr result (IsCutShort B.world B.step limit pace events.now bus.old bus.new) }
 {
-    match empty_writer(alloc, limit) {
+    match empty_writer(alloc, limit, pace) {
         Ok(mut writer) => serve_all(alloc, bus, &mut writer, events),
         Err(fault) => Err(fault),
     }
 }
 
 // A writer over an empty journal for at most so many orders.
-fn empty_writer(alloc: Global, limit: u32) -> Result<Writer, RunFault>
-    ensures described { IfOk result (λ writer. Describes (fresh limit) [] writer) }
-    ensures follows { IfOk result (λ writer. Follows (fresh limit) [] writer) }
+fn empty_writer(alloc: Global, limit: u32, pace: Pace) -> Result<Writer, RunFault>
+    ensures described { IfOk result (λ writer. Describes (fresh limit pace) [] writer) }
+    ensures follows { IfOk result (λ writer. Follows (fresh limit pace) [] writer) }
     ensures succeeds { IsLimit limit ↔ IsOk result }
     ensures fault { IfErr result (λ fault. fault ≡ faults.Limit) }
 {
     let Ok(journal) = Journal::new(alloc, limit) else {
         return Err(RunFault::Limit);
     };
-    Ok(Writer::new(journal))
+    Ok(Writer::with_pace(journal, pace))
 }
 
 // Serves the events in their order, from an empty trace on.
@@ -177,13 +182,15 @@ pub fn run_sim(
     alloc: Global,
     bus: &mut SimBus,
     limit: u32,
+    pace: Pace,
     events: &[Event],
 ) -> Result<Outcome, RunFault>
     ensures ok { IfOk result
-        (λ outcome. IsSimRun limit events.now bus.old outcome.trace.items outcome.journal.items bus.new) }
+        (λ outcome. IsSimRun limit pace events.now bus.old outcome.trace.items outcome.journal.items bus.new) }
     ensures limit { (result ≡ Err faults.Limit) ↔ (¬ IsLimit limit) }
     ensures untouched { result ≡ Err faults.Limit → bus.new ≡ bus.old }
-    ensures err { OnErr result (IsCutShort (λ state. world_of state.units) SimStep limit events.now bus.old bus.new) }
+    ensures err { OnErr result (IsCutShort (λ state. world_of state.units) SimStep limit pace events.now
+        bus.old bus.new) }
 {
-    run(alloc, bus, limit, events)
+    run(alloc, bus, limit, pace, events)
 }

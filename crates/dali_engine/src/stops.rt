@@ -48,6 +48,7 @@ fn keep_within(writer: &mut Writer, bytes: u16) -> Option<Record>
     ensures follows { IfSome result (λ entry. (start : Start) (past : List Happening) → Describes start past writer.old
         → Follows start past writer.old → Follows start (happenings.Kept entry ∷ past) writer.new) }
     ensures few { IfSome result (λ entry. length (spelling Two entry) ≤ bytes) }
+    ensures pace { writer.new.pace ≡ writer.old.pace }
     ensures same { IsNone result → writer.new ≡ writer.old }
     ensures cut { IsNone result → (entry : Record) → want_of writer.old.phase ≡ Want.Keep entry
         → bytes < length (spelling Two entry) }
@@ -72,9 +73,9 @@ fn keep_within(writer: &mut Writer, bytes: u16) -> Option<Record>
 fn cut_off(alloc: Global, writer: &mut Writer, bytes: u16) -> Result<(), NoMemory>
     requires { (entry : Record) → want_of writer.old.phase ≡ Want.Keep entry → bytes < length (spelling Two entry) }
     ensures described { OnOk result ((start : Start) (past : List Happening)
-        → Describes start past writer.old → Describes start (happenings.Stopped ∷ past) writer.new) }
+        → Describes start past writer.old → Describes start (happenings.Stopped writer.old.pace ∷ past) writer.new) }
     ensures follows { OnOk result ((start : Start) (past : List Happening)
-        → Follows start past writer.old → Follows start (happenings.Stopped ∷ past) writer.new) }
+        → Follows start past writer.old → Follows start (happenings.Stopped writer.old.pace ∷ past) writer.new) }
     ensures err { OnErr result (writer.new ≡ writer.old) }
 {
     match writer.want() {
@@ -90,14 +91,14 @@ fn cut_off(alloc: Global, writer: &mut Writer, bytes: u16) -> Result<(), NoMemor
 fn begin_anew(alloc: Global, writer: &mut Writer, cut: &[u8]) -> Result<(), NoMemory>
     requires { (last : Record) × IsCutOf Two cut.now last }
     ensures described { OnOk result ((start : Start) (past : List Happening)
-        → Describes start past writer.old → Describes start (happenings.Stopped ∷ past) writer.new) }
+        → Describes start past writer.old → Describes start (happenings.Stopped writer.old.pace ∷ past) writer.new) }
     ensures follows { OnOk result ((start : Start) (past : List Happening)
-        → Follows start past writer.old → Follows start (happenings.Stopped ∷ past) writer.new) }
+        → Follows start past writer.old → Follows start (happenings.Stopped writer.old.pace ∷ past) writer.new) }
     ensures err { OnErr result (writer.new ≡ writer.old) }
 {
     match loaded_again(alloc, writer.journal(), cut) {
         Ok(journal) => {
-            *writer = Writer::new(journal);
+            *writer = Writer::with_pace(journal, writer.pace());
             Ok(())
         }
         Err(fault) => Err(fault),

@@ -1,6 +1,7 @@
 ghost use Rattle.std.specs.Prelude.{◌≡◌, ◌↔◌, ◌<◌, ◌⊎◌, ◌∷◌, [], ℕ, List, Option, IfOk, OnErr, IsOk, IfSome, IsNone};
 ghost use Rattle.dali_frame.specs.declared.forward.Frame.{Frame};
 ghost use Rattle.dali_frame.specs.Frame.{IsProper};
+ghost use Rattle.dali_write.specs.declared.pace.Pace.{Pace};
 ghost use Rattle.dali_journal.specs.declared.record.Record.{Record};
 ghost use Rattle.dali_journal.specs.Sentence.{HasShortUnit};
 ghost use Rattle.dali_journal.specs.Orders.{kept_of};
@@ -25,7 +26,7 @@ use crate::phase::{Phase, after_check, check_record, resumed_phase, write_code};
 use dali_bank::Order;
 use dali_journal::{Journal, Kept, NoMemory, Record, Standing};
 use dali_trace::{Reply, Want};
-use dali_write::{Ask, Session};
+use dali_write::{Ask, Pace, Session};
 use std::marker::Model;
 use std::mem;
 
@@ -36,6 +37,7 @@ use std::mem;
 pub struct Writer {
     journal: Journal,
     phase: Phase,
+    pace: Pace,
 }
 
 // Called wherever one goes: what is derived would be written out at each such place.
@@ -44,6 +46,7 @@ impl Drop for Writer {
         let Writer {
             journal: _,
             phase: _,
+            pace: _,
         } = self;
     }
 }
@@ -60,23 +63,52 @@ impl Model for Writer {
 }
 
 impl Writer {
-    /// A writer that goes on from what the journal says: an order that was begun is looked at anew,
-    /// one that was opened is carried out anew, and a unit that was left stays left. So does a program
-    /// that was stopped, from the journal that it loads: `stopped`.
+    /// A writer by the checked plan: as `with_pace` with `Pace::Checked`.
     pub fn new(journal: Journal) -> Writer
         ensures described { (start : Start) → start.records ≡ journal.records → start.limit ≡ journal.limit
-            → Describes start [] result }
+            → start.pace ≡ Pace.Checked → Describes start [] result }
         ensures follows { (start : Start) → Follows start [] result }
         ensures journal { result.journal ≡ journal }
+        ensures pace { result.pace ≡ Pace.Checked }
         ensures rest { IsAtRest result }
         ensures stopped { (start : Start) (past : List Happening) (before : WriterState) → Describes start past before
             → before.journal.records ≡ journal.records → before.journal.limit ≡ journal.limit
-            → Describes start (happenings.Stopped ∷ past) result }
+            → Describes start (happenings.Stopped Pace.Checked ∷ past) result }
         ensures stopped_follows { (start : Start) (past : List Happening) (before : WriterState)
-            → Follows start past before → Follows start (happenings.Stopped ∷ past) result }
+            → Follows start past before → Follows start (happenings.Stopped Pace.Checked ∷ past) result }
     {
-        let phase = resumed_phase(journal.standing());
-        Writer { journal, phase }
+        Writer::with_pace(journal, Pace::Checked)
+    }
+
+    /// A writer by this plan that goes on from what the journal says: an order that was begun is looked at anew,
+    /// one that was opened is carried out anew, and a unit that was left stays left. So does a program
+    /// that was stopped, from the journal that it loads: `stopped`.
+    pub fn with_pace(journal: Journal, pace: Pace) -> Writer
+        ensures described { (start : Start) → start.records ≡ journal.records → start.limit ≡ journal.limit
+            → start.pace ≡ pace → Describes start [] result }
+        ensures follows { (start : Start) → Follows start [] result }
+        ensures journal { result.journal ≡ journal }
+        ensures pace { result.pace ≡ pace }
+        ensures rest { IsAtRest result }
+        ensures stopped { (start : Start) (past : List Happening) (before : WriterState) → Describes start past before
+            → before.journal.records ≡ journal.records → before.journal.limit ≡ journal.limit
+            → Describes start (happenings.Stopped pace ∷ past) result }
+        ensures stopped_follows { (start : Start) (past : List Happening) (before : WriterState)
+            → Follows start past before → Follows start (happenings.Stopped pace ∷ past) result }
+    {
+        let phase = resumed_phase(pace, journal.standing());
+        Writer {
+            journal,
+            phase,
+            pace,
+        }
+    }
+
+    /// The plan that it keeps to.
+    pub fn pace(&self) -> Pace
+        ensures { result ≡ self.now.pace }
+    {
+        self.pace
     }
 
     /// The writer's journal.
@@ -89,8 +121,8 @@ impl Writer {
     /// Does nothing. A writer at rest is described by the empty trace from the records that it has, and follows it.
     pub fn rest(&self)
         requires { IsAtRest self.now }
-        ensures described { Describes (start_of self.now.journal) [] self.now }
-        ensures follows { Follows (start_of self.now.journal) [] self.now }
+        ensures described { Describes (start_of self.now) [] self.now }
+        ensures follows { Follows (start_of self.now) [] self.now }
     {
         let _limit = self.journal.limit();
     }
@@ -127,6 +159,7 @@ impl Writer {
         ensures follows { IfOk result (λ reply. (start : Start) (past : List Happening) → Follows start past self.old
             → Follows start (happenings.Answered order.id reply ∷ happenings.Asked order moment ∷ past) self.new) }
         ensures only_taken { IfOk result (λ reply. (reply ≡ replies.Taken) ⊎ (self.new ≡ self.old)) }
+        ensures pace { self.new.pace ≡ self.old.pace }
         ensures unchanged { OnErr result
             ((self.new.phase ≡ self.old.phase) × (self.new.journal.records ≡ self.old.journal.records)
             × (self.new.journal.limit ≡ self.old.journal.limit)) }
@@ -158,6 +191,7 @@ impl Writer {
     pub fn kept(&mut self)
         requires { IsKeep (want_of self.old.phase) }
         ensures falls { work_left self.new.phase < work_left self.old.phase }
+        ensures pace { self.new.pace ≡ self.old.pace }
         ensures described { (start : Start) (past : List Happening) (entry : Record)
             → want_of self.old.phase ≡ Want.Keep entry
             → Describes start past self.old → Describes start (happenings.Kept entry ∷ past) self.new }
@@ -169,13 +203,13 @@ impl Writer {
         match mem::replace(&mut self.phase, Phase::Idle) {
             Phase::Begins(order, moment) => {
                 self.journal.append(Record::Began(order.copy(), moment));
-                let session = Session::fresh(order.copy());
+                let session = Session::fresh(order.copy(), self.pace);
                 self.phase = Phase::Checks(order, session);
             }
             Phase::Checks(order, session) => {
                 if let Ask::Ended(verdict) = session.want() {
                     self.journal.append(check_record(order.unit(), verdict));
-                    self.phase = after_check(order, verdict);
+                    self.phase = after_check(self.pace, order, verdict);
                 }
             }
             Phase::Writes(order, session) => {
@@ -200,6 +234,7 @@ impl Writer {
     pub fn heard(&mut self, answer: Option<u8>)
         requires { IsSend (want_of self.old.phase) }
         ensures falls { work_left self.new.phase < work_left self.old.phase }
+        ensures pace { self.new.pace ≡ self.old.pace }
         ensures described { (start : Start) (past : List Happening) (frame : Frame)
             → want_of self.old.phase ≡ Want.Send frame
             → Describes start past self.old → Describes start (happenings.Sent frame answer ∷ past) self.new }
@@ -224,6 +259,7 @@ impl Writer {
     pub fn said(&mut self)
         requires { IsSay (want_of self.old.phase) }
         ensures falls { work_left self.new.phase < work_left self.old.phase }
+        ensures pace { self.new.pace ≡ self.old.pace }
         ensures described { (start : Start) (past : List Happening) (id : ℕ) (reply : Reply)
             → want_of self.old.phase ≡ Want.Say id reply
             → Describes start past self.old → Describes start (happenings.Answered id reply ∷ past) self.new }

@@ -44,7 +44,7 @@ pub record IsScenarioRun (planned : Planned) (trace : List Happening) (journal :
   pub ready : IsSetUp planned first.units first.fates all
   pub unenabled : NoneEnabled (world_of first.units)
   pub locked : IsLockedAbove (world_of first.units)
-  pub run : IsSimRun planned.limit all first trace journal last
+  pub run : IsSimRun planned.limit planned.pace all first trace journal last
 
 -- what a run that was read, understood, set up and made gives
 abbrev pub IsRan : InputState → InputState → List Happening → List ℕ → SimState → Type 0

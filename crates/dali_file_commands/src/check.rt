@@ -204,13 +204,15 @@ fn write_item<W: Write, N: Write>(
 {
     match item.item.order() {
         Ok(order) => {
+            let written = write_accepted(output, item.number, &order, ledger);
             note_accepted(notes, item.number, &order, repeats);
-            write_accepted(output, item.number, &order, ledger)?;
+            written?;
             Ok(true)
         }
         Err(fault) => {
+            let written = write_refused_item(output, item.number, fault);
             note_refused(alloc, notes, item, fault);
-            write_refused_item(output, item.number, fault)?;
+            written?;
             Ok(false)
         }
     }

@@ -111,11 +111,12 @@ fn ran_of<R: Read>(alloc: Global, input: &mut Input<R>, note: &mut Note) -> Resu
     let Ok(limit) = u32::try_from(scenario.limit) else {
         return Err(Fault::Run(RunFault::Limit));
     };
+    let pace = scenario.pace;
     // The scenario's text takes many times what the run needs.
     drop(scenario);
     drop(json);
     drop(bytes);
-    let outcome = run_sim(alloc, &mut bus, limit, events.as_slice())?;
+    let outcome = run_sim(alloc, &mut bus, limit, pace, events.as_slice())?;
     Ok(Ran { outcome, bus })
 }
 

@@ -1,5 +1,6 @@
 -- Which fault of a scenario comes first where two stand: one of its units before one of its orders.
 use Rattle.std.proofs.Common.{ℕ, List, [], ◌∷◌, refl, sym, subst, ◌∙◌, arith}
+use Rattle.dali_write.specs.declared.pace.Pace.TheVariants.{Checked}
 use Rattle.dali_gear.specs.SimState.{AreApart}
 use Rattle.dali_gear.specs.UnitState.{UnitState}
 use Rattle.dali_gear.specs.declared.fault.GearFault.TheVariants.{Address}
@@ -14,7 +15,7 @@ far_unit = record { address = 64; bank = []; fixed = []; dtrs = (0, 0, 0) }
 
 -- with it alone, and whatever events
 abbrev one_far : List PlannedEvent → Planned
-one_far events = record { limit = 1; units = far_unit ∷ []; fates = []; events = events }
+one_far events = record { limit = 1; pace = Checked; units = far_unit ∷ []; fates = []; events = events }
 
 pub told_as_its_fault : (events : List PlannedEvent) → IsFirstUnitFault (one_far events).units 1 Address
 told_as_its_fault events = record {

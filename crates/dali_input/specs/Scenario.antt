@@ -13,6 +13,8 @@ use Rattle.dali_input.specs.declared.scenario.FatePlan.{FatePlan}
 use Rattle.dali_input.specs.declared.scenario.EventPlan.{EventPlan}
 use Rattle.dali_input.specs.declared.scenario.EventPlan.TheVariants.{Submit, Steps, Stop, Power}
 use Rattle.dali_input.specs.declared.scenario.Scenario.{Scenario}
+use Rattle.dali_write.specs.declared.pace.Pace.{Pace}
+use Rattle.dali_write.specs.declared.pace.Pace.TheVariants.{Checked, Short}
 use Rattle.dali_input.specs.Values.{IsWhole, IsArrayOf, IsRequired, IsOptional, has_only_keys}
 
 -- the most events and fates of a scenario, when each is counted as often as it stands for
@@ -96,15 +98,23 @@ IsEvent json (power address) = (has_only_keys (codes "power" ∷ []) json ≡ tr
 
 -- ---- the whole
 
+-- the name of a plan
+abbrev pub IsPlan : Data → Pace → Type 0
+IsPlan json Checked = as_str json ≡ Some (codes "checked")
+IsPlan json Short = as_str json ≡ Some (codes "short")
+
 pub record Planned : Type 0 where
   pub limit : ℕ
+  pub pace : Pace
   pub units : List PlannedUnit
   pub fates : List FatePlan
   pub events : List PlannedEvent
 
 pub record IsScenario (json : Data) (planned : Planned) : Type 0 where
-  pub keys : has_only_keys (codes "limit" ∷ codes "units" ∷ codes "fates" ∷ codes "events" ∷ []) json ≡ true
+  pub keys : has_only_keys
+      (codes "limit" ∷ codes "plan" ∷ codes "units" ∷ codes "fates" ∷ codes "events" ∷ []) json ≡ true
   pub limit : IsRequired (IsWhole 0 (2 ^ 64 - 1)) (get (codes "limit") json) planned.limit
+  pub pace : IsOptional IsPlan Checked (get (codes "plan") json) planned.pace
   pub units : IsRequired (IsArrayOf IsUnit) (get (codes "units") json) planned.units
   pub fates : IsOptional (IsArrayOf IsFate) [] (get (codes "fates") json) planned.fates
   pub events : IsRequired (IsArrayOf IsEvent) (get (codes "events") json) planned.events
@@ -136,6 +146,7 @@ event_of (Power address) = power address
 abbrev pub planned_of : Scenario → Planned
 planned_of scenario = record {
   limit = scenario.limit;
+  pace = scenario.pace;
   units = map unit_planned scenario.units.items;
   fates = scenario.fates.items;
   events = map event_of scenario.events.items;

@@ -6,7 +6,7 @@ ghost use Rattle.serde_json.specs.Find.{get};
 ghost use Rattle.serde_json.specs.View.{view};
 ghost use Rattle.dali_bank.specs.Blank.{blank_bank};
 ghost use Rattle.dali_input.specs.Values.{IsWhole, IsArrayOf, IsRequired, IsOptional, IsNoReading, value_if_any};
-ghost use Rattle.dali_input.specs.Scenario.{AreBytes, AreDtrs, AreLost, IsBankText, IsBoolean, IsEvent, IsFate};
+ghost use Rattle.dali_input.specs.Scenario.{AreBytes, AreDtrs, AreLost, IsBankText, IsBoolean, IsEvent, IsFate, IsPlan};
 ghost use Rattle.dali_input.specs.Scenario.{IsScenario, IsSmall, IsUnit, event_count, event_of, most_events};
 ghost use Rattle.dali_input.specs.Scenario.{most_moment, planned_of, submit, unit_planned};
 
@@ -15,6 +15,7 @@ use crate::scenario_key as key;
 use crate::values::{has_only_keys, numbers_of, whole_within};
 use dali_bank::BLANK;
 use dali_gear::{Fate, MOST_ADDRESS};
+use dali_write::Pace;
 use hex::FromHexError;
 use serde_json::Value as Json;
 use std::alloc::Global;
@@ -79,6 +80,8 @@ impl EventPlan<'_> {
 pub struct Scenario<'a> {
     /// The most orders of the journal, any number.
     pub limit: u64,
+    /// The plan of the sessions.
+    pub pace: Pace,
     /// The units, in their order.
     pub units: Vec<UnitPlan>,
     /// The fates of the frames, in their order.
@@ -359,11 +362,15 @@ pub fn scenario_of(alloc: Global, json: &Json) -> Result<Scenario<'_>, InputFaul
     ensures ok { IfOk result (λ scenario. IsScenario (view json.now) (planned_of scenario)) }
     ensures err { IfErr result (IsNoReading (IsScenario (view json.now))) }
 {
-    if !has_only_keys(json, &[key::LIMIT, key::UNITS, key::FATES, key::EVENTS]) {
+    if !has_only_keys(
+        json,
+        &[key::LIMIT, key::PLAN, key::UNITS, key::FATES, key::EVENTS],
+    ) {
         return Err(InputFault::Document);
     }
     Ok(Scenario {
         limit: limit_in(json.get(key::LIMIT))?,
+        pace: pace_in(json.get(key::PLAN))?,
         units: unit_plans(alloc, json.get(key::UNITS))?,
         fates: fate_plans(alloc, json.get(key::FATES))?,
         events: event_plans(alloc, json.get(key::EVENTS))?,
@@ -379,6 +386,22 @@ fn limit_in(json: Option<&Json>) -> Result<u64, InputFault>
     match json {
         Some(json) => whole_within(json, 0, u64::MAX),
         None => Err(InputFault::Document),
+    }
+}
+
+// The plan of the sessions: the checked one where nothing stands there.
+fn pace_in(json: Option<&Json>) -> Result<Pace, InputFault>
+    ensures ok { IfOk result (IsOptional IsPlan Pace.Checked (value_if_any json.entry)) }
+    ensures err { IfErr result (IsNoReading (IsOptional IsPlan Pace.Checked (value_if_any json.entry))) }
+    ensures document { IfErr result (λ fault. fault ≡ InputFault.Document) }
+{
+    let Some(json) = json else {
+        return Ok(Pace::Checked);
+    };
+    match json.as_str() {
+        Some(text) if text == key::CHECKED => Ok(Pace::Checked),
+        Some(text) if text == key::SHORT => Ok(Pace::Short),
+        _ => Err(InputFault::Document),
     }
 }
 

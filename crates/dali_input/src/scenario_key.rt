@@ -3,12 +3,19 @@
 
 /// Of a scenario: the most orders of the journal.
 pub const LIMIT: &str = "limit";
+/// Of a scenario: the plan of the sessions.
+pub const PLAN: &str = "plan";
 /// Of a scenario: the units.
 pub const UNITS: &str = "units";
 /// Of a scenario: the fates of frames.
 pub const FATES: &str = "fates";
 /// Of a scenario: the events.
 pub const EVENTS: &str = "events";
+
+/// Of a plan: each write is enabled by itself, and each byte is read back by itself.
+pub const CHECKED: &str = "checked";
+/// Of a plan: a unit stays enabled, and bytes are read back in rows.
+pub const SHORT: &str = "short";
 
 /// Of a unit: its short address.
 pub const ADDRESS: &str = "address";

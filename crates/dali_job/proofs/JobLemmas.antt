@@ -1,18 +1,21 @@
 -- Lemmas on what the command line names.
-use Rattle.std.proofs.Common.{◌≡◌, List, ℕ, Bool, Bor, Option, Some, None, IfSome, IfNone, true, false, option_map}
+use Rattle.std.proofs.Common.{◌≡◌, ◌<◌, ◌≤◌, List, [], ◌∷◌, ◌++◌, ℕ, zero, suc, map, take, length, get_or, arith}
+use Rattle.std.proofs.Common.{Bool, Bor, Option, Some, None, IfSome, IfNone, true, false, option_map}
 use Rattle.std.proofs.Common.{Result, Ok, Err, IfOk, IsOkAnd, codes, refl, ap, sym, subst, ◌∙◌}
+use Rattle.std.specs.Prelude.{unwrap_or}
 use mathlib.Core.Bool.{beq}
 use Rattle.std.specs.Bool.{Decides}
 use Rattle.std.specs.Option.{option_eq}
 use Rattle.std.specs.Str.Parse.{ParsesBool, ParsesUnsigned}
 use Rattle.std.proofs.lemmas.Bool.Decides.{Decides-like}
-use Rattle.clap.specs.Words.{App, HasMatchesOf, ReadsOne, Row, Text, first_of, is_simple, is_simple_and_free, one_of}
+use Rattle.clap.specs.Words.{App, HasMatchesOf, ReadsOne, Row, Text, all_of, first_of, is_simple, is_simple_and_free, one_of}
 use Rattle.clap.specs.Words.{AddsSubcommand, app_of, subcommand_of, subcommand_rows_of, with_subcommand}
 use Rattle.clap.specs.declared.builder.command.Command.{Command}
 use Rattle.clap.specs.declared.builder.command.Command.TheViews.{out-Command as fields_of}
 use Rattle.clap.specs.declared.parser.matches.ArgMatches.{ArgMatches}
 use Rattle.clap.proofs.OnLiterals.{clap_on_literals}
-use Rattle.dali_job.specs.Jobs.{HasFlag, HasNumber, HasOption, HasValue, IsEntered, IsJob, IsNoCheck, IsNoDrive}
+use Rattle.dali_job.specs.Jobs.{HasFlag, HasNumber, HasOption, HasValue, HasValues, IsEntered, IsJob, IsNoCheck, IsNoDrive}
+use Rattle.dali_job.specs.Jobs.{AreUnits, IsNoScan}
 use Rattle.dali_job.specs.Jobs.{IsNoJob, IsNumber, bench_app}
 use Rattle.dali_job.specs.declared.job.Job.{Job}
 use Rattle.dali_job.specs.declared.job.Job.TheVariants.{Check, Run, Frame, Show, Journal, Drive, Read, Verify, Scan}
@@ -132,6 +135,42 @@ number_none E G entered command id rows o only e value = not_found (one_of id ro
         let (error, read) = value t refl in
         no_number E G t error number only read (subst (λ given. IsNumber given number) same has.4)
 
+-- ---- short addresses
+
+abbrev pub texts_of : List (Bor Text) → List Text
+texts_of texts = map (λ (text : Bor Text). text.now) texts
+
+-- a parse gives an argument its values once
+pub same_values : (entered : Option (Text × List Row)) (command id : Text) (one other : List Text)
+    → HasValues entered command id one → HasValues entered command id other → one ≡ other
+same_values entered command id one other (rows, is, given) (more, also, got) =
+    let second : Option (Text × List Row) → Option (List Row) = option_map (λ p. p.1) in
+    let both : Some rows ≡ Some more = ap second (sym is ∙ also) in
+    let same : rows ≡ more = cc in
+    sym given ∙ ap (λ (r : List Row). unwrap_or (all_of id r) []) same ∙ got
+
+-- one more of them
+pub units_more : (texts : List (Bor Text)) (index : ℕ) (d : Bor Text) (units : List ℕ) (unit : ℕ) → index < length texts
+    → AreUnits (texts_of (take index texts)) units → IsNumber (get_or texts index d).now unit × (unit ≤ 63)
+    → AreUnits (texts_of (take (suc index) texts)) (units ++ unit ∷ [])
+units_more [] index d units unit below are is = absurd (omega arith)
+units_more (text ∷ texts) zero d [] unit below are is = ((is.0, tt), (is.1, tt))
+units_more (text ∷ texts) zero d (first ∷ units) unit below are is = absurd are.0
+units_more (text ∷ texts) (suc index) d [] unit below are is = absurd are.0
+units_more (text ∷ texts) (suc index) d (first ∷ units) unit below are is =
+    let rest = units_more texts index d units unit (omega arith) (are.0.1, are.1.1) is in
+    ((are.0.0, rest.0), (are.1.0, rest.1))
+
+-- where one text is none, they are no short addresses
+pub no_units : (texts : List (Bor Text)) (index : ℕ) (d : Bor Text) → index < length texts
+    → ((unit : ℕ) → ¬ (IsNumber (get_or texts index d).now unit × (unit ≤ 63)))
+    → (units : List ℕ) → ¬ AreUnits (texts_of texts) units
+no_units [] index d below none units = absurd (omega arith)
+no_units (text ∷ texts) index d below none [] = λ are. absurd are.0
+no_units (text ∷ texts) zero d below none (unit ∷ units) = λ are. none unit (are.0.0, are.1.0)
+no_units (text ∷ texts) (suc index) d below none (unit ∷ units) =
+    λ are. no_units texts index d (omega arith) none units (are.0.1, are.1.1)
+
 -- ---- commands
 
 -- where a command was made and added, the program is with it
@@ -153,19 +192,19 @@ pub no_job : (entered : Option (Text × List Row))
     → ((value : Text) → ¬ HasValue entered (codes "show") (codes "HEXFILE") value)
     → ((value : Text) → ¬ HasValue entered (codes "journal") (codes "FILE") value)
     → ((value : Text) → ¬ HasValue entered (codes "verify") (codes "ORDERS") value)
-    → ¬ IsEntered entered (codes "scan")
-    → ((unit : ℕ) (bank : Bor Text) → ¬ IsJob entered (Read unit bank)) → IsNoCheck entered → IsNoDrive entered
-    → IsNoJob entered
+    → ((unit : ℕ) (bank : Bor Text) (progress : Bool) → ¬ IsJob entered (Read unit bank progress))
+    → IsNoCheck entered → IsNoScan entered → IsNoDrive entered → IsNoJob entered
 no_job _ no_scenario _ _ _ _ _ _ _ _ (Run scenario _) = λ named. no_scenario scenario.now named.0
 no_job _ _ no_digits _ _ _ _ _ _ _ (Frame digits) = no_digits digits.now
 no_job _ _ _ no_dump _ _ _ _ _ _ (Show dump) = no_dump dump.now
 no_job _ _ _ _ no_records _ _ _ _ _ (Journal records _) = λ named. no_records records.now named.0
-no_job _ _ _ _ _ no_compared _ _ _ _ (Verify orders _) = λ named. no_compared orders.now named.0
-no_job _ _ _ _ _ _ no_scan _ _ _ Scan = no_scan
-no_job _ _ _ _ _ _ _ no_read _ _ (Read unit bank) = no_read unit bank
-no_job _ _ _ _ _ _ _ _ no_check _ (Check orders journal older) = no_check orders journal older
-no_job _ _ _ _ _ _ _ _ _ no_drive (Drive orders journal moment follow require_done require_now report older) =
-    no_drive orders journal moment follow require_done require_now report older
+no_job _ _ _ _ _ no_compared _ _ _ _ (Verify orders _ _) = λ named. no_compared orders.now named.0
+no_job _ _ _ _ _ _ no_read _ _ _ (Read unit bank progress) = no_read unit bank progress
+no_job _ _ _ _ _ _ _ no_check _ _ (Check orders journal older) = no_check orders journal older
+no_job _ _ _ _ _ _ _ _ no_scan _ (Scan units with_gtin progress) = no_scan units with_gtin progress
+no_job _ _ _ _ _ _ _ _ _ no_drive
+    (Drive orders journal moment follow short_plan require_done require_now progress report older) =
+    no_drive orders journal moment follow short_plan require_done require_now progress report older
 
 -- what follows from what there is where no job was found
 pub none_then : (found : Option Job) (P Q : Type 0) → (P → Q) → IfNone found P → IfNone found Q

@@ -1,5 +1,5 @@
 -- Which job short command lines ask for, by hand, on both sides of each rule.
-use Rattle.std.proofs.Common.{◌≡◌, ◌∙◌, refl, ap, ℕ, false, List, [], ◌∷◌, Option, Some, None, Bor, codes, arith}
+use Rattle.std.proofs.Common.{◌≡◌, ◌∙◌, refl, ap, ℕ, Bool, true, false, List, [], ◌∷◌, Option, Some, None, Bor, codes, arith}
 use Rattle.std.proofs.Common.{option_map, subst, get_or}
 use Rattle.std.specs.Prelude.{unwrap_or}
 use Rattle.std.specs.declared.vec.Vec.{Vec}
@@ -7,7 +7,8 @@ use Rattle.std.specs.declared.alloc.Global.{Global}
 use Rattle.clap.specs.Words.{Row, Text, all_of, first_of, one_of, subcommand_of}
 use Rattle.clap.proofs.OnLiterals.{clap_on_literals}
 use Rattle.dali_job.specs.declared.job.Job.TheVariants.{Check, Run, Read, Verify, Scan}
-use Rattle.dali_job.specs.Jobs.{HasFlag, HasNumber, HasOption, HasValue, HasValues, IsJobOf, IsNumber, bench_app}
+use Rattle.dali_job.specs.Jobs.{AreUnits, HasFlag, HasNumber, HasOption, HasUnits, HasValue, HasValues, IsJobOf}
+use Rattle.dali_job.specs.Jobs.{IsNumber, bench_app}
 
 -- ---- a number's text
 
@@ -70,14 +71,51 @@ values_are entered command id values (rows, is, given) =
 
 -- ---- commands without options
 
-pub scan_asked : IsJobOf (codes "dali_bench" ∷ codes "scan" ∷ []) Scan
+pub scan_asked : (units : Vec ℕ Global) → units.items ≡ []
+    → IsJobOf (codes "dali_bench" ∷ codes "scan" ∷ []) (Scan units false false)
 unfolding clap_on_literals
-scan_asked = (rows_in (entered_by (codes "scan" ∷ [])), refl)
+scan_asked units none =
+    let rows = rows_in (entered_by (codes "scan" ∷ [])) in (
+      ([], (rows, refl, refl), rw none (tt, tt)),
+      (
+        λ is. cc,
+        λ has.
+            let given : Some (codes "false") ≡ Some (codes "true") =
+            flag_is (entered_by (codes "scan" ∷ [])) (codes "scan") (codes "gtin") has in cc,
+      ),
+      (
+        λ is. cc,
+        λ has.
+            let given : Some (codes "false") ≡ Some (codes "true") =
+            flag_is (entered_by (codes "scan" ∷ [])) (codes "scan") (codes "progress") has in cc,
+      ),
+    )
 
-pub no_scan_asked_by_check : ¬ IsJobOf (codes "dali_bench" ∷ codes "check" ∷ codes "a" ∷ []) Scan
+-- the units in their order, with their GTINs
+abbrev scanned : Option (Text × List Row)
+scanned = entered_by (codes "scan" ∷ codes "7" ∷ codes "5" ∷ codes "--gtin" ∷ [])
+
+pub units_in_their_order : HasUnits scanned (codes "scan") (codes "UNIT") (7 ∷ 5 ∷ [])
 unfolding clap_on_literals
-no_scan_asked_by_check = λ (rows, is).
-    let other : codes "check" ≡ codes "scan" = ap name_in is in cc
+units_in_their_order = (
+  codes "7" ∷ codes "5" ∷ [],
+  (rows_in scanned, refl, refl),
+  (search arith, search arith),
+)
+
+pub gtin_asked : HasFlag scanned (codes "scan") (codes "gtin")
+unfolding clap_on_literals
+gtin_asked = (rows_in scanned, refl, refl)
+
+pub unit_64_not_scanned : (texts : List Text) → ¬ AreUnits texts (5 ∷ 64 ∷ [])
+unit_64_not_scanned texts = λ are. omega (arith, are.1.1.0)
+
+pub no_scan_asked_by_check : (units : Vec ℕ Global) (with_gtin progress : Bool)
+    → ¬ IsJobOf (codes "dali_bench" ∷ codes "check" ∷ codes "a" ∷ []) (Scan units with_gtin progress)
+unfolding clap_on_literals
+no_scan_asked_by_check units with_gtin progress = λ is.
+    let (texts, (rows, entered, given), are) = is.0 in
+    let other : codes "check" ≡ codes "scan" = ap name_in entered in cc
 
 -- the rows of a check of one file
 abbrev checked : List Text → Option (Text × List Row)
@@ -119,21 +157,36 @@ no_frames_unasked = λ has.
     let given : Some (codes "false") ≡ Some (codes "true") =
     flag_is (entered_by (codes "run" ∷ codes "a" ∷ [])) (codes "run") (codes "frames") has in cc
 
+pub progress_asked : HasFlag (entered_by (codes "scan" ∷ codes "--progress" ∷ [])) (codes "scan") (codes "progress")
+unfolding clap_on_literals
+progress_asked = (rows_in (entered_by (codes "scan" ∷ codes "--progress" ∷ [])), refl, refl)
+
+pub no_progress_unasked : (units : Vec ℕ Global) (with_gtin : Bool)
+    → ¬ IsJobOf (codes "dali_bench" ∷ codes "scan" ∷ []) (Scan units with_gtin true)
+unfolding clap_on_literals
+no_progress_unasked units with_gtin = λ is.
+    let given : Some (codes "false") ≡ Some (codes "true") =
+    flag_is (entered_by (codes "scan" ∷ [])) (codes "scan") (codes "progress") (is.2.0 refl) in cc
+
+pub progress_not_dropped : (units : Vec ℕ Global) (with_gtin : Bool)
+    → ¬ IsJobOf (codes "dali_bench" ∷ codes "scan" ∷ codes "--progress" ∷ []) (Scan units with_gtin false)
+progress_not_dropped units with_gtin = λ is. let given = is.2.1 progress_asked in cc
+
 pub frames_not_dropped : (scenario : Bor Text)
     → ¬ IsJobOf (codes "dali_bench" ∷ codes "run" ∷ codes "a" ∷ codes "--frames" ∷ []) (Run scenario false)
 frames_not_dropped scenario = λ is. let given = is.1.1 frames_asked in cc
 
 -- ---- units, options and moments
 
-pub unit_64_not_read : (bank : Bor Text)
-    → ¬ IsJobOf (codes "dali_bench" ∷ codes "read" ∷ codes "64" ∷ codes "b" ∷ []) (Read 64 bank)
-unit_64_not_read bank = λ is. omega (arith, is.0.1)
+pub unit_64_not_read : (bank : Bor Text) (progress : Bool)
+    → ¬ IsJobOf (codes "dali_bench" ∷ codes "read" ∷ codes "64" ∷ codes "b" ∷ []) (Read 64 bank progress)
+unit_64_not_read bank progress = λ is. omega (arith, is.0.1)
 
-pub report_not_dropped : (orders : Bor Text)
+pub report_not_dropped : (orders : Bor Text) (progress : Bool)
     → ¬ IsJobOf (codes "dali_bench" ∷ codes "verify" ∷ codes "a" ∷ codes "--report" ∷ codes "r" ∷ [])
-    (Verify orders None)
+    (Verify orders None progress)
 unfolding clap_on_literals
-report_not_dropped orders = λ is.
+report_not_dropped orders progress = λ is.
     let (rows, entered, none) = is.1 in
     let left_out : Some (codes "r") ≡ None = ap (λ e. first_of (codes "report") (rows_in e)) entered ∙ none in cc
 

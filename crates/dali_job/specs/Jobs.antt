@@ -2,12 +2,14 @@
 use Rattle.std.specs.Prelude.{◌≡◌, ◌<◌, ◌≤◌, ◌^◌, ℕ, Bool, List, [], ◌∷◌, Option, Some, None, codes, map, true}
 use Rattle.std.specs.Prelude.{unwrap_or}
 use Rattle.std.specs.Bool.{Decides}
+use Rattle.std.specs.List.{AllByRecursion, AllZip}
 use Rattle.std.specs.Borrow.{Bor}
 use Rattle.std.specs.Str.Parse.{IsNumeral, digits_value, without_leading_plus}
 use Rattle.std.specs.declared.vec.Vec.{Vec}
 use Rattle.std.specs.declared.alloc.Global.{Global}
 use Rattle.clap.specs.Words.{App, Row, Rule, Text, all_of, first_of, new_app, new_rule, one_of, subcommand_of}
 use Rattle.clap.specs.Words.{with_rule, with_subcommand}
+use Rattle.clap.specs.declared.builder.ArgAction.{ArgAction}
 use Rattle.clap.specs.declared.builder.ArgAction.TheVariants.{Append, Set, SetTrue}
 use Rattle.clap.specs.declared.builder.ValueParser.TheVariants.{Unsigned}
 use Rattle.dali_job.specs.declared.job.Job.{Job}
@@ -39,9 +41,16 @@ option_rule id = record (new_rule id) { long = Some id; action = Some Set; value
 abbrev pub many_rule : Text → Rule
 many_rule id = record (new_rule id) { long = Some id; action = Some Append; value_names = 1 }
 
--- an argument that has to be there, and takes the short address of a unit
+-- an argument that takes the short address of a unit
+abbrev pub address_rule : Text → ArgAction → Rule
+address_rule id action = record (new_rule id) { action = Some action; parser = Some (Unsigned 0 63) }
+
+-- one that has to be there, and one that may be given more than once, or left out
 abbrev pub unit_rule : Text → Rule
-unit_rule id = record (value_rule id) { parser = Some (Unsigned 0 63) }
+unit_rule id = record (address_rule id Set) { required = true }
+
+abbrev pub units_rule : Text → Rule
+units_rule id = address_rule id Append
 
 -- a command with one argument
 abbrev pub command_app : Text → Text → App
@@ -64,23 +73,32 @@ run_app = with_rule (command_app (codes "run") (codes "SCENARIO")) (flag_rule (c
 abbrev pub journal_app : App
 journal_app = with_rule (command_app (codes "journal") (codes "FILE")) (flag_rule (codes "updates"))
 
--- the command that drives, with its two files, the moment, which is 0 where it isn't given, its three flags, its
+-- the command that drives, with its two files, the moment, which is 0 where it isn't given, its five flags, its
 -- report, and the older journals
 abbrev pub drive_app : App
 drive_app = let files = with_rule (command_app (codes "drive") (codes "ORDERS")) (value_rule (codes "JOURNAL")) in
     let timed = with_rule files (number_rule (codes "moment") (codes "0")) in
     let followed = with_rule timed (flag_rule (codes "follow")) in
-    let flagged = with_rule followed (flag_rule (codes "require-done")) in
+    let planned = with_rule followed (flag_rule (codes "short-plan")) in
+    let flagged = with_rule planned (flag_rule (codes "require-done")) in
     let strict = with_rule flagged (flag_rule (codes "require-now")) in
-    with_rule (with_rule strict (option_rule (codes "report"))) (many_rule (codes "older"))
+    let watched = with_rule strict (flag_rule (codes "progress")) in
+    with_rule (with_rule watched (option_rule (codes "report"))) (many_rule (codes "older"))
 
--- the command that reads, with its unit and its file
+-- the command that reads, with its unit, its file and its flag
 abbrev pub read_app : App
-read_app = with_rule (with_rule (new_app (codes "read")) (unit_rule (codes "UNIT"))) (value_rule (codes "HEXFILE"))
+read_app = let unit = with_rule (new_app (codes "read")) (unit_rule (codes "UNIT")) in
+    with_rule (with_rule unit (value_rule (codes "HEXFILE"))) (flag_rule (codes "progress"))
 
--- the command that compares units with orders, with its report
+-- the command that compares units with orders, with its report and its flag
 abbrev pub verify_app : App
-verify_app = with_rule (command_app (codes "verify") (codes "ORDERS")) (option_rule (codes "report"))
+verify_app = let reported = with_rule (command_app (codes "verify") (codes "ORDERS")) (option_rule (codes "report")) in
+    with_rule reported (flag_rule (codes "progress"))
+
+-- the command that looks which units answer, with their short addresses and its flags
+abbrev pub scan_app : App
+scan_app = let units = with_rule (new_app (codes "scan")) (units_rule (codes "UNIT")) in
+    with_rule (with_rule units (flag_rule (codes "gtin"))) (flag_rule (codes "progress"))
 
 -- the program's commands and their arguments, as `clap` sees them
 abbrev pub bench_app : App
@@ -92,7 +110,7 @@ bench_app = let checks = with_subcommand top_app check_app.top in
     let drives = with_subcommand journals drive_app.top in
     let reads = with_subcommand drives read_app.top in
     let verifies = with_subcommand reads verify_app.top in
-    with_subcommand verifies (new_app (codes "scan")).top
+    with_subcommand verifies scan_app.top
 
 -- a parse entered the command
 abbrev pub IsEntered : Option (Text × List Row) → Text → Type 0
@@ -138,6 +156,15 @@ HasNumber entered command id number = (rows : List Row) × (text : Text) × (ent
 abbrev pub HasUnit : Option (Text × List Row) → Text → Text → ℕ → Type 0
 HasUnit entered command id unit = HasNumber entered command id unit × (unit ≤ 63)
 
+-- the texts are these short addresses of units, in their order
+abbrev pub AreUnits : List Text → List ℕ → Type 0
+AreUnits texts units = AllZip IsNumber texts units × AllByRecursion (λ unit. unit ≤ 63) units
+
+-- a parse entered the command, and its argument was given just these short addresses of units, in their order
+abbrev pub HasUnits : Option (Text × List Row) → Text → Text → List ℕ → Type 0
+HasUnits entered command id units =
+    (texts : List Text) × HasValues entered command id texts × AreUnits texts units
+
 -- the job is the command that a parse entered, with its values, flags, numbers and options
 abbrev pub IsJob : Option (Text × List Row) → Job → Type 0
 IsJob entered (Check orders journal older) =
@@ -152,22 +179,29 @@ IsJob entered (Show dump) = HasValue entered (codes "show") (codes "HEXFILE") du
 IsJob entered (Journal records with_updates) =
     HasValue entered (codes "journal") (codes "FILE") records.now
     × Decides with_updates (HasFlag entered (codes "journal") (codes "updates"))
-IsJob entered (Drive orders journal moment follow require_done require_now report older) =
+IsJob entered (Drive orders journal moment follow short_plan require_done require_now progress report older) =
     HasValue entered (codes "drive") (codes "ORDERS") orders.now
     × HasValue entered (codes "drive") (codes "JOURNAL") journal.now
     × HasNumber entered (codes "drive") (codes "moment") moment
     × Decides follow (HasFlag entered (codes "drive") (codes "follow"))
+    × Decides short_plan (HasFlag entered (codes "drive") (codes "short-plan"))
     × Decides require_done (HasFlag entered (codes "drive") (codes "require-done"))
     × Decides require_now (HasFlag entered (codes "drive") (codes "require-now"))
+    × Decides progress (HasFlag entered (codes "drive") (codes "progress"))
     × HasOption entered (codes "drive") (codes "report") report
     × HasValues entered (codes "drive") (codes "older") (map (λ value. value.now) older.items)
-IsJob entered (Read unit bank) =
+IsJob entered (Read unit bank progress) =
     HasUnit entered (codes "read") (codes "UNIT") unit
     × HasValue entered (codes "read") (codes "HEXFILE") bank.now
-IsJob entered (Verify orders report) =
+    × Decides progress (HasFlag entered (codes "read") (codes "progress"))
+IsJob entered (Verify orders report progress) =
     HasValue entered (codes "verify") (codes "ORDERS") orders.now
     × HasOption entered (codes "verify") (codes "report") report
-IsJob entered Scan = IsEntered entered (codes "scan")
+    × Decides progress (HasFlag entered (codes "verify") (codes "progress"))
+IsJob entered (Scan units with_gtin progress) =
+    HasUnits entered (codes "scan") (codes "UNIT") units.items
+    × Decides with_gtin (HasFlag entered (codes "scan") (codes "gtin"))
+    × Decides progress (HasFlag entered (codes "scan") (codes "progress"))
 
 -- no job of checking is that of the command that a parse entered
 abbrev pub IsNoCheck : Option (Text × List Row) → Type 0
@@ -176,9 +210,14 @@ IsNoCheck entered = (orders : Bor Text) (journal : Option (Bor Text)) (older : V
 
 -- no job of driving is that of the command that a parse entered
 abbrev pub IsNoDrive : Option (Text × List Row) → Type 0
-IsNoDrive entered = (orders journal : Bor Text) (moment : ℕ) (follow require_done require_now : Bool)
+IsNoDrive entered = (orders journal : Bor Text) (moment : ℕ)
+    (follow short_plan require_done require_now progress : Bool)
     (report : Option (Bor Text)) (older : Vec (Bor Text) Global)
-    → ¬ IsJob entered (Drive orders journal moment follow require_done require_now report older)
+    → ¬ IsJob entered (Drive orders journal moment follow short_plan require_done require_now progress report older)
+
+-- no job of looking which units answer is that of the command that a parse entered
+abbrev pub IsNoScan : Option (Text × List Row) → Type 0
+IsNoScan entered = (units : Vec ℕ Global) (with_gtin progress : Bool) → ¬ IsJob entered (Scan units with_gtin progress)
 
 -- no job is that of the command that a parse entered
 abbrev pub IsNoJob : Option (Text × List Row) → Type 0

@@ -2,15 +2,17 @@
 ghost use Rattle.std.specs.Prelude.{◌≡◌, IfOk, IsOkAnd, codes, false};
 ghost use Rattle.clap.specs.declared.builder.command.Command.TheViews.{out-Command as fields_of};
 ghost use Rattle.clap.specs.Words.{AddsSubcommand, app_of, new_app, rule_of};
-ghost use Rattle.dali_job.specs.Jobs.{bench_app, check_app, command_app, drive_app, flag_rule, journal_app, many_rule};
-ghost use Rattle.dali_job.specs.Jobs.{number_rule, option_rule, read_app, run_app, unit_rule, value_rule, verify_app};
+ghost use Rattle.dali_job.specs.Jobs.{address_rule, bench_app, check_app, command_app, drive_app, flag_rule, journal_app, many_rule};
+ghost use Rattle.dali_job.specs.Jobs.{number_rule, option_rule, read_app, run_app, scan_app, unit_rule, units_rule};
+ghost use Rattle.dali_job.specs.Jobs.{value_rule, verify_app};
 
 use crate::usages::{
     ABOUT, Argument, CHECK, CHECK_JOURNAL_HELP, CHECK_OLDER_HELP, CHECK_ORDERS, DRIVE,
     DRIVE_DONE_HELP, DRIVE_FOLLOW_HELP, DRIVE_JOURNAL_HELP, DRIVE_MOMENT_HELP, DRIVE_NOW_HELP,
-    DRIVE_OLDER_HELP, DRIVE_REPORT_HELP, FRAME, FRAME_HEX, JOURNAL, JOURNAL_FILE,
-    JOURNAL_UPDATES_HELP, LINK_ORDERS, READ, READ_BANK_HELP, READ_UNIT_HELP, RUN, RUN_FRAMES_HELP,
-    RUN_SCENARIO, SCAN, SHOW, SHOW_DUMP, TOP_HELP, Usage, VERIFY, VERIFY_REPORT_HELP,
+    DRIVE_OLDER_HELP, DRIVE_REPORT_HELP, DRIVE_SHORT_HELP, FRAME, FRAME_HEX, JOURNAL, JOURNAL_FILE,
+    JOURNAL_UPDATES_HELP, LINK_ORDERS, PROGRESS_HELP, READ, READ_BANK_HELP, READ_UNIT_HELP, RUN,
+    RUN_FRAMES_HELP, RUN_SCENARIO, SCAN, SCAN_GTIN_HELP, SCAN_UNITS_HELP, SHOW, SHOW_DUMP,
+    TOP_HELP, Usage, VERIFY, VERIFY_REPORT_HELP,
 };
 use clap::{Arg, ArgAction, Command, value_parser};
 use std::alloc::{AllocError, Global};
@@ -31,7 +33,7 @@ pub(crate) fn bench_command<'a>(alloc: Global) -> Result<Command<'a>, AllocError
     let drives = with_made(journals, drive_command(alloc))?;
     let reads = with_made(drives, read_command(alloc))?;
     let verifies = with_made(reads, verify_command(alloc))?;
-    verifies.subcommand(plain_command(alloc, &SCAN))
+    with_made(verifies, scan_command(alloc))
 }
 
 // The program with one more command, where that one could be made.
@@ -85,27 +87,42 @@ fn drive_command<'a>(alloc: Global) -> Result<Command<'a>, AllocError>
     ))?;
     let timed = files.arg(moment_option(alloc))?;
     let followed = timed.arg(flag_of(alloc, "follow", DRIVE_FOLLOW_HELP))?;
-    let flagged = followed.arg(flag_of(alloc, "require-done", DRIVE_DONE_HELP))?;
+    let planned = followed.arg(flag_of(alloc, "short-plan", DRIVE_SHORT_HELP))?;
+    let flagged = planned.arg(flag_of(alloc, "require-done", DRIVE_DONE_HELP))?;
     let strict = flagged.arg(flag_of(alloc, "require-now", DRIVE_NOW_HELP))?;
-    let reported = strict.arg(file_option(alloc, "report", DRIVE_REPORT_HELP))?;
+    let watched = strict.arg(flag_of(alloc, "progress", PROGRESS_HELP))?;
+    let reported = watched.arg(file_option(alloc, "report", DRIVE_REPORT_HELP))?;
     reported.arg(older_option(alloc, DRIVE_OLDER_HELP))
 }
 
-// The command that compares units with orders, with its report.
+// The command that compares units with orders, with its report and its flag.
 fn verify_command<'a>(alloc: Global) -> Result<Command<'a>, AllocError>
     ensures app { IfOk result (λ command. app_of command ≡ verify_app) }
     ensures local { IfOk result (λ command. (fields_of command).has_globals ≡ false) }
 {
-    command_of(alloc, &VERIFY, &LINK_ORDERS)?.arg(file_option(alloc, "report", VERIFY_REPORT_HELP))
+    let orders = command_of(alloc, &VERIFY, &LINK_ORDERS)?;
+    let reported = orders.arg(file_option(alloc, "report", VERIFY_REPORT_HELP))?;
+    reported.arg(flag_of(alloc, "progress", PROGRESS_HELP))
 }
 
-// The command that reads a bank over a link.
+// The command that looks which units answer over a link, with its flags.
+fn scan_command<'a>(alloc: Global) -> Result<Command<'a>, AllocError>
+    ensures app { IfOk result (λ command. app_of command ≡ scan_app) }
+    ensures local { IfOk result (λ command. (fields_of command).has_globals ≡ false) }
+{
+    let units = plain_command(alloc, &SCAN).arg(units_argument(alloc))?;
+    let named = units.arg(flag_of(alloc, "gtin", SCAN_GTIN_HELP))?;
+    named.arg(flag_of(alloc, "progress", PROGRESS_HELP))
+}
+
+// The command that reads a bank over a link, with its flag.
 fn read_command<'a>(alloc: Global) -> Result<Command<'a>, AllocError>
     ensures app { IfOk result (λ command. app_of command ≡ read_app) }
     ensures local { IfOk result (λ command. (fields_of command).has_globals ≡ false) }
 {
     let unit = plain_command(alloc, &READ).arg(unit_argument(alloc))?;
-    unit.arg(value_argument(alloc, "HEXFILE", READ_BANK_HELP))
+    let read = unit.arg(value_argument(alloc, "HEXFILE", READ_BANK_HELP))?;
+    read.arg(flag_of(alloc, "progress", PROGRESS_HELP))
 }
 
 // A command with one argument, which has to be there.
@@ -146,11 +163,26 @@ fn unit_argument<'a>(alloc: Global) -> Arg<'a>
     ensures rule { rule_of result ≡ unit_rule (codes "UNIT") }
     ensures local { result.global ≡ false }
 {
+    address_argument(alloc, READ_UNIT_HELP, ArgAction::Set).required(true)
+}
+
+// The units of `scan`, which may be left out.
+fn units_argument<'a>(alloc: Global) -> Arg<'a>
+    ensures rule { rule_of result ≡ units_rule (codes "UNIT") }
+    ensures local { result.global ≡ false }
+{
+    address_argument(alloc, SCAN_UNITS_HELP, ArgAction::Append)
+}
+
+// An argument that takes the short address of a unit.
+fn address_argument<'a>(alloc: Global, help: &'a str, action: ArgAction) -> Arg<'a>
+    ensures rule { rule_of result ≡ address_rule (codes "UNIT") action }
+    ensures local { result.global ≡ false }
+{
     Arg::new(alloc, "UNIT")
-        .help(READ_UNIT_HELP)
-        .required(true)
+        .help(help)
         .value_parser(value_parser!(u64).range(..=63))
-        .action(ArgAction::Set)
+        .action(action)
 }
 
 // A flag under its own name.

@@ -1,9 +1,9 @@
-ghost use Rattle.std.specs.Prelude.{◌≡◌, ◌⊎◌, [], List, ℕ, IfOk, IfErr, IfSome, IfNone, map, unwrap_or};
+ghost use Rattle.std.specs.Prelude.{◌≡◌, ◌≤◌, ◌⊎◌, [], Bool, List, ℕ, IfOk, IfErr, IfSome, IfNone, map, unwrap_or};
 ghost use Rattle.std.specs.Bool.{Decides};
 ghost use Rattle.std.specs.Borrow.{Bor};
 ghost use Rattle.clap.specs.Words.{HasKind, all_of, app_of, fault_of, found_of, rows_of, subcommand_rows_of};
-ghost use Rattle.dali_job.specs.Jobs.{HasFlag, HasNumber, HasUnit, HasValue, HasValues, IsEntered, IsJob, IsJobOf};
-ghost use Rattle.dali_job.specs.Jobs.{IsNoCheck, IsNoDrive, IsNoJob, NamesNoJob, bench_app};
+ghost use Rattle.dali_job.specs.Jobs.{AreUnits, HasFlag, HasNumber, HasUnit, HasValue, HasValues, IsJob, IsJobOf};
+ghost use Rattle.dali_job.specs.Jobs.{IsNoCheck, IsNoDrive, IsNoJob, IsNoScan, IsNumber, NamesNoJob, bench_app};
 ghost use Rattle.dali_job.specs.declared.job.Job.TheVariants.{Read};
 
 use crate::commands::bench_command;
@@ -38,34 +38,43 @@ pub enum Job<'a> {
     },
     /// To carry out a file of orders over a link, with the journal of a file. `moment` is kept with
     /// each order that begins. With `follow` the file is a stream, of which each line is carried out
-    /// before the next is read. With `require_done` it is to end well only where each order is done,
-    /// with `require_now` only where each was done by it.
-    /// `report` is the file, if one is wanted, that gets a line for each order at its last reply.
-    /// `older` are the journals whose orders get their kept replies, in the order in which they were
-    /// given.
+    /// before the next is read. With `short_plan` its sessions keep to the short plan. With
+    /// `require_done` it is to end well only where each order is done, with `require_now` only where
+    /// each was done by it. With `progress` a person sees on standard error how far it is. `report` is
+    /// the file, if one is wanted, that gets a line for each order at its last reply. `older` are the
+    /// journals whose orders get their kept replies, in the order in which they were given.
     Drive {
         orders: &'a str,
         journal: &'a str,
         moment: u64,
         follow: bool,
+        short_plan: bool,
         require_done: bool,
         require_now: bool,
+        progress: bool,
         report: Option<&'a str>,
         older: Vec<&'a str>,
     },
-    /// To read bank 1 of a unit over a link into a file.
+    /// To read bank 1 of a unit over a link into a file; with `progress` as `Drive`.
     Read {
         unit: u8,
         bank: &'a str,
+        progress: bool,
     },
     /// To compare memory bank 1 of units with a file of orders, over a link. `report` is the file, if
-    /// one is wanted, that gets a line for each order with what was found.
+    /// one is wanted, that gets a line for each order with what was found; with `progress` as `Drive`.
     Verify {
         orders: &'a str,
         report: Option<&'a str>,
+        progress: bool,
     },
-    /// To look which units of a link answer.
-    Scan,
+    /// To look which units of a link answer: those at these short addresses, or all where none is named. With
+    /// `with_gtin` each is also asked for its GTIN and its identification number; with `progress` as `Drive`.
+    Scan {
+        units: Vec<u8>,
+        with_gtin: bool,
+        progress: bool,
+    },
 }
 
 /// Reads the command line, the program's name first.
@@ -124,18 +133,21 @@ fn job_in<'a>(alloc: Global, matches: &ArgMatches<'a>) -> Result<Option<Job<'a>>
     if let Some(job) = other_job_in(matches) {
         return Ok(Some(job));
     }
-    match check_in(alloc, matches)? {
+    if let Some(job) = check_in(alloc, matches)? {
+        return Ok(Some(job));
+    }
+    match scan_in(alloc, matches)? {
         Some(job) => Ok(Some(job)),
         None => drive_in(alloc, matches),
     }
 }
 
-// The job of the command that a parse entered, where that is another than `check` and `drive`.
+// The job of the command that a parse entered, where that is another than `check`, `scan` and `drive`.
 fn other_job_in<'a>(matches: &ArgMatches<'a>) -> Option<Job<'a>>
     ensures named { IfSome result (IsJob (subcommand_rows_of matches.now)) }
     ensures none { IfNone result
-        (IsNoCheck (subcommand_rows_of matches.now) → IsNoDrive (subcommand_rows_of matches.now)
-        → IsNoJob (subcommand_rows_of matches.now)) }
+        (IsNoCheck (subcommand_rows_of matches.now) → IsNoScan (subcommand_rows_of matches.now)
+        → IsNoDrive (subcommand_rows_of matches.now) → IsNoJob (subcommand_rows_of matches.now)) }
 {
     if let Some(scenario) = value_of(matches, "run", "SCENARIO") {
         let single_frames = has_flag(matches, "run", "frames");
@@ -159,10 +171,12 @@ fn other_job_in<'a>(matches: &ArgMatches<'a>) -> Option<Job<'a>>
     }
     if let Some(orders) = value_of(matches, "verify", "ORDERS") {
         let report = value_of(matches, "verify", "report");
-        return Some(Job::Verify { orders, report });
-    }
-    if is_entered(matches, "scan") {
-        return Some(Job::Scan);
+        let progress = has_flag(matches, "verify", "progress");
+        return Some(Job::Verify {
+            orders,
+            report,
+            progress,
+        });
     }
     read_in(matches)
 }
@@ -171,11 +185,17 @@ fn other_job_in<'a>(matches: &ArgMatches<'a>) -> Option<Job<'a>>
 fn read_in<'a>(matches: &ArgMatches<'a>) -> Option<Job<'a>>
     ensures named { IfSome result (IsJob (subcommand_rows_of matches.now)) }
     ensures none { IfNone result
-        ((unit : ℕ) (bank : Bor (List ℕ)) → ¬ IsJob (subcommand_rows_of matches.now) (Read unit bank)) }
+        ((unit : ℕ) (bank : Bor (List ℕ)) (progress : Bool)
+        → ¬ IsJob (subcommand_rows_of matches.now) (Read unit bank progress)) }
 {
     let unit = unit_of(matches, "read", "UNIT")?;
     let bank = value_of(matches, "read", "HEXFILE")?;
-    Some(Job::Read { unit, bank })
+    let progress = has_flag(matches, "read", "progress");
+    Some(Job::Read {
+        unit,
+        bank,
+        progress,
+    })
 }
 
 // The job of the command that checks, where a parse entered it.
@@ -198,6 +218,27 @@ fn check_in<'a>(alloc: Global, matches: &ArgMatches<'a>) -> Result<Option<Job<'a
     Ok(Some(job))
 }
 
+// The job of the command that looks which units answer, where a parse entered it.
+fn scan_in<'a>(alloc: Global, matches: &ArgMatches<'a>) -> Result<Option<Job<'a>>, AllocError>
+    ensures named { IfOk result (λ found. IfSome found (IsJob (subcommand_rows_of matches.now))) }
+    ensures none { IfOk result (λ found. IfNone found (IsNoScan (subcommand_rows_of matches.now))) }
+{
+    let Some(texts) = values_of(alloc, matches, "scan", "UNIT")? else {
+        return Ok(None);
+    };
+    let Some(units) = units_of(alloc, texts.as_slice())? else {
+        return Ok(None);
+    };
+    let with_gtin = has_flag(matches, "scan", "gtin");
+    let progress = has_flag(matches, "scan", "progress");
+    let job = Job::Scan {
+        units,
+        with_gtin,
+        progress,
+    };
+    Ok(Some(job))
+}
+
 // The job of the command that drives, where a parse entered it.
 fn drive_in<'a>(alloc: Global, matches: &ArgMatches<'a>) -> Result<Option<Job<'a>>, AllocError>
     ensures named { IfOk result (λ found. IfSome found (IsJob (subcommand_rows_of matches.now))) }
@@ -216,16 +257,20 @@ fn drive_in<'a>(alloc: Global, matches: &ArgMatches<'a>) -> Result<Option<Job<'a
         return Ok(None);
     };
     let follow = has_flag(matches, "drive", "follow");
+    let short_plan = has_flag(matches, "drive", "short-plan");
     let require_done = has_flag(matches, "drive", "require-done");
     let require_now = has_flag(matches, "drive", "require-now");
+    let progress = has_flag(matches, "drive", "progress");
     let report = value_of(matches, "drive", "report");
     let job = Job::Drive {
         orders,
         journal,
         moment,
         follow,
+        short_plan,
         require_done,
         require_now,
+        progress,
         report,
         older,
     };
@@ -303,11 +348,32 @@ fn unit_of(matches: &ArgMatches<'_>, command: &str, id: &str) -> Option<u8>
     }
 }
 
-// Whether a parse entered the command.
-fn is_entered(matches: &ArgMatches<'_>, command: &str) -> bool
-    ensures { Decides result (IsEntered (subcommand_rows_of matches.now) command.now) }
+// The short addresses that these texts are, in their order: none where one of them is none.
+fn units_of(alloc: Global, texts: &[&str]) -> Result<Option<Vec<u8>>, AllocError>
+    ensures found { IfOk result (λ found. IfSome found (λ units.
+        AreUnits (map (λ text. text.now) texts.now) units.items)) }
+    ensures none { IfOk result (λ found. IfNone found
+        ((units : List ℕ) → ¬ AreUnits (map (λ text. text.now) texts.now) units)) }
 {
-    matches.subcommand_matches(command).is_some()
+    let mut units = Vec::new(alloc);
+    for text in texts {
+        let Some(unit) = unit_in(text) else {
+            return Ok(None);
+        };
+        units.push(unit)?;
+    }
+    Ok(Some(units))
+}
+
+// The short address that a text is, if it is one.
+fn unit_in(text: &str) -> Option<u8>
+    ensures found { IfSome result (λ unit. IsNumber text.now unit × (unit ≤ 63)) }
+    ensures none { IfNone result ((unit : ℕ) → ¬ (IsNumber text.now unit × (unit ≤ 63))) }
+{
+    match text.parse::<u64>() {
+        Ok(number) if number <= 63 => Some(number as u8),
+        _ => None,
+    }
 }
 
 // Whether a parse entered the command with its flag.

@@ -19,7 +19,7 @@ checks orders, and runs them on simulated units";
 
 pub(crate) const TOP_HELP: &str = "\
 A file named - is standard input; not for `drive` and `verify`, which have the answers there.
-`dali_bench --version` alone prints the version, and the logic that it is proved with.";
+`dali_bench --version`, or `-V`, alone prints the version, and the logic that it is proved with.";
 
 pub(crate) static CHECK: Usage<'static> = Usage {
     name: "check",
@@ -174,11 +174,17 @@ pub(crate) const DRIVE_MOMENT_HELP: &str =
 pub(crate) const DRIVE_FOLLOW_HELP: &str =
     "Takes ORDERS as a stream, such as a named pipe, and carries out each line before it reads the next";
 
+pub(crate) const DRIVE_SHORT_HELP: &str =
+    "Takes half the frames: a unit stays write-enabled, and bytes are read back in rows";
+
 pub(crate) const DRIVE_DONE_HELP: &str =
     "Ends with 1 where the last reply of some order isn't `kept 0 Done`";
 
 pub(crate) const DRIVE_NOW_HELP: &str =
     "The same, and where it isn't this drive that ended the order";
+
+pub(crate) const PROGRESS_HELP: &str =
+    "Shows on standard error, for a person, how far it is, and at the end what it came to";
 
 pub(crate) const DRIVE_REPORT_HELP: &str =
     "A file to which a line of JSON is added for each order at its last reply";
@@ -227,8 +233,16 @@ pub(crate) static SCAN: Usage<'static> = Usage {
     name: "scan",
     about: "Looks which units answer over a link: standard output has the frames, standard input the answers",
     faults: "\
-A line for each unit that answers, on standard error: `unit U last LL`, its last location in hexadecimal;
-and then `units K`.
+A line for each unit that answers, on standard error: `unit U last LL`, its last location in hexadecimal, with
+--gtin and ` gtin G identification I` behind it, as `show` prints both, where its bank reaches them; and then
+`units K`.
 Nothing is written to a unit, and none is write-enabled. Faults of the link as of `read`.
-Exit status: 0 all were asked, 1 for 3 Line, 4 End, 6 TooLong, 2 the memory, the link or the output failed.",
+Exit status: 0 all were asked, 1 for 3 Line, 4 End, 6 TooLong, or a unit that is named twice,
+2 the memory, the link or the output failed.",
 };
+
+pub(crate) const SCAN_UNITS_HELP: &str =
+    "The short addresses that are asked, 0 to 63, each once; all where none is named";
+
+pub(crate) const SCAN_GTIN_HELP: &str =
+    "Reads the GTIN and the identification number of each unit that answers too, in 20 frames more";

@@ -11,8 +11,10 @@ use Rattle.dali_journal.specs.declared.record.Code.{Code}
 use Rattle.dali_journal.specs.declared.record.Record.{Record}
 use Rattle.dali_journal.specs.declared.record.Record.TheVariants.{Began}
 use Rattle.dali_journal.specs.declared.read.Pairs.TheVariants as lists
-use Rattle.dali_journal.specs.declared.version.Version.TheVariants.{Two}
-use Rattle.dali_journal.specs.Spelling.{head_spelling, spelling, pairs_spelling, records_spelling}
+use Rattle.dali_journal.specs.declared.record.Code.TheVariants.{Done, Short, Format, Silent, Doubt, DoubtOpen}
+use Rattle.dali_journal.specs.declared.version.Version.{Version}
+use Rattle.dali_journal.specs.declared.version.Version.TheVariants.{One, Two}
+use Rattle.dali_journal.specs.Spelling.{head_spelling, spelling, pairs_spelling, records_spelling, IsMoment}
 use Rattle.dali_journal.specs.GroupAhead.{AreUpdatesAbove, HasUpdates, HasBegan, HasEnd, HasGroup}
 use Rattle.dali_journal.specs.GroupAhead.{last_location, end_records}
 use Rattle.dali_journal.specs.Reading.{IsRead}
@@ -93,19 +95,19 @@ updates_there count most bytes twice within are = record {
 }
 
 -- a Began whose updates are there is there
-began_whole : (id moment unit count : ℕ) (bytes rest : List ℕ) → AreBytes rest → id < 2 ^ 64 → moment < 2 ^ 64
-    → unit ≤ 63 → 1 ≤ count
-    → 0x42 ∷ head_spelling Two id moment ++ unit ∷ count ∷ rest ≡ bytes → HasUpdates count 0 rest
-    → HasBegan id unit (head_length Two + 2 * count) bytes
-began_whole id moment unit count bytes rest are i m u some same has =
+began_whole : (version : Version) (id moment unit count : ℕ) (bytes rest : List ℕ) → AreBytes rest → id < 2 ^ 64
+    → IsMoment version moment → unit ≤ 63 → 1 ≤ count
+    → 0x42 ∷ head_spelling version id moment ++ unit ∷ count ∷ rest ≡ bytes → HasUpdates count 0 rest
+    → HasBegan version id unit (head_length version + 2 * count) bytes
+began_whole version id moment unit count bytes rest are i m u some same has =
     let in_range = pairs_in_range has.updates
     (bytes_front (pairs_spelling has.updates) has.rest (subst AreBytes has.spelled are)) in
     let climbs = climb 0 has.updates has.rising has.writable in_range in
     let few : count ≤ 115 = omega (arith, length-climb 0 has.updates climbs, has.counted) in
-    let reads = reads-began Two id moment unit count rest (lists.Whole (record { items = has.updates })) i m u some few
-    (record { length_is = has.counted; rises = climbs }, has.rest, has.spelled) in
-    let piece = began_piece Two id moment unit count (lists.Whole (record { items = has.updates })) in
-    let there = subst (λ (bs : List ℕ). IsRead Two bs piece) same reads in
+    let reads = reads-began version id moment unit count rest (lists.Whole (record { items = has.updates })) i m u some
+    few (record { length_is = has.counted; rises = climbs }, has.rest, has.spelled) in
+    let piece = began_piece version id moment unit count (lists.Whole (record { items = has.updates })) in
+    let there = subst (λ (bs : List ℕ). IsRead version bs piece) same reads in
     record {
       order = record { id = id; unit = unit; updates = has.updates };
       moment = moment;
@@ -134,7 +136,7 @@ pub began_there : (letter id : ℕ) (bytes rest number behind time after_time tw
     → two ≡ take 2 after_time → after ≡ drop 2 after_time → length after + 2 ≡ length after_time
     → id ≡ from_be_bytes w64 number → get_or two 0 0 ≤ 63 → 1 ≤ get_or two 1 0
     → HasUpdates (get_or two 1 0) 0 after
-    → HasBegan id (get_or two 0 0) (head_length Two + 2 * get_or two 1 0) bytes
+    → HasBegan Two id (get_or two 0 0) (head_length Two + 2 * get_or two 1 0) bytes
 began_there letter id bytes rest number behind time after_time two after are front is_b n b long m c longer t a more i u
     some has =
     let first = number_front rest number behind (subst AreBytes front are).1 n b long in
@@ -146,31 +148,66 @@ began_there letter id bytes rest number behind time after_time two after are fro
     ++ get_or two 0 0 ∷ get_or two 1 0 ∷ after) ≡ rest =
     (λ j. to_be_bytes w64 (i j) ++ behind_is j) ∙ first.1 in
     let are_after : AreBytes (get_or two 0 0 ∷ get_or two 1 0 ∷ after) = subst AreBytes (sym pair) second.2 in
-    began_whole id (from_be_bytes w64 time) (get_or two 0 0) (get_or two 1 0) bytes after are_after.1.1
+    began_whole Two id (from_be_bytes w64 time) (get_or two 0 0) (get_or two 1 0) bytes after are_after.1.1
     (subst (λ k. k < 2 ^ 64) (sym i) first.0) second.0 u some
     ((λ j. sym is_b j ∷ rest_is j) ∙ sym front) has
 
+-- the same of version 1, where the moment is 0
+pub old_began_there : (letter id : ℕ) (bytes rest number behind two after : List ℕ) → AreBytes bytes
+    → bytes ≡ letter ∷ rest → letter ≡ 0x42
+    → number ≡ take 8 rest → behind ≡ drop 8 rest → length behind + 8 ≡ length rest
+    → two ≡ take 2 behind → after ≡ drop 2 behind → length after + 2 ≡ length behind
+    → id ≡ from_be_bytes w64 number → get_or two 0 0 ≤ 63 → 1 ≤ get_or two 1 0
+    → HasUpdates (get_or two 1 0) 0 after
+    → HasBegan One id (get_or two 0 0) (head_length One + 2 * get_or two 1 0) bytes
+old_began_there letter id bytes rest number behind two after are front is_b n b long t a more i u some has =
+    let first = number_front rest number behind (subst AreBytes front are).1 n b long in
+    let pair : get_or two 0 0 ∷ get_or two 1 0 ∷ after ≡ behind =
+    (λ j. get_or (t j) 0 0 ∷ get_or (t j) 1 0 ∷ a j) ∙ two_front behind (omega arith) in
+    let rest_is : to_be_bytes w64 id ++ get_or two 0 0 ∷ get_or two 1 0 ∷ after ≡ rest =
+    (λ j. to_be_bytes w64 (i j) ++ pair j) ∙ first.1 in
+    let are_after : AreBytes (get_or two 0 0 ∷ get_or two 1 0 ∷ after) = subst AreBytes (sym pair) first.2 in
+    began_whole One id 0 (get_or two 0 0) (get_or two 1 0) bytes after are_after.1.1
+    (subst (λ k. k < 2 ^ 64) (sym i) first.0) refl u some
+    ((λ j. sym is_b j ∷ rest_is j) ∙ sym front) has
+
 -- newer records stand behind older ones
+pub spelled_append : (version : Version) (newer older : List Record)
+    → records_spelling version (newer ++ older) ≡ records_spelling version older ++ records_spelling version newer
+spelled_append version [] older = sym (append-nil (records_spelling version older))
+spelled_append version (newest ∷ newer) older =
+    ap (λ front. front ++ spelling version newest) (spelled_append version newer older)
+    ∙ append_assoc (records_spelling version older) (records_spelling version newer) (spelling version newest)
+
 pub spelling_append : (newer older : List Record)
     → records_spelling Two (newer ++ older) ≡ records_spelling Two older ++ records_spelling Two newer
-spelling_append [] older = sym (append-nil (records_spelling Two older))
-spelling_append (newest ∷ newer) older =
-    ap (λ front. front ++ spelling Two newest) (spelling_append newer older)
-    ∙ append_assoc (records_spelling Two older) (records_spelling Two newer) (spelling Two newest)
+spelling_append = spelled_append Two
+
+-- a group's records behind its Began are spelled alike in both versions
+pub same_ends : (version : Version) (unit : ℕ) (code : Code)
+    → records_spelling Two (end_records unit code) ≡ records_spelling version (end_records unit code)
+same_ends version unit Done = refl
+same_ends version unit Short = refl
+same_ends version unit Format = refl
+same_ends version unit Silent = refl
+same_ends version unit Doubt = refl
+same_ends version unit DoubtOpen = refl
 
 -- a Began and the end of its group are the group
-pub group_there : (id unit : ℕ) (code : Code) (len end : ℕ) (bytes : List ℕ) → HasBegan id unit len bytes
-    → HasEnd unit code end (drop len bytes) → HasGroup id code (len + end) bytes
-group_there id unit code len end bytes began ended =
+pub group_there : (version : Version) (id unit : ℕ) (code : Code) (len end : ℕ) (bytes : List ℕ)
+    → HasBegan version id unit len bytes
+    → HasEnd unit code end (drop len bytes) → HasGroup version id code (len + end) bytes
+group_there version id unit code len end bytes began ended =
     let order = began.order in
     let ends : List Record = end_records order.unit code in
     let moment = began.moment in
-    let head : List ℕ = spelling Two (Began order moment) in
+    let head : List ℕ = spelling version (Began order moment) in
     let behind : drop len bytes ≡ began.begins.1 =
     (λ j. drop (began.counted j) (began.begins.2 j)) ∙ drop-append_seam head began.begins.1 in
-    let unit_is : end_records unit code ≡ ends = ap (λ u. end_records u code) (sym began.unit_is) in
-    let whole : records_spelling Two (ends ++ Began order moment ∷ []) ≡ head ++ records_spelling Two ends =
-    spelling_append ends (Began order moment ∷ []) in
+    let unit_is : records_spelling Two (end_records unit code) ≡ records_spelling version ends =
+    ap (λ u. records_spelling Two (end_records u code)) (sym began.unit_is) ∙ same_ends version order.unit code in
+    let whole : records_spelling version (ends ++ Began order moment ∷ []) ≡ head ++ records_spelling version ends =
+    spelled_append version ends (Began order moment ∷ []) in
     record {
       order = order;
       moment = moment;
@@ -180,10 +217,10 @@ group_there id unit code len end bytes began ended =
       spelled =
           began.begins.2
           ∙ ap (λ bs. head ++ bs)
-          (sym behind ∙ ended.spelled ∙ ap (λ es. records_spelling Two es ++ ended.rest) unit_is)
-          ∙ sym (append_assoc head (records_spelling Two ends) ended.rest)
+          (sym behind ∙ ended.spelled ∙ ap (λ bs. bs ++ ended.rest) unit_is)
+          ∙ sym (append_assoc head (records_spelling version ends) ended.rest)
           ∙ ap (λ bs. bs ++ ended.rest) (sym whole);
       counted =
-          (let n = began.counted in let m = ended.counted ∙ ap (λ es. length (records_spelling Two es)) unit_is in
-          let w = ap length whole ∙ length-append head (records_spelling Two ends) in omega arith);
+          (let n = began.counted in let m = ended.counted ∙ ap length unit_is in
+          let w = ap length whole ∙ length-append head (records_spelling version ends) in omega arith);
     }

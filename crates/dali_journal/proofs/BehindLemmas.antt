@@ -1,6 +1,6 @@
 -- Records behind older ones that are at rest.
 use Rattle.std.proofs.Common.{◌≡◌, ℕ, Bool, true, false, cond, ◌||◌, List, [], ◌∷◌, ◌++◌, length, refl, sym, ap, ◌∙◌}
-use Rattle.std.proofs.Common.{subst, ◌==◌, arith, get_or, length-append, true≢false, None, Some}
+use Rattle.std.proofs.Common.{subst, ◌==◌, arith, length-append, true≢false, None, Some}
 use Rattle.std.proofs.lemmas.Bool.{eqb-true}
 use Rattle.dali_bank.specs.Order.{Contents}
 use Rattle.dali_journal.specs.declared.record.Code.{Code}
@@ -12,50 +12,28 @@ use Rattle.dali_journal.specs.declared.kept.Progress.{Progress}
 use Rattle.dali_journal.specs.declared.kept.Progress.TheVariants as reached
 use Rattle.dali_journal.specs.declared.kept.Kept.TheVariants as kepts
 use Rattle.dali_journal.specs.declared.version.Version.{Version}
-use Rattle.dali_journal.specs.declared.version.Version.TheVariants.{One, Two}
 use Rattle.dali_journal.specs.Sentence.{Allows, next_standing, standing_of, is_begun, IsNew, IsSentence}
 use Rattle.dali_journal.specs.Orders.{come_to, orders_of, kept_at, kept_among, kept_of, moment_of}
-use Rattle.dali_journal.specs.Spelling.{records_spelling, journal_spelling}
-use Rattle.dali_journal.specs.Decoding.{records_in}
-use Rattle.dali_journal.specs.JournalState.{JournalState}
-use Rattle.dali_journal.specs.Loading.{IsLoaded}
 use Rattle.dali_journal.specs.Behind.{OwnRecordsStandAlone, OlderOrdersAreKept}
-use Rattle.dali_journal.proofs.AheadLemmas.{spelling_append}
 use Rattle.dali_journal.proofs.BegunLemmas.{kept_where_begun, nothing_kept}
-use Rattle.dali_journal.proofs.DecodeLemmas.{AreRecords, spelling_read}
+use Rattle.dali_journal.proofs.DecodeLemmas.{AreRecords}
 use Rattle.dali_journal.proofs.IndexLemmas.{IsNewest, newest}
-use Rattle.dali_journal.proofs.TornLemmas.{torn_read, torn_behind, torn_version}
 
--- ---- which records are loaded from the bytes of both
+-- ---- the records of both are in range
 
-records_both : (version : Version) (own older : List Record) → AreRecords version own → AreRecords version older
+pub records_both : (version : Version) (own older : List Record) → AreRecords version own → AreRecords version older
     → AreRecords version (own ++ older)
 records_both version [] older o p = p
 records_both version (newest ∷ own) older o p = (o.0, records_both version own older o.1 p)
 
-pub joined_records : (limit : ℕ) (own older : List Record) (journal : JournalState) (len : ℕ) (version : Version)
-    → AreRecords Two own → AreRecords Two older
-    → IsLoaded limit (journal_spelling Two older ++ records_spelling Two own) journal len version
-    → journal.records ≡ own ++ older
-joined_records limit own older journal len One o p loaded =
-    let one = torn_version One 0x44
-    (0x42 ∷ 0x31 ∷ 0x02 ∷ (records_spelling Two older ++ records_spelling Two own)) journal.records len loaded.2 in
-    absurd (one.3 (sym (ap (λ bytes. get_or bytes 0 0) one.2)))
-joined_records limit own older journal len Two o p loaded =
-    let bytes : List ℕ = journal_spelling Two older ++ records_spelling Two own in
-    sym (torn_read Two (records_spelling Two older ++ records_spelling Two own) journal.records loaded.1.in_range
-    (torn_behind Two bytes journal.records len loaded.2))
-    ∙ ap (records_in Two) (sym (spelling_append own older))
-    ∙ spelling_read Two (own ++ older) (records_both Two own older o p)
-
 -- ---- the own records stand alone
 
-standing_joined : (own older : List Record) → standing_of older ≡ standings.Idle
+pub standing_joined : (own older : List Record) → standing_of older ≡ standings.Idle
     → standing_of (own ++ older) ≡ standing_of own
 standing_joined [] older rests = rests
 standing_joined (newest ∷ own) older rests = ap (λ st. next_standing st newest) (standing_joined own older rests)
 
-begun_joined : (id : ℕ) (own older : List Record)
+pub begun_joined : (id : ℕ) (own older : List Record)
     → is_begun id (own ++ older) ≡ (is_begun id own || is_begun id older)
 begun_joined id [] older = refl
 begun_joined id (Began order moment ∷ own) older = by (order.id == id) (begun_joined id own older)
@@ -214,18 +192,28 @@ moment_back id (Opened unit ∷ own) older none = moment_back id own older none
 moment_back id (Ended code ∷ own) older none = moment_back id own older none
 moment_back id (Closed unit ∷ own) older none = moment_back id own older none
 
+-- what is kept of an order of the older ones, and of any other
+pub kept_joined_older : (id : ℕ) (own older : List Record) → IsSentence own → is_begun id own ≡ false
+    → (kept_of id (own ++ older) ≡ kept_of id older) × (moment_of id (own ++ older) ≡ moment_of id older)
+kept_joined_older id own older s none = (
+  ap (kept_among id) (orders_joined own older s) ∙ kept_back id (orders_of own) (orders_of older) (absent id own none),
+  moment_back id own older none,
+)
+
+pub kept_joined_own : (id : ℕ) (own older : List Record) → IsSentence own → is_begun id older ≡ false
+    → (kept_of id (own ++ older) ≡ kept_of id own) × (moment_of id (own ++ older) ≡ moment_of id own)
+kept_joined_own id own older s none = (
+  ap (kept_among id) (orders_joined own older s)
+      ∙ kept_front id (orders_of own) (orders_of older) (absent id older none),
+  moment_front id own older none,
+)
+
 pub older_kept : OlderOrdersAreKept
 older_kept version limit own older id rests kept =
-    let s = sentence_own own older rests kept.whole.0 in
-    let all = ap (kept_among id) (orders_joined own older s) in (
+    let s = sentence_own own older rests kept.whole.0 in (
       λ begun.
-          let none = no_second id own older kept.whole.0 begun in (
-            none,
-            all ∙ kept_back id (orders_of own) (orders_of older) (absent id own none),
-            moment_back id own older none,
-          ),
-      λ none. (
-        all ∙ kept_front id (orders_of own) (orders_of older) (absent id older none),
-        moment_front id own older none,
-      ),
+          let none = no_second id own older kept.whole.0 begun in
+          let is = kept_joined_older id own older s none in
+          (none, is.0, is.1),
+      kept_joined_own id own older s,
     )

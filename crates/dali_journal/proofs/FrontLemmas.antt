@@ -4,6 +4,8 @@ use Rattle.std.proofs.Common.{drop, Option, Some, None, nat_eq, ◌==◌, refl, 
 use Rattle.std.proofs.Common.{length-append}
 use Rattle.std.proofs.Math.Seq.{take-append-add, take-append_seam, drop-append_seam}
 use Rattle.std.proofs.lemmas.List.{length-take-le, take-append-drop}
+use Rattle.std.proofs.lemmas.List.Elements.{All-nil}
+use Rattle.std.proofs.lemmas.List.Sorted.{IsNonDecreasingBy-short}
 use Rattle.std.specs.Map.{lookup}
 use Rattle.dali_bank.specs.Order.{Contents}
 use Rattle.dali_journal.specs.declared.record.Code.{Code}
@@ -18,6 +20,7 @@ use Rattle.dali_journal.specs.declared.kept.Kept.TheVariants as kepts
 use Rattle.dali_journal.specs.declared.index.IndexEntry.{IndexEntry}
 use Rattle.dali_journal.specs.declared.index.IndexEntry.TheVariants as index_entries
 use Rattle.dali_journal.specs.declared.fault.JournalFault.TheVariants as faults
+use Rattle.dali_journal.specs.declared.version.Version.{Version}
 use Rattle.dali_journal.specs.declared.version.Version.TheVariants.{Two}
 use Rattle.dali_journal.specs.Sentence.{Allows, next_standing, standing_of, is_begun, IsSentence}
 use Rattle.dali_journal.specs.Orders.{orders_of, kept_among, kept_of, moment_of}
@@ -25,7 +28,7 @@ use Rattle.dali_journal.specs.Spelling.{spelling, records_spelling, header, IsRe
 use Rattle.dali_journal.specs.Decoding.{records_in}
 use Rattle.dali_journal.specs.JournalState.{bytes_due, HoldsOrders}
 use Rattle.dali_journal.specs.Loading.{IsLoadFault}
-use Rattle.dali_journal.specs.Index.{index_entry, is_begun_at, Agrees, IsSound}
+use Rattle.dali_journal.specs.Index.{index_entry, is_begun_at, Agrees, IsSettled, IsSound}
 use Rattle.dali_journal.specs.GroupAhead.{HasGroup, IsFront, end_records}
 use Rattle.dali_journal.proofs.DecodeLemmas.{AreRecords, spelling_read}
 use Rattle.dali_journal.proofs.IndexLemmas.{agrees_more}
@@ -126,15 +129,15 @@ group_moment order moment Done records id = refl
 group_moment order moment Doubt records id = refl
 group_moment order moment DoubtOpen records id = refl
 
-group_records : (order : Contents) (moment : ℕ) (code : Code) (records : List Record)
-    → IsRecord Two (Began order moment) → AreRecords Two records
-    → AreRecords Two (group_of order moment code ++ records)
-group_records order moment Short records is are = (tt, (is, are))
-group_records order moment Format records is are = (tt, (is, are))
-group_records order moment Silent records is are = (tt, (is, are))
-group_records order moment Done records is are = (tt, (is.1, (is, are)))
-group_records order moment Doubt records is are = (tt, (is.1, (is, are)))
-group_records order moment DoubtOpen records is are = (is.1, (tt, (is.1, (is, are))))
+pub group_records : (version : Version) (order : Contents) (moment : ℕ) (code : Code) (records : List Record)
+    → IsRecord version (Began order moment) → AreRecords version records
+    → AreRecords version (group_of order moment code ++ records)
+group_records version order moment Short records is are = (tt, (is, are))
+group_records version order moment Format records is are = (tt, (is, are))
+group_records version order moment Silent records is are = (tt, (is, are))
+group_records version order moment Done records is are = (tt, (is.1, (is, are)))
+group_records version order moment Doubt records is are = (tt, (is.1, (is, are)))
+group_records version order moment DoubtOpen records is are = (is.1, (tt, (is.1, (is, are))))
 
 -- what the index tells of the order of a group, and of others
 group_known : (bytes : List ℕ) (order : Contents) (moment : ℕ) (code : Code) (records : List Record) (id at : ℕ)
@@ -172,14 +175,15 @@ group_known bytes order moment code records id at found new_found false is there
 
 group_sound : (bytes : List ℕ) (records : List Record) (orders limit at : ℕ) (index new_index : List (ℕ × IndexEntry))
     (order : Contents) (moment : ℕ) (code : Code)
-    → IsSound bytes records standings.Idle orders limit 0 0 index → orders < limit → IsRecord Two (Began order moment)
+    → IsSound bytes records standings.Idle orders limit 0 0 0 [] index → orders < limit
+    → IsRecord Two (Began order moment)
     → at ≡ length bytes → is_begun order.id records ≡ false
     → ((id : ℕ)
     → lookup (nat_eq id) new_index ≡ cond (order.id == id) (Some (index_entries.Ended at code))
     (lookup (nat_eq id) index))
     → IsSound (bytes ++ records_spelling Two (group_of order moment code)) (group_of order moment code ++ records)
     standings.Idle
-    (orders + 1) limit 0 0 new_index
+    (orders + 1) limit 0 0 0 [] new_index
 group_sound bytes records orders limit at index new_index order moment code sound more is there fresh found =
     let kept = sound.journal.kept in
     let idle = group_idle order moment code records (sym sound.standing_is) in
@@ -194,15 +198,22 @@ group_sound bytes records orders limit at index new_index order moment code soun
       count = omega arith;
       journal = record {
         kept = record {
-          in_range = group_records order moment code records is kept.in_range;
+          in_range = group_records Two order moment code records is kept.in_range;
           whole = (group_sentence order moment code records kept.whole.0 (sym sound.standing_is) fresh, omega arith);
         };
         limited = sound.journal.limited;
         due = (let none = ap bytes_due idle in omega arith);
       };
-      known = λ id.
-          group_known bytes order moment code records id at (lookup (nat_eq id) index) (lookup (nat_eq id) new_index)
-          (order.id == id) is there refl (found id) (sound.known id);
+      indexed = record {
+        within = omega arith;
+        past =
+            All-nil (IsSettled (bytes ++ records_spelling Two (group_of order moment code))
+            (group_of order moment code ++ records) new_index);
+        sorted = IsNonDecreasingBy-short (λ one. one.id) [] (omega arith);
+        known = λ id none.
+            group_known bytes order moment code records id at (lookup (nat_eq id) index) (lookup (nat_eq id) new_index)
+            (order.id == id) is there refl (found id) (sound.indexed.known id none);
+      };
     }
 
 -- bytes up to the end of a group
@@ -220,7 +231,7 @@ front_begun : (limit : ℕ) (bytes : List ℕ) (at orders id : ℕ) (index : Lis
     → is_begun id (records_in Two (take at bytes)) ≡ is_begun_at (index_entry found)
 front_begun limit bytes at orders id index found front same =
     sym (begun_told id (take at bytes) (index_entry (lookup (nat_eq id) index)) (records_in Two (take at bytes))
-    (front.sound.known id))
+    (front.sound.indexed.known id (All-nil _)))
     ∙ ap (λ f. is_begun_at (index_entry f)) same
 
 begun_more : (index new_index : List (ℕ × IndexEntry)) (at id : ℕ) (code : Code)
@@ -239,7 +250,7 @@ begun_more index new_index at id code begun found other known e = by (id == othe
 -- one group more
 pub front_more : (limit : ℕ) (bytes : List ℕ) (at len orders id : ℕ) (code : Code)
     (index new_index : List (ℕ × IndexEntry))
-    → IsFront limit bytes at orders index → orders < limit → HasGroup id code len (drop at bytes)
+    → IsFront limit bytes at orders index → orders < limit → HasGroup Two id code len (drop at bytes)
     → lookup (nat_eq id) index ≡ None
     → ((other : ℕ)
     → lookup (nat_eq other) new_index ≡ cond (id == other) (Some (index_entries.Ended at code))
@@ -269,17 +280,17 @@ front_more limit bytes at len orders id code index new_index front more has none
           let rest = length-append group has.rest in
           let n = has.counted in omega arith);
       sound =
-          subst (λ (bs : List ℕ). IsSound bs (records_in Two bs) standings.Idle (orders + 1) limit 0 0 new_index)
+          subst (λ (bs : List ℕ). IsSound bs (records_in Two bs) standings.Idle (orders + 1) limit 0 0 0 [] new_index)
           (sym taken)
           (subst (λ (rs : List Record).
-          IsSound (take at bytes ++ group) rs standings.Idle (orders + 1) limit 0 0 new_index) (sym read) sound);
+          IsSound (take at bytes ++ group) rs standings.Idle (orders + 1) limit 0 0 0 [] new_index) (sym read) sound);
       begun = begun_more index new_index at id code front.begun found;
     }
 
 -- a number that is in the index is repeated
 pub front_repeated : (limit : ℕ) (bytes : List ℕ) (at len orders id : ℕ) (code : Code) (index : List (ℕ × IndexEntry))
     (known : IndexEntry)
-    → HoldsOrders limit → IsFront limit bytes at orders index → HasGroup id code len (drop at bytes)
+    → HoldsOrders limit → IsFront limit bytes at orders index → HasGroup Two id code len (drop at bytes)
     → lookup (nat_eq id) index ≡ Some known
     → IsLoadFault HoldsOrders limit (header Two ++ bytes) (faults.Repeated (4 + at))
 front_repeated limit bytes at len orders id code index known is front has found =

@@ -54,7 +54,7 @@ pub newest : (records : List Record) → IsSentence records → IsNewest (standi
 newest [] s = tt
 newest (entry ∷ older) s = newest_next (standing_of older) entry older s.1 (newest older s.0)
 
-drop_append : (n : ℕ) (xs ys : List ℕ) → n ≤ length xs → drop n (xs ++ ys) ≡ drop n xs ++ ys
+pub drop_append : (n : ℕ) (xs ys : List ℕ) → n ≤ length xs → drop n (xs ++ ys) ≡ drop n xs ++ ys
 drop_append zero xs ys h = refl
 drop_append (suc n) [] ys h = absurd (omega arith)
 drop_append (suc n) (x ∷ xs) ys h = drop_append n xs ys (omega arith)

@@ -1,6 +1,6 @@
 -- A journal's parts stay sound with one record more.
 use Rattle.std.proofs.Common.{◌≡◌, ℕ, ◌+◌, ◌-◌, ◌<◌, ◌≤◌, true, nat_eq, List, [], ◌∷◌, ◌++◌, length, refl, sym}
-use Rattle.std.proofs.Common.{ap, ◌∙◌, subst, arith, ◌^◌, is_some}
+use Rattle.std.proofs.Common.{ap, ◌∙◌, subst, arith, ◌^◌, is_some, length-drop}
 use Rattle.std.specs.Prelude.{⊤}
 use Rattle.std.specs.List.{AllByRecursion, list_any}
 use Rattle.std.specs.Map.{lookup, keys_of}
@@ -16,16 +16,17 @@ use Rattle.dali_journal.specs.declared.kept.Progress.TheVariants as reached
 use Rattle.dali_journal.specs.declared.index.IndexEntry.{IndexEntry}
 use Rattle.dali_journal.specs.declared.version.Version.TheVariants.{Two}
 use Rattle.dali_journal.specs.Sentence.{Allows, next_standing, standing_of, IsSentence, IsNew, HasShortUnit}
-use Rattle.dali_journal.specs.Orders.{come_to, orders_of, kept_of, moment_of}
+use Rattle.dali_journal.specs.Orders.{come_to, orders_of}
 use Rattle.dali_journal.specs.Spelling.{spelling, pairs_spelling, NamesShortUnit, IsRecord}
 use Rattle.dali_journal.specs.Decoding.{records_in}
 use Rattle.dali_journal.specs.JournalState.{JournalState, bytes_due, HasRoom, MayBegin, KeepsRoom}
-use Rattle.dali_journal.specs.Index.{index_entry, index_entry_after, Agrees, EntersNumber, BeginsInRange, orders_begun}
+use Rattle.dali_journal.specs.Index.{index_entry, index_entry_after, EntersNumber, BeginsInRange, orders_begun}
 use Rattle.dali_journal.specs.Index.{IsSound}
 use Rattle.dali_journal.proofs.PairLemmas.{AreBytes}
 use Rattle.dali_journal.proofs.PieceLemmas.{bytes-drop}
 use Rattle.dali_journal.proofs.DecodeLemmas.{AreRecords, spelling_read}
-use Rattle.dali_journal.proofs.IndexLemmas.{index_entry_next}
+use Rattle.dali_journal.specs.declared.settled.Settled.{Settled}
+use Rattle.dali_journal.proofs.IndexedLemmas.{indexed_more, indexed_same}
 
 -- what a standing names is in range
 abbrev IsNamed : Standing → Type 0
@@ -113,19 +114,21 @@ new_next journal (Ended code) may = tt
 new_next journal (Closed unit) may = tt
 
 -- a record that comes is in range
-pub entry_record : (bytes : List ℕ) (records : List Record) (standing : Standing) (orders limit room index_room : ℕ)
-    (index : List (ℕ × IndexEntry)) (entry : Record)
-    → IsSound bytes records standing orders limit room index_room index → Allows (standing_of records) entry
+pub entry_record : (bytes : List ℕ) (records : List Record) (standing : Standing)
+    (orders limit room index_room front : ℕ) (settled : List Settled) (index : List (ℕ × IndexEntry)) (entry : Record)
+    → IsSound bytes records standing orders limit room index_room front settled index
+    → Allows (standing_of records) entry
     → BeginsInRange entry
     → IsRecord Two entry
-entry_record bytes records standing orders limit room index_room index entry sound a o =
+entry_record bytes records standing orders limit room index_room front settled index entry sound a o =
     allowed_record (standing_of records) entry a o
     (named records sound.journal.kept.whole.0 sound.journal.kept.in_range)
 
 sound_more : (bytes : List ℕ) (records : List Record) (standing : Standing)
-    (orders limit room new_room index_room new_index_room : ℕ)
-    (index new_index : List (ℕ × IndexEntry)) (entry : Record)
-    → IsSound bytes records standing orders limit room index_room index → Allows (standing_of records) entry
+    (orders limit room new_room index_room new_index_room front at : ℕ)
+    (settled : List Settled) (index new_index : List (ℕ × IndexEntry)) (entry : Record)
+    → IsSound bytes records standing orders limit room index_room front settled index
+    → Allows (standing_of records) entry
     → BeginsInRange entry
     → MayBegin (record {
       records = records;
@@ -136,13 +139,14 @@ sound_more : (bytes : List ℕ) (records : List Record) (standing : Standing)
     }) entry
     → ((id : ℕ)
     → index_entry (lookup (nat_eq id) new_index)
-    ≡ index_entry_after standing entry (length bytes) id (index_entry (lookup (nat_eq id) index)))
+    ≡ index_entry_after standing entry at id (index_entry (lookup (nat_eq id) index)))
+    → at ≡ length bytes - front
     → HasShortUnit (next_standing standing entry) → room ≤ new_room + length (spelling Two entry)
     → IsSound (bytes ++ spelling Two entry) (entry ∷ records) (next_standing standing entry)
     (orders + orders_begun entry)
-    limit new_room new_index_room new_index
-sound_more bytes records standing orders limit room new_room index_room new_index_room index new_index entry sound a o
-    may wrote short rest =
+    limit new_room new_index_room front settled new_index
+sound_more bytes records standing orders limit room new_room index_room new_index_room front at settled index new_index
+    entry sound a o may wrote there short rest =
     let journal : JournalState = record {
       records = records;
       limit = limit;
@@ -150,7 +154,7 @@ sound_more bytes records standing orders limit room new_room index_room new_inde
       numbers = keys_of index;
       index_room = index_room;
     } in
-    let is = entry_record bytes records standing orders limit room index_room index entry sound a o in
+    let is = entry_record bytes records standing orders limit room index_room front settled index entry sound a o in
     let more = orders_more records entry in
     let within = within_next journal entry may sound.journal.kept.whole.1 in
     record {
@@ -168,36 +172,33 @@ sound_more bytes records standing orders limit room new_room index_room new_inde
             due_next (standing_of records) entry records limit room new_room index_room (keys_of index) refl a may
             sound.journal.due rest;
       };
-      known = λ id.
-          subst (λ (known : IndexEntry).
-          Agrees (bytes ++ spelling Two entry) known (kept_of id (entry ∷ records)) (moment_of id (entry ∷ records)))
-          (ap (λ (st : Standing). index_entry_after st entry (length bytes) id (index_entry (lookup (nat_eq id) index)))
-          (sym sound.standing_is)
-          ∙ sym (wrote id))
-          (index_entry_next bytes records entry id (index_entry (lookup (nat_eq id) index)) is
-          sound.journal.kept.whole.0 a
-          (sound.known id));
+      indexed =
+          indexed_more bytes records front at settled index new_index entry sound.indexed sound.journal.kept.whole.0 a
+          is (new_next journal entry may) (there ∙ sym (length-drop front bytes))
+          (λ id. wrote id
+          ∙ ap (λ (st : Standing). index_entry_after st entry at id (index_entry (lookup (nat_eq id) index)))
+          sound.standing_is);
     }
 
 -- the bytes of one record more are read as one record more
-pub records_more : (bytes : List ℕ) (standing : Standing) (orders limit room index_room : ℕ)
-    (index : List (ℕ × IndexEntry))
-    (entry : Record)
-    → IsSound bytes (records_in Two bytes) standing orders limit room index_room index
+pub records_more : (bytes : List ℕ) (standing : Standing) (orders limit room index_room front : ℕ)
+    (settled : List Settled) (index : List (ℕ × IndexEntry)) (entry : Record)
+    → IsSound bytes (records_in Two bytes) standing orders limit room index_room front settled index
     → Allows (standing_of (records_in Two bytes)) entry
     → BeginsInRange entry
     → records_in Two (bytes ++ spelling Two entry) ≡ entry ∷ records_in Two bytes
-records_more bytes standing orders limit room index_room index entry sound a o =
+records_more bytes standing orders limit room index_room front settled index entry sound a o =
     ap (λ front. records_in Two (front ++ spelling Two entry)) sound.spelled
     ∙ spelling_read Two (entry ∷ records_in Two bytes) (
-      entry_record bytes (records_in Two bytes) standing orders limit room index_room index entry sound a o,
+      entry_record bytes (records_in Two bytes) standing orders limit room index_room front settled index entry sound a
+          o,
       sound.journal.kept.in_range,
     )
 
 pub sound_next : (bytes : List ℕ) (standing : Standing)
-    (orders limit room new_room index_room new_index_room at : ℕ)
-    (index new_index : List (ℕ × IndexEntry)) (entry : Record)
-    → IsSound bytes (records_in Two bytes) standing orders limit room index_room index
+    (orders limit room new_room index_room new_index_room front at : ℕ)
+    (settled : List Settled) (index new_index : List (ℕ × IndexEntry)) (entry : Record)
+    → IsSound bytes (records_in Two bytes) standing orders limit room index_room front settled index
     → Allows (standing_of (records_in Two bytes)) entry
     → BeginsInRange entry
     → MayBegin (record {
@@ -210,20 +211,19 @@ pub sound_next : (bytes : List ℕ) (standing : Standing)
     → ((id : ℕ)
     → index_entry (lookup (nat_eq id) new_index) ≡ index_entry_after standing entry at id
     (index_entry (lookup (nat_eq id) index)))
-    → at ≡ length bytes → HasShortUnit (next_standing standing entry) → room ≤ new_room + length (spelling Two entry)
+    → at ≡ length bytes - front → HasShortUnit (next_standing standing entry)
+    → room ≤ new_room + length (spelling Two entry)
     → IsSound (bytes ++ spelling Two entry) (records_in Two (bytes ++ spelling Two entry))
     (next_standing standing entry)
-    (orders + orders_begun entry) limit new_room new_index_room new_index
-sound_next bytes standing orders limit room new_room index_room new_index_room at index new_index entry sound a o may
-    wrote there short rest =
+    (orders + orders_begun entry) limit new_room new_index_room front settled new_index
+sound_next bytes standing orders limit room new_room index_room new_index_room front at settled index new_index entry
+    sound a o may wrote there short rest =
     subst (λ (those : List Record).
     IsSound (bytes ++ spelling Two entry) those (next_standing standing entry) (orders + orders_begun entry) limit
-    new_room new_index_room new_index)
-    (sym (records_more bytes standing orders limit room index_room index entry sound a o))
-    (sound_more bytes (records_in Two bytes) standing orders limit room new_room index_room new_index_room index
-    new_index
-    entry sound a o may (λ id. wrote id ∙ ap
-    (λ n. index_entry_after standing entry n id (index_entry (lookup (nat_eq id) index))) there) short rest)
+    new_room new_index_room front settled new_index)
+    (sym (records_more bytes standing orders limit room index_room front settled index entry sound a o))
+    (sound_more bytes (records_in Two bytes) standing orders limit room new_room index_room new_index_room front at
+    settled index new_index entry sound a o may wrote there short rest)
 
 -- a number that has room is in the index
 pub entered : (journal : JournalState) (index : List (ℕ × IndexEntry)) (entry : Record) → MayBegin journal entry
@@ -329,3 +329,28 @@ room_kept journal bytes new room index new_index same records numbers more stays
   sym (found_in order.id new_index)
       ∙ stays order.id (found_in order.id index ∙ ap (list_any (nat_eq order.id)) numbers ∙ h.1),
 )
+
+-- with the same bytes, no less room and an index that tells the same it is sound still
+pub reserved_sound : (bytes new : List ℕ) (standing : Standing)
+    (orders limit room new_room index_room new_index_room front : ℕ) (settled : List Settled)
+    (index new_index : List (ℕ × IndexEntry))
+    → new ≡ bytes → IsSound bytes (records_in Two bytes) standing orders limit room index_room front settled index
+    → room ≤ new_room
+    → ((id : ℕ) → index_entry (lookup (nat_eq id) new_index) ≡ index_entry (lookup (nat_eq id) index))
+    → IsSound new (records_in Two new) standing orders limit new_room new_index_room front settled new_index
+reserved_sound bytes new standing orders limit room new_room index_room new_index_room front settled index new_index is
+    sound more same =
+    subst (λ (bs : List ℕ).
+    IsSound bs (records_in Two bs) standing orders limit new_room new_index_room front settled new_index) (sym is)
+    (record {
+      spelled = sound.spelled;
+      standing_is = sound.standing_is;
+      short = sound.short;
+      count = sound.count;
+      journal = record {
+        kept = sound.journal.kept;
+        limited = sound.journal.limited;
+        due = (let due = sound.journal.due in omega arith);
+      };
+      indexed = indexed_same bytes (records_in Two bytes) front settled index new_index sound.indexed same;
+    })

@@ -224,13 +224,13 @@ kept_there moment (entry ∷ more) older records order code s (inr is) =
 
 -- An order that hasn't ended
 
-unended_stands : (order : Contents) (records : List Record) → IsUnended order records
+pub unended_stands : (order : Contents) (records : List Record) → IsUnended order records
     → (standing_of records ≡ standings.Began order) ⊎ (standing_of records ≡ standings.Opened order)
 unended_stands order records (moment, older, inl is) = inl (ap standing_of is)
 unended_stands order records (moment, older, inr is) = inr (ap standing_of is)
 
 -- the order is at work, and the number is its own
-abbrev Unended : List Record → ℕ → Contents → Type 0
+abbrev pub Unended : List Record → ℕ → Contents → Type 0
 Unended records id order = (order.id ≡ id) × IsUnended order records
 
 -- nothing else may be behind such records than what the table allows
@@ -291,7 +291,7 @@ not_closed : (unit : ℕ) (older : List Record) (order : Contents) → Allows (s
 not_closed unit older order a (inl stands) = rw stands at a
 not_closed unit older order a (inr stands) = rw stands at a
 
-unended : (records : List Record) (id : ℕ) (order : Contents) → IsSentence records
+pub unended : (records : List Record) (id : ℕ) (order : Contents) → IsSentence records
     → kept_of id records ≡ kepts.Unfinished order
     → Unended records id order
 unended [] id order s k = absurd (absent_or_unfinished order k)

@@ -9,6 +9,13 @@ use Rattle.dali_journal.specs.Sentence.{standing_of, is_begun}
 use Rattle.dali_journal.specs.Orders.{orders_of, kept_of, moment_of}
 use Rattle.dali_journal.specs.JournalState.{AreKept}
 
+-- a number isn't begun in both; none is
+abbrev pub IsApart : List Record → List Record → ℕ → Type 0
+IsApart own older id = is_begun id own ≡ true → is_begun id older ≡ false
+
+abbrev pub AreApart : List Record → List Record → Type 0
+AreApart own older = (id : ℕ) → IsApart own older id
+
 -- why they are no journal together: a number that both have begun
 abbrev pub IsJoinFault : JoinFault → List Record → List Record → Type 0
 IsJoinFault (Repeated id) own older = (is_begun id own ≡ true) × (is_begun id older ≡ true)

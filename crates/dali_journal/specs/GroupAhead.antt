@@ -1,17 +1,18 @@
 -- What stands in front of bytes: a whole group of records (an order that began, and how it ended), or many.
-use Rattle.std.specs.Prelude.{◌≡◌, ◌⊎◌, ℕ, ◌≤◌, nat_eq, true, List, [], ◌∷◌, ◌++◌, length, take}
+use Rattle.std.specs.Prelude.{◌≡◌, ◌⊎◌, ℕ, ◌≤◌, nat_eq, true, List, [], ◌∷◌, ◌++◌, length, take, drop}
 use Rattle.std.specs.Prelude.{Some}
 use Rattle.std.specs.List.{AllByRecursion}
 use Rattle.std.specs.Map.{lookup}
 use Rattle.dali_bank.specs.Order.{Contents, IsWritable, RisesAbove}
 use Rattle.dali_journal.specs.declared.record.Code.{Code}
 use Rattle.dali_journal.specs.declared.record.Code.TheVariants.{Done, Short, Format, Silent, Doubt, DoubtOpen}
-use Rattle.dali_journal.specs.declared.version.Version.TheVariants.{Two}
+use Rattle.dali_journal.specs.declared.version.Version.{Version}
+use Rattle.dali_journal.specs.declared.version.Version.TheVariants.{One, Two}
 use Rattle.dali_journal.specs.declared.record.Record.{Record}
 use Rattle.dali_journal.specs.declared.record.Record.TheVariants.{Began, Opened, Ended, Closed}
 use Rattle.dali_journal.specs.declared.standing.Standing.TheVariants as standings
 use Rattle.dali_journal.specs.declared.index.IndexEntry.{IndexEntry}
-use Rattle.dali_journal.specs.Spelling.{spelling, pairs_spelling, records_spelling}
+use Rattle.dali_journal.specs.Spelling.{spelling, pairs_spelling, records_spelling, IsRecord}
 use Rattle.dali_journal.specs.Reading.{BeginsWith}
 use Rattle.dali_journal.specs.Decoding.{records_in}
 use Rattle.dali_journal.specs.Index.{is_begun_at, IsSound}
@@ -40,14 +41,14 @@ pub record HasUpdates (count low : ℕ) (bytes : List ℕ) : Type 0 where
   pub rising : RisesAbove low updates
   pub writable : AllByRecursion (λ update. IsWritable update.0) updates
 
--- in front of the bytes stands the Began of an order of this number and unit, with so many bytes (all of version 2)
-pub record HasBegan (id unit len : ℕ) (bytes : List ℕ) : Type 0 where
+-- in front of the bytes of a version stands the Began of an order of this number and unit, with so many bytes
+pub record HasBegan (version : Version) (id unit len : ℕ) (bytes : List ℕ) : Type 0 where
   pub order : Contents
   pub moment : ℕ
-  pub begins : BeginsWith Two bytes (Began order moment)
+  pub begins : BeginsWith version bytes (Began order moment)
   pub named : order.id ≡ id
   pub unit_is : order.unit ≡ unit
-  pub counted : len ≡ length (spelling Two (Began order moment))
+  pub counted : len ≡ length (spelling version (Began order moment))
 
 -- the records behind the Began of a unit's order that ended so, up to the last of its group: the newest first
 abbrev pub end_records : ℕ → Code → List Record
@@ -64,19 +65,28 @@ pub record HasEnd (unit : ℕ) (code : Code) (len : ℕ) (bytes : List ℕ) : Ty
   pub spelled : bytes ≡ records_spelling Two (end_records unit code) ++ rest
   pub counted : len ≡ length (records_spelling Two (end_records unit code))
 
--- in front of the bytes stands the whole group of an order of this number that ended so, with so many bytes
-pub record HasGroup (id : ℕ) (code : Code) (len : ℕ) (bytes : List ℕ) : Type 0 where
+-- in front of the bytes of a version stands the whole group of an order of this number that ended so, with so many
+-- bytes
+pub record HasGroup (version : Version) (id : ℕ) (code : Code) (len : ℕ) (bytes : List ℕ) : Type 0 where
   pub order : Contents
   pub moment : ℕ
-  pub begins : BeginsWith Two bytes (Began order moment)
+  pub begins : BeginsWith version bytes (Began order moment)
   pub named : order.id ≡ id
   pub rest : List ℕ
-  pub spelled : bytes ≡ records_spelling Two (end_records order.unit code ++ Began order moment ∷ []) ++ rest
-  pub counted : len ≡ length (records_spelling Two (end_records order.unit code ++ Began order moment ∷ []))
+  pub spelled : bytes ≡ records_spelling version (end_records order.unit code ++ Began order moment ∷ []) ++ rest
+  pub counted : len ≡ length (records_spelling version (end_records order.unit code ++ Began order moment ∷ []))
 
 -- so many bytes in front are those of a journal that is idle, with so many orders; the index tells of each of these,
 -- and of no other
 pub record IsFront (limit : ℕ) (bytes : List ℕ) (len orders : ℕ) (index : List (ℕ × IndexEntry)) : Type 0 where
   pub within : len ≤ length bytes
-  pub sound : IsSound (take len bytes) (records_in Two (take len bytes)) standings.Idle orders limit 0 0 index
+  pub sound : IsSound (take len bytes) (records_in Two (take len bytes)) standings.Idle orders limit 0 0 0 [] index
   pub begun : (id : ℕ) (known : IndexEntry) → lookup (nat_eq id) index ≡ Some known → is_begun_at known ≡ true
+
+-- so many bytes in front are those of records of version 1, and the others are the same records in version 2
+pub record AreWidened (bytes : List ℕ) (len : ℕ) (wide : List ℕ) : Type 0 where
+  pub records : List Record
+  pub in_range : AllByRecursion (IsRecord One) records
+  pub spelled : bytes ≡ records_spelling One records ++ drop len bytes
+  pub within : len ≤ length bytes
+  pub wide_is : wide ≡ records_spelling Two records

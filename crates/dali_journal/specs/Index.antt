@@ -1,6 +1,7 @@
 -- What a journal's index tells of each number, and that it agrees with the journal's bytes.
 use Rattle.std.specs.Prelude.{◌≡◌, ℕ, ◌≤◌, ◌==◌, nat_eq, IsSome, Bool, true, false, List, length, drop}
-use Rattle.std.specs.Prelude.{Option, None, Some, ⊤, if◌then◌else◌}
+use Rattle.std.specs.Prelude.{Option, None, Some, ⊤, if◌then◌else◌, All}
+use Rattle.std.specs.List.Sorted.{IsNonDecreasingBy}
 use Rattle.std.specs.Map.{lookup, keys_of}
 use Rattle.dali_bank.specs.Order.{Contents}
 use Rattle.dali_journal.specs.declared.record.Code.{Code}
@@ -12,6 +13,8 @@ use Rattle.dali_journal.specs.declared.kept.Kept.{Kept}
 use Rattle.dali_journal.specs.declared.kept.Kept.TheVariants as kepts
 use Rattle.dali_journal.specs.declared.index.IndexEntry.{IndexEntry}
 use Rattle.dali_journal.specs.declared.index.IndexEntry.TheVariants as index_entries
+use Rattle.dali_journal.specs.declared.settled.Settled.{Settled}
+use Rattle.dali_journal.specs.Settled.{IsUnsettled}
 use Rattle.dali_journal.specs.declared.read.Piece.{Piece}
 use Rattle.dali_journal.specs.declared.read.Piece.TheVariants.{Whole}
 use Rattle.dali_journal.specs.Sentence.{standing_of, HasShortUnit}
@@ -89,9 +92,25 @@ orders_begun (Opened unit) = 0
 orders_begun (Ended code) = 0
 orders_begun (Closed unit) = 0
 
+-- an order that has ended is kept so, and the index tells nothing of it
+pub record IsSettled (bytes : List ℕ) (records : List Record) (index : List (ℕ × IndexEntry)) (one : Settled)
+    : Type 0 where
+  pub kept : Agrees bytes (index_entries.Ended one.at one.code) (kept_of one.id records) (moment_of one.id records)
+  pub apart : index_entry (lookup (nat_eq one.id) index) ≡ index_entries.NotBegun
+
+-- what is told of each number is what is kept of it: of the settled orders, which stand in the order of their numbers,
+-- by their places in the bytes, and of all others by the index, whose places count from behind so many bytes
+pub record IsIndexed (bytes : List ℕ) (records : List Record) (front : ℕ) (settled : List Settled)
+    (index : List (ℕ × IndexEntry)) : Type 0 where
+  pub within : front ≤ length bytes
+  pub past : All (IsSettled bytes records index) settled
+  pub sorted : IsNonDecreasingBy (λ one. one.id) settled
+  pub known : (id : ℕ) → IsUnsettled id settled
+      → Agrees (drop front bytes) (index_entry (lookup (nat_eq id) index)) (kept_of id records) (moment_of id records)
+
 -- what is so of a journal's parts: the bytes are those of the records, and the rest tells of the records
 pub record IsSound (bytes : List ℕ) (records : List Record) (standing : Standing)
-    (orders limit room index_room : ℕ) (index : List (ℕ × IndexEntry)) : Type 0 where
+    (orders limit room index_room front : ℕ) (settled : List Settled) (index : List (ℕ × IndexEntry)) : Type 0 where
   pub spelled : bytes ≡ records_spelling Two records
   pub standing_is : standing ≡ standing_of records
   pub short : HasShortUnit standing
@@ -103,5 +122,4 @@ pub record IsSound (bytes : List ℕ) (records : List Record) (standing : Standi
     numbers = keys_of index;
     index_room = index_room;
   })
-  pub known : (id : ℕ) → Agrees bytes (index_entry (lookup (nat_eq id) index)) (kept_of id records)
-      (moment_of id records)
+  pub indexed : IsIndexed bytes records front settled index

@@ -5,6 +5,7 @@ pub mod Orders
 pub mod Spelling
 pub mod Reading
 pub mod Decoding
+pub mod Settled
 pub mod Index
 pub mod Loading
 pub mod JournalState

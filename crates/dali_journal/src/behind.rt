@@ -1,14 +1,13 @@
 // A journal behind older ones, as one journal.
-ghost use Rattle.std.specs.Prelude.{◌≡◌, ◌+◌, ◌++◌, true, IfOk, IfErr, IfSome};
+ghost use Rattle.std.specs.Prelude.{◌≡◌, ◌+◌, ◌++◌, ℕ, true, slice_get, All, Some, IsTrue, IsFalse, IfOk, IfErr, IfSome, IsNone};
 ghost use Rattle.dali_journal.specs.declared.standing.Standing.TheVariants.{Idle};
 ghost use Rattle.dali_journal.specs.Sentence.{standing_of, is_begun};
 ghost use Rattle.dali_journal.specs.JournalState.{order_count};
-ghost use Rattle.dali_journal.specs.Behind.{IsJoinFault};
+ghost use Rattle.dali_journal.specs.Behind.{IsJoinFault, IsApart, AreApart};
 
+use crate::fault::NoMemory;
 use crate::journal::Journal;
-use crate::read::Piece;
-use crate::record::Record;
-use crate::version::{HEADER, Version};
+use crate::settled::Settled;
 
 /// Why two journals are no journal together (profile).
 #[derive(Clone, Copy, Debug, PartialEq, Eq)]
@@ -34,37 +33,66 @@ impl Journal {
         if let Some(id) = common_number(&self, &older) {
             return Err(JoinFault::Repeated(id));
         }
-        let Some(limit) = older.orders().checked_add(self.limit()) else {
-            return Err(JoinFault::NoMemory);
-        };
-        let mut joined = older.for_orders(limit);
-        let front = HEADER.len() + joined.record_bytes().len();
-        if front.checked_add(self.record_bytes().len()).is_none() {
-            return Err(JoinFault::NoMemory);
-        }
-        // No number is in both, so there is no fault but want of memory.
-        match joined.take_rest(Version::Two, front, self.record_bytes()) {
-            Ok(_) => Ok(joined),
-            Err(_) => Err(JoinFault::NoMemory),
+        match self.joined(older) {
+            Ok(whole) => Ok(whole),
+            Err(NoMemory) => Err(JoinFault::NoMemory),
         }
     }
 }
 
 // The number of an order that both have begun.
 fn common_number(newer: &Journal, older: &Journal) -> Option<u64>
-    ensures { IfSome result (λ id.
+    ensures some { IfSome result (λ id.
         (is_begun id newer.now.records ≡ true) × (is_begun id older.now.records ≡ true)) }
+    ensures none { IsNone result → AreApart newer.now.records older.now.records }
 {
-    let bytes = newer.record_bytes();
-    let mut at = 0;
-    while let Piece::Whole(entry, len) = Record::read(&bytes[at..]) {
-        if let Record::Began(order, _) = &entry {
-            let id = order.id();
-            if newer.has_begun(id) && older.has_begun(id) {
-                return Some(id);
-            }
+    if let Some(id) = common_among(&newer.settled, newer, older) {
+        return Some(id);
+    }
+    for place in 0..newer.index.len() {
+        if let Some(id) = common_at(newer, older, place) {
+            return Some(id);
         }
-        at += len;
     }
     None
+}
+
+// The number of one of these orders, where both have begun one of it.
+fn common_among(settled: &[Settled], newer: &Journal, older: &Journal) -> Option<u64>
+    ensures some { IfSome result (λ id.
+        (is_begun id newer.now.records ≡ true) × (is_begun id older.now.records ≡ true)) }
+    ensures none { IsNone result → All (λ one. IsApart newer.now.records older.now.records one.id) settled.now }
+{
+    for one in settled {
+        if is_common(newer, older, one.id) {
+            return Some(one.id);
+        }
+    }
+    None
+}
+
+// The number at this place of the newer one's index, where both have begun an order of it.
+fn common_at(newer: &Journal, older: &Journal, place: usize) -> Option<u64>
+    ensures some { IfSome result (λ id.
+        (is_begun id newer.now.records ≡ true) × (is_begun id older.now.records ≡ true)) }
+    ensures none { IsNone result → (id : ℕ) → slice_get newer.now.numbers place ≡ Some id
+        → IsApart newer.now.records older.now.records id }
+{
+    let Some((&id, _)) = newer.index.get_index(place) else {
+        return None;
+    };
+    if is_common(newer, older, id) {
+        Some(id)
+    } else {
+        None
+    }
+}
+
+// Whether both have begun an order of this number.
+fn is_common(newer: &Journal, older: &Journal, id: u64) -> bool
+    ensures yes { IsTrue result
+        → (is_begun id newer.now.records ≡ true) × (is_begun id older.now.records ≡ true) }
+    ensures no { IsFalse result → IsApart newer.now.records older.now.records id }
+{
+    older.has_begun(id) && newer.has_begun(id)
 }

@@ -1,6 +1,6 @@
 // Whole groups of a journal's bytes of version 2, each an order that began and ended: nearly all of a long journal.
 ghost use Rattle.std.specs.Prelude.{◌++◌, IsTrue, IfSome, IfOk, IfErr};
-ghost use Rattle.dali_journal.specs.declared.version.Version.TheVariants.{Two};
+ghost use Rattle.dali_journal.specs.declared.version.Version.TheVariants.{One, Two};
 ghost use Rattle.dali_journal.specs.Spelling.{header};
 ghost use Rattle.dali_journal.specs.JournalState.{HoldsOrders};
 ghost use Rattle.dali_journal.specs.Loading.{IsLoadFault};
@@ -76,7 +76,7 @@ pub(crate) fn groups_ahead(alloc: Global, limit: u32, bytes: &[u8]) -> Result<Gr
 
 // The whole group in front of the bytes. None where none stands there.
 fn group_ahead(bytes: &[u8]) -> Option<Group>
-    ensures { IfSome result (λ group. HasGroup group.id group.code group.len bytes.now) }
+    ensures { IfSome result (λ group. HasGroup Two group.id group.code group.len bytes.now) }
 {
     let Some(head) = head_ahead(bytes) else {
         return None;
@@ -91,9 +91,26 @@ fn group_ahead(bytes: &[u8]) -> Option<Group>
     }
 }
 
+// The same of bytes of version 1.
+pub(crate) fn old_group_ahead(bytes: &[u8]) -> Option<Group>
+    ensures { IfSome result (λ group. HasGroup One group.id group.code group.len bytes.now) }
+{
+    let Some(head) = old_head_ahead(bytes) else {
+        return None;
+    };
+    match end_ahead(head.unit, &bytes[head.len..]) {
+        Some((code, len)) => Some(Group {
+            id: head.id,
+            code,
+            len: head.len + len,
+        }),
+        None => None,
+    }
+}
+
 // The Began in front of the bytes.
 fn head_ahead(bytes: &[u8]) -> Option<Head>
-    ensures { IfSome result (λ head. HasBegan head.id head.unit head.len bytes.now) }
+    ensures { IfSome result (λ head. HasBegan Two head.id head.unit head.len bytes.now) }
 {
     let Some((letter, rest)) = bytes.split_first() else {
         return None;
@@ -117,6 +134,32 @@ fn head_ahead(bytes: &[u8]) -> Option<Head>
         id: u64::from_be_bytes(*number),
         unit: *unit,
         len: Version::Two.began_head_len() + 2 * *count as usize,
+    })
+}
+
+// The same of bytes of version 1, which have no moment.
+fn old_head_ahead(bytes: &[u8]) -> Option<Head>
+    ensures { IfSome result (λ head. HasBegan One head.id head.unit head.len bytes.now) }
+{
+    let Some((letter, rest)) = bytes.split_first() else {
+        return None;
+    };
+    if *letter != b'B' {
+        return None;
+    }
+    let Some((number, rest)) = rest.split_first_chunk::<8>() else {
+        return None;
+    };
+    let Some(([unit, count], rest)) = rest.split_first_chunk::<2>() else {
+        return None;
+    };
+    if *unit > 63 || *count < 1 || !has_updates(rest, *count) {
+        return None;
+    }
+    Some(Head {
+        id: u64::from_be_bytes(*number),
+        unit: *unit,
+        len: Version::One.began_head_len() + 2 * *count as usize,
     })
 }
 

@@ -5,10 +5,12 @@ ghost use Rattle.dali_journal.specs.declared.record.Record.TheVariants.{Began};
 ghost use Rattle.dali_journal.specs.Sentence.{standing_of, Allows, HasShortUnit, is_begun};
 ghost use Rattle.dali_journal.specs.declared.version.Version.TheVariants.{One, Two};
 ghost use Rattle.dali_journal.specs.Orders.{kept_of, moment_of};
-ghost use Rattle.dali_journal.specs.Index.{orders_begun};
+ghost use Rattle.dali_journal.specs.Index.{orders_begun, Agrees};
 ghost use Rattle.dali_journal.specs.Spelling.{spelling, records_spelling, header, journal_spelling};
 ghost use Rattle.dali_journal.specs.JournalState.{HasRoom, MayBegin, KeepsRoom, HoldsOrders, IsLimit, AreKept, IsJournal};
 ghost use Rattle.dali_journal.specs.JournalState.{order_count, bytes_due};
+ghost use Rattle.dali_journal.specs.declared.standing.Standing.TheVariants.{Idle};
+ghost use Rattle.dali_journal.specs.Behind.{AreApart};
 ghost use Rattle.dali_journal.specs.Faults.{IsNewFault};
 ghost use Rattle.dali_journal.specs.Loading.{HasVersion, HasBrokenHeader, IsTorn, IsLoaded, IsLoadableWithin};
 ghost use Rattle.dali_journal.specs.Loading.{IsLoadFault, IsRecordRefused};
@@ -19,6 +21,7 @@ use crate::index::{IndexEntry, enter, index_entry, kept_at, moment_at, note};
 use crate::kept::Kept;
 use crate::read::Piece;
 use crate::record::Record;
+use crate::settled::{Settled, find, settled_both};
 use crate::standing::Standing;
 use crate::version::{HEADER, Version};
 use dali_bank::Order;
@@ -36,16 +39,21 @@ const BYTES_BEHIND_BEGAN: usize = 6;
 /// The journal of a writer (profile): its records, and the most orders that it may hold.
 ///
 /// Its records are a list of groups, one for each order, of which the last may end early; their
-/// orders' numbers are distinct, and there are no more than the limit, 1 to 100000. There is always
-/// room for the records that end what the journal has begun.
+/// orders' numbers are distinct, and there are no more than the limit: 1 to 100000, and behind an
+/// older journal the orders of that one besides. There is always room for the records that end what
+/// the journal has begun.
 pub struct Journal {
-    limit: u32,
-    orders: u32,
-    standing: Standing,
+    pub(crate) limit: u32,
+    pub(crate) orders: u32,
+    pub(crate) standing: Standing,
     // the records' bytes in version 2, the oldest first, without the header
-    bytes: Vec<u8>,
-    // where the order of each number began, and how it ended; a number is here before its order begins
-    index: IndexMap<u64, IndexEntry>,
+    pub(crate) bytes: Vec<u8>,
+    // of so many bytes in front, those of older journals, the orders are settled
+    pub(crate) front: usize,
+    pub(crate) settled: Vec<Settled>,
+    // where the order of each other number began, from there on, and how it ended; a number is here before its order
+    // begins
+    pub(crate) index: IndexMap<u64, IndexEntry>,
 }
 
 // A function of its own, which is called wherever a journal goes: what is derived is written out at each such place.
@@ -56,6 +64,8 @@ impl Drop for Journal {
             orders: _,
             standing: _,
             bytes: _,
+            front: _,
+            settled: _,
             index: _,
         } = self;
     }
@@ -82,7 +92,7 @@ impl Model for Journal {
 
     ghost invariant = { λ j.
         IsSound j.bytes.items (records_in Two j.bytes.items) j.standing j.orders j.limit
-        (vec_capacity j.bytes - vec_len j.bytes) (spare j.index) j.index.entries };
+        (vec_capacity j.bytes - vec_len j.bytes) (spare j.index) j.front j.settled.items j.index.entries };
 }
 
 impl Journal {
@@ -104,7 +114,7 @@ impl Journal {
     }
 
     // An empty journal for at most so many orders.
-    fn empty(alloc: Global, limit: u32) -> Journal
+    pub(crate) fn empty(alloc: Global, limit: u32) -> Journal
         requires { HoldsOrders limit }
         ensures records { result.records ≡ [] }
         ensures limit { result.limit ≡ limit }
@@ -115,212 +125,32 @@ impl Journal {
             orders: 0,
             standing: Standing::Idle,
             bytes: Vec::new(alloc),
+            front: 0,
+            settled: Vec::new(alloc),
             index: IndexMap::new(alloc),
         }
-    }
-
-    /// The journal of these bytes, how many of them count, those of the header and the whole records, and their
-    /// version (profile). No bytes at all are a journal of version 2 without records, of which 0 count.
-    ///
-    /// The bytes may end in a proper prefix of some record's, which doesn't count. Fault 1 Limit where
-    /// the limit is 0 or over 100000, before all else; then 7 Header, where the bytes begin with 44h and not with
-    /// the whole header. Then the records are tested in their order, each
-    /// for 3 Record, where neither a record stands nor, at the end, a proper prefix of one; 4 Sequence,
-    /// where the standing doesn't allow it; 5 Repeated, where it begins an order whose number was there;
-    /// 6 Full, where it begins one past the limit. Each of these four has the place of the record's
-    /// first byte. 2 NoMemory, where there is no memory, may come in place of these five and of success.
-    pub fn load(
-        alloc: Global,
-        limit: u32,
-        bytes: &[u8],
-    ) -> Result<(Journal, usize, Version), JournalFault>
-        ensures accepted { OnOk result (IsLimit limit) }
-        ensures ok { IfOk result (λ loaded. IsLoaded limit bytes.now loaded.0 loaded.1 loaded.2) }
-        ensures err { IfErr result (λ fault. IsLoadFault IsLimit limit bytes.now fault) }
-        ensures torn { IfErr result (λ fault.
-            IsLoadableWithin IsLimit limit bytes.now → fault ≡ JournalFault.NoMemory) }
-    {
-        if limit < 1 || limit > MOST_ORDERS {
-            return Err(JournalFault::Limit);
-        }
-        match bytes.to_vec(alloc) {
-            Ok(bytes) => Journal::load_vec(alloc, limit, bytes),
-            Err(_) => Err(JournalFault::NoMemory),
-        }
-    }
-
-    /// The same as `load`, of bytes that become the journal's own where they are of version 2, so that there is no
-    /// second copy of them. The limit may be larger than 100000, for the orders of older journals that stand in front:
-    /// fault 1 Limit comes where it is 0 alone.
-    pub fn load_vec(
-        alloc: Global,
-        limit: u32,
-        bytes: Vec<u8>,
-    ) -> Result<(Journal, usize, Version), JournalFault>
-        ensures accepted { OnOk result (HoldsOrders limit) }
-        ensures ok { IfOk result (λ loaded. IsLoaded limit bytes.items loaded.0 loaded.1 loaded.2) }
-        ensures err { IfErr result (λ fault. IsLoadFault HoldsOrders limit bytes.items fault) }
-        ensures torn { IfErr result (λ fault.
-            IsLoadableWithin HoldsOrders limit bytes.items → fault ≡ JournalFault.NoMemory) }
-    {
-        if limit < 1 {
-            return Err(JournalFault::Limit);
-        }
-        let journal = Journal::empty(alloc, limit);
-        if bytes.is_empty() {
-            return Ok((journal, 0, Version::Two));
-        }
-        match version_of(&bytes) {
-            None => Err(JournalFault::Header),
-            Some(Version::One) => journal.upgraded(&bytes),
-            Some(Version::Two) => journal.filled(alloc, behind_header(bytes)),
-        }
-    }
-
-    // The journal of these bytes of version 1 in place of this one, which has no records, and how many of them count.
-    fn upgraded(mut self, bytes: &[u8]) -> Result<(Journal, usize, Version), JournalFault>
-        requires empty { self.records ≡ [] }
-        requires version { HasVersion One bytes.now }
-        ensures ok { IfOk result (λ loaded. IsLoaded self.limit bytes.now loaded.0 loaded.1 loaded.2) }
-        ensures err { IfErr result (λ fault. IsLoadFault HoldsOrders self.limit bytes.now fault) }
-        ensures torn { IfErr result (λ fault. IsLoadableWithin HoldsOrders self.limit bytes.now
-            → fault ≡ JournalFault.NoMemory) }
-    {
-        match self.take_rest(Version::One, 0, bytes) {
-            Ok(len) => Ok((self, len, Version::One)),
-            Err(fault) => Err(fault),
-        }
-    }
-
-    // The journal of these bytes behind the header in place of this one, for as many orders, and how many count.
-    fn filled(
-        mut self,
-        alloc: Global,
-        bytes: Vec<u8>,
-    ) -> Result<(Journal, usize, Version), JournalFault>
-        ensures ok { IfOk result (λ loaded.
-            IsLoaded self.limit (header Two ++ bytes.items) loaded.0 loaded.1 loaded.2) }
-        ensures err { IfErr result (λ fault. IsLoadFault HoldsOrders self.limit (header Two ++ bytes.items) fault) }
-        ensures torn { IfErr result (λ fault. IsLoadableWithin HoldsOrders self.limit (header Two ++ bytes.items)
-            → fault ≡ JournalFault.NoMemory) }
-    {
-        let whole = HEADER.len() + bytes.len();
-        let rest = match self.take_groups(alloc, bytes) {
-            Ok(rest) => rest,
-            Err(fault) => return Err(fault),
-        };
-        let front = whole - rest.len();
-        match self.take_rest(Version::Two, front, &rest) {
-            Ok(len) => Ok((self, len, Version::Two)),
-            Err(fault) => Err(fault),
-        }
-    }
-
-    // Makes it the journal of the whole groups in front of the bytes, up to its limit. The bytes behind them.
-    fn take_groups(&mut self, alloc: Global, mut bytes: Vec<u8>) -> Result<Vec<u8>, JournalFault>
-        ensures journal { OnOk result (IsJournal self.new) }
-        ensures limit { OnOk result (self.new.limit ≡ self.old.limit) }
-        ensures spelled { IfOk result (λ rest. bytes.items ≡ records_spelling Two self.new.records ++ rest.items) }
-        ensures err { IfErr result (λ fault. IsLoadFault HoldsOrders self.old.limit (header Two ++ bytes.items) fault) }
-    {
-        // it tells the groups what is so of every limit
-        let limit = self.limit();
-        let groups = match groups_ahead(alloc, limit, &bytes) {
-            Ok(groups) => groups,
-            Err(fault) => return Err(fault),
-        };
-        let Ok(rest) = bytes[groups.len..].to_vec(alloc) else {
-            return Err(JournalFault::NoMemory);
-        };
-        bytes.truncate(groups.len);
-        self.orders = groups.orders;
-        self.standing = Standing::Idle;
-        self.bytes = bytes;
-        self.index = groups.index;
-        Ok(rest)
-    }
-
-    // The same journal, for so many orders.
-    pub(crate) fn for_orders(mut self, limit: u32) -> Journal
-        requires limit { HoldsOrders limit × (order_count self ≤ limit) }
-        ensures records { result.records ≡ self.records }
-        ensures limit { result.limit ≡ limit }
-        ensures journal { IsJournal result }
-    {
-        self.limit = limit;
-        self
-    }
-
-    // Adds the records of a version that the bytes behind its own, this many, begin with, up to a cut one. How many
-    // bytes count then.
-    pub(crate) fn take_rest(
-        &mut self,
-        version: Version,
-        front: usize,
-        rest: &[u8],
-    ) -> Result<usize, JournalFault>
-        requires journal { IsJournal self.old }
-        requires kept { AreKept version self.old.limit self.old.records }
-        requires front { front ≡ length (journal_spelling version self.old.records) }
-        requires long { front + length rest.now < 2 ^ 64 }
-        requires version { HasVersion version (journal_spelling version self.old.records ++ rest.now) }
-        ensures limit { OnOk result (self.new.limit ≡ self.old.limit) }
-        ensures kept { OnOk result (AreKept version self.old.limit self.new.records) }
-        ensures ok { IfOk result (λ len.
-            IsTorn version (journal_spelling version self.old.records ++ rest.now) self.new.records len) }
-        ensures err { IfErr result (λ fault.
-            IsLoadFault HoldsOrders self.old.limit (journal_spelling version self.old.records ++ rest.now) fault) }
-    {
-        let mut at = 0;
-        'records: loop {
-            match Record::read_in(version, &rest[at..]) {
-                Piece::Cut => return Ok(front + at),
-                Piece::Bad => return Err(JournalFault::Record(front + at)),
-                Piece::Whole(entry, len) => {
-                    if let Err(fault) = self.take(entry, front + at) {
-                        return Err(fault);
-                    }
-                    at += len;
-                }
-            }
-        }
-    }
-
-    // Adds a record that was read at this place, where it may stand.
-    fn take(&mut self, entry: Record, at: usize) -> Result<(), JournalFault>
-        ensures records { OnOk result (self.new.records ≡ entry ∷ self.old.records) }
-        ensures limit { self.new.limit ≡ self.old.limit }
-        ensures journal { IsJournal self.new }
-        ensures err { IfErr result (λ fault. IsRecordRefused fault self.old.limit at self.old.records entry) }
-    {
-        if !self.standing.allows(&entry) {
-            return Err(JournalFault::Sequence(at));
-        }
-        if let Record::Began(order, _) = &entry {
-            if self.has_begun(order.id()) {
-                return Err(JournalFault::Repeated(at));
-            }
-            if self.is_full() {
-                return Err(JournalFault::Full(at));
-            }
-            if self.reserve(order).is_err() {
-                return Err(JournalFault::NoMemory);
-            }
-        }
-        self.append(entry);
-        // it tells the caller what is so of every journal
-        let _limit = self.limit();
-        Ok(())
     }
 
     // Whether an order of this number was begun.
     pub(crate) fn has_begun(&self, id: u64) -> bool
         ensures { result ≡ is_begun id self.now.records }
     {
-        index_entry(&self.index, id).is_begun()
+        let (_, known) = self.told(id);
+        known.is_begun()
     }
 
-    /// The most orders that the journal may hold, 1 to 100000.
+    // What is told of the order of this number, and the bytes that hold it.
+    fn told(&self, id: u64) -> (&[u8], IndexEntry)
+        ensures { Agrees result.0.now result.1 (kept_of id self.now.records) (moment_of id self.now.records) }
+    {
+        match find(&self.settled, id) {
+            Some(one) => (&self.bytes, IndexEntry::Ended(one.at, one.code)),
+            None => (&self.bytes[self.front..], index_entry(&self.index, id)),
+        }
+    }
+
+    /// The most orders that the journal may hold: 1 to 100000, and behind an older journal the orders of that one
+    /// besides.
     pub fn limit(&self) -> u32
         ensures value { result ≡ self.now.limit }
         ensures journal { IsJournal self.now }
@@ -355,14 +185,16 @@ impl Journal {
     pub fn kept(&self, id: u64) -> Kept
         ensures { result ≡ kept_of id self.now.records }
     {
-        kept_at(&self.bytes, index_entry(&self.index, id))
+        let (bytes, known) = self.told(id);
+        kept_at(bytes, known)
     }
 
     /// The moment at which the order of this number was submitted, where it was begun.
     pub fn moment(&self, id: u64) -> Option<u64>
         ensures { result ≡ moment_of id self.now.records }
     {
-        moment_at(&self.bytes, index_entry(&self.index, id))
+        let (bytes, known) = self.told(id);
+        moment_at(bytes, known)
     }
 
     /// Whether there is room for a `Closed` of the unit that is left, for what else is due, and for
@@ -404,11 +236,55 @@ impl Journal {
         ensures index_room { self.new.index_room ≡ self.old.index_room }
     {
         let bytes = entry.bytes();
-        note(&mut self.index, &self.standing, &entry, self.bytes.len());
+        let at = self.bytes.len() - self.front;
+        note(&mut self.index, &self.standing, &entry, at);
         self.orders += orders_begun(&entry);
         let standing = mem::replace(&mut self.standing, Standing::Idle);
         self.standing = standing.after(&entry);
         put_in_room(&mut self.bytes, &bytes);
+    }
+
+    // This journal behind an older one that has no number of it.
+    pub(crate) fn joined(self, older: Journal) -> Result<Journal, NoMemory>
+        requires rests { standing_of older.records ≡ Idle }
+        requires apart { AreApart self.records older.records }
+        ensures records { IfOk result (λ joined. joined.records ≡ self.records ++ older.records) }
+        ensures limit { IfOk result (λ joined. joined.limit ≡ order_count older + self.limit) }
+    {
+        let Some(limit) = older.orders.checked_add(self.limit) else {
+            return Err(NoMemory);
+        };
+        let Journal {
+            limit: _,
+            orders: own_orders,
+            standing,
+            bytes: own_bytes,
+            front: own_front,
+            settled: own_settled,
+            index: own_index,
+        } = self;
+        let Journal {
+            limit: _,
+            orders,
+            standing: _,
+            mut bytes,
+            front,
+            settled,
+            index,
+        } = older;
+        let len = bytes.len();
+        let settled = settled_both(settled, &index, front, &own_settled, len)?;
+        bytes.extend_from_slice(&own_bytes)?;
+        bytes.reserve(standing.bytes_due())?;
+        Ok(Journal {
+            limit,
+            orders: orders + own_orders,
+            standing,
+            bytes,
+            front: len + own_front,
+            settled,
+            index: own_index,
+        })
     }
 
     /// The bytes of its records in version 2 (profile), the oldest first, without the header.
@@ -430,30 +306,6 @@ impl Journal {
         bytes.extend_from_slice(&self.bytes)?;
         Ok(bytes)
     }
-}
-
-// The version of bytes that aren't none. None where they begin as the header does, and go on otherwise or end.
-fn version_of(bytes: &[u8]) -> Option<Version>
-    requires { bytes.now ≢ [] }
-    ensures some { IfSome result (λ version. HasVersion version bytes.now) }
-    ensures none { IsNone result → HasBrokenHeader bytes.now }
-{
-    match bytes {
-        [0x44, 0x42, 0x31, 0x02, ..] => Some(Version::Two),
-        [0x44, ..] => None,
-        _ => Some(Version::One),
-    }
-}
-
-// The bytes without the header in front.
-fn behind_header(mut bytes: Vec<u8>) -> Vec<u8>
-    requires { HasVersion Two bytes.items }
-    ensures { header Two ++ result.items ≡ bytes.items }
-{
-    let len = bytes.len() - HEADER.len();
-    bytes.copy_within(HEADER.len().., 0);
-    bytes.truncate(len);
-    bytes
 }
 
 // The bytes of what is due and of all records of the order.

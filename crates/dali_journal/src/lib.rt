@@ -12,10 +12,13 @@ mod index;
 mod journal;
 mod kept;
 pub mod laws;
+mod loading;
 mod read;
 mod record;
+mod settled;
 mod standing;
 mod version;
+mod widen;
 
 pub use behind::JoinFault;
 pub use fault::{JournalFault, NoMemory};

@@ -11,10 +11,10 @@ use Rattle.dali_write.specs.Worlds.{Selects}
 use Rattle.dali_trace.specs.declared.happening.Reply.{Reply}
 use Rattle.dali_trace.specs.declared.happening.Reply.TheVariants as replies
 use Rattle.dali_trace.specs.declared.happening.Happening.{Happening}
-use Rattle.dali_trace.specs.declared.happening.Happening.TheVariants.{Asked, Answered, Sent, Kept}
+use Rattle.dali_trace.specs.declared.happening.Happening.TheVariants.{Asked, Answered, Sent, Kept, Stopped}
 use Rattle.dali_trace.specs.Cut.{since, is_stop, is_start, is_turn}
 use Rattle.dali_trace.proofs.CutLemmas.{frames_on}
-use Rattle.dali_trace.specs.Trace.{waiting_since, since_in}
+use Rattle.dali_trace.specs.Trace.{pace_at, waiting_since, since_in}
 use Rattle.dali_trace.specs.Trace.{Start, records_of, standing_at, sent_of, sent_since_taken, waiting, course_of}
 use Rattle.dali_trace.specs.Trace.{waits_in, replied, next_course, Course, Quiet}
 use Rattle.dali_trace.specs.Legal.{Serves, IsGuardedWrite, MaySend, IsDue, MayKeep, MaySay, MayHappen, Replies}
@@ -103,13 +103,14 @@ replies_too start next whole more order (Answered id reply) agree due =
 replies_too start next whole more order _ agree due = absurd due
 
 pub planned_too : (start next : Start) (whole more : List Happening) (newest : Happening)
-    → records_of start whole ≡ records_of next more
+    → pace_at start whole ≡ pace_at next more → records_of start whole ≡ records_of next more
     → told_in whole ≡ told_in more → IsPlanned next more newest → IsPlanned start whole newest
-planned_too start next whole more (Sent frame answer) records told planned = rw (records, told) planned
-planned_too start next whole more (Kept (Began order moment)) records told planned = tt
-planned_too start next whole more (Kept entry) records told planned = rw (records, told) planned
-planned_too start next whole more (Answered id (replies.Blocked unit)) records told planned = rw (records, told) planned
-planned_too start next whole more other records told planned = tt
+planned_too start next whole more (Sent frame answer) pace records told planned = rw (pace, records, told) planned
+planned_too start next whole more (Kept (Began order moment)) pace records told planned = tt
+planned_too start next whole more (Kept entry) pace records told planned = rw (pace, records, told) planned
+planned_too start next whole more (Answered id (replies.Blocked unit)) pace records told planned =
+    rw (pace, records, told) planned
+planned_too start next whole more other pace records told planned = tt
 
 -- An order that gets another reply than Taken changes nothing, wherever it stands
 
@@ -169,6 +170,12 @@ records_on start [] whole past same = same
 records_on start (Kept entry ∷ more) whole past same = ap (◌∷◌ entry) (records_on start more whole past same)
 records_on start (_ ∷ more) whole past same = records_on start more whole past same
 
+pub pace_on : (start : Start) (more whole past : List Happening) → pace_at start whole ≡ pace_at start past
+    → pace_at start (more ++ whole) ≡ pace_at start (more ++ past)
+pace_on start [] whole past same = same
+pace_on start (Stopped pace ∷ more) whole past same = refl
+pace_on start (other ∷ more) whole past same = pace_on start more whole past same
+
 agree_on : (start : Start) (whole past : List Happening) → IsFinished whole → IsFinished past
     → Agree start start whole past → (more : List Happening) → Agree start start (more ++ whole) (more ++ past)
 agree_on start whole past ends finished agree more = record {
@@ -197,13 +204,15 @@ nothing_changed start past more order moment reply next finished other =
     let whole : List Happening = Answered order.id reply ∷ Asked order moment ∷ past in
     let one = passed_over start past order moment reply other in
     let agree = agree_on start whole past tt finished one in
-    let told = frames_on is_turn more whole past (told_still past order moment reply other) in (
+    let told = frames_on is_turn more whole past (told_still past order moment reply other) in
+    let pace = pace_on start more whole past refl in (
       (
         follow_on start past whole finished tt (agree_on start past whole finished tt (turned one)) more next,
         follow_on start whole past tt finished agree more next,
       ),
       (
-        planned_too start start (more ++ past) (more ++ whole) next (sym (agree more).records) (sym told),
-        planned_too start start (more ++ whole) (more ++ past) next (agree more).records told,
+        planned_too start start (more ++ past) (more ++ whole) next (sym pace) (sym (agree more).records)
+            (sym told),
+        planned_too start start (more ++ whole) (more ++ past) next pace (agree more).records told,
       ),
     )

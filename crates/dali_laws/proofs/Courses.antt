@@ -15,10 +15,11 @@ use Rattle.dali_write.specs.declared.ask.Verdict.TheVariants as verdicts
 use Rattle.dali_write.specs.Plans.{read_length, unlock, close}
 use Rattle.dali_write.specs.Tries.{Wants}
 use Rattle.dali_trace.specs.declared.happening.Happening.{Happening}
-use Rattle.dali_trace.specs.Trace.{Start, records_of, standing_at, sent_since_taken, waiting, has_ended}
+use Rattle.dali_trace.specs.Trace.{pace_at, Start, records_of, standing_at, sent_since_taken, waiting, has_ended}
 use Rattle.dali_trace.specs.Grounds.{EndsIn}
 use Rattle.dali_trace.specs.ByPlan.{told_in}
 use Rattle.dali_trace.specs.Work.{stood_at, kept_since}
+use Rattle.dali_write.specs.declared.pace.Pace.{Pace}
 
 -- these frames closed the unit that was left at the start; where none was left, there are none, and there was no need
 -- of any where an order was opened
@@ -31,48 +32,49 @@ ClosedBy (standings.Left unit) sent =
 
 -- these frames are those of a fresh session that found that the order may be opened, after those that closed a left
 -- unit
-abbrev pub CheckedBy : Standing → Contents → List Exchange → Type 0
-CheckedBy first order sent =
+abbrev pub CheckedBy : Pace → Standing → Contents → List Exchange → Type 0
+CheckedBy pace first order sent =
     (told : List Exchange) × (older : List Exchange) × (sent ≡ told ++ older)
-    × Wants order.unit (read_length order.updates) told (asks.Ended verdicts.MayOpen) × ClosedBy first older
+    × Wants order.unit (read_length pace order.updates) told (asks.Ended verdicts.MayOpen) × ClosedBy first older
 
 -- these frames came before the order was opened: none where it was opened at the start
-abbrev pub OpenedBy : Standing → Contents → List Exchange → Type 0
-OpenedBy standings.Idle order sent = CheckedBy standings.Idle order sent
-OpenedBy (standings.Began begun) order sent = CheckedBy (standings.Began begun) order sent
-OpenedBy (standings.Left unit) order sent = CheckedBy (standings.Left unit) order sent
-OpenedBy (standings.Opened opened) order sent = (opened ≡ order) × (sent ≡ [])
+abbrev pub OpenedBy : Pace → Standing → Contents → List Exchange → Type 0
+OpenedBy pace standings.Idle order sent = CheckedBy pace standings.Idle order sent
+OpenedBy pace (standings.Began begun) order sent = CheckedBy pace (standings.Began begun) order sent
+OpenedBy pace (standings.Left unit) order sent = CheckedBy pace (standings.Left unit) order sent
+OpenedBy pace (standings.Opened opened) order sent = (opened ≡ order) × (sent ≡ [])
 
 -- these are all frames of an order that ended so
-abbrev pub EndedBy : Standing → Contents → Code → List Exchange → Type 0
-EndedBy first order code sent =
+abbrev pub EndedBy : Pace → Standing → Contents → Code → List Exchange → Type 0
+EndedBy pace first order code sent =
     (verdict : Verdict) × (told : List Exchange) × (older : List Exchange) × (sent ≡ told ++ older)
     × ((EndsIn (standings.Began order) verdict (Ended code)
-    × Wants order.unit (read_length order.updates) told (asks.Ended verdict) × ClosedBy first older)
+    × Wants order.unit (read_length pace order.updates) told (asks.Ended verdict) × ClosedBy first older)
     ⊎ (EndsIn (standings.Opened order) verdict (Ended code)
-    × Wants order.unit (unlock order.updates) told (asks.Ended verdict) × OpenedBy first order older))
+    × Wants order.unit (unlock pace order.updates) told (asks.Ended verdict) × OpenedBy pace first order older))
 
 -- the newest order has ended, and these are its frames
-abbrev pub NewestEndedBy : Standing → List (Contents × Progress) → List Exchange → Type 0
-NewestEndedBy stands ((order, reached.Ended code) ∷ older) sent = EndedBy stands order code sent
-NewestEndedBy stands other sent = ⊥
+abbrev pub NewestEndedBy : Pace → Standing → List (Contents × Progress) → List Exchange → Type 0
+NewestEndedBy pace stands ((order, reached.Ended code) ∷ older) sent = EndedBy pace stands order code sent
+NewestEndedBy pace stands other sent = ⊥
 
 -- How an order has come along since its start, where the records stood so at the start and stand so now: what was
 -- sent since then, of it what the session at hand was told, and how many records were kept.
-abbrev pub HasCome : Standing → Standing → Option Contents → Bool → List (Contents × Progress) → List Exchange
+abbrev pub HasCome : Pace → Standing → Standing → Option Contents → Bool → List (Contents × Progress) → List Exchange
     → List Exchange → ℕ → Type 0
-HasCome first (standings.Began order) waits ended orders sent told kept =
+HasCome pace first (standings.Began order) waits ended orders sent told kept =
     (older : List Exchange) × (sent ≡ told ++ older) × ClosedBy first older × (kept ≤ 2)
-HasCome first (standings.Opened order) waits ended orders sent told kept =
-    (older : List Exchange) × (sent ≡ told ++ older) × OpenedBy first order older × (kept ≤ 3)
-HasCome first (standings.Left unit) (Some order) ended orders sent told kept =
+HasCome pace first (standings.Opened order) waits ended orders sent told kept =
+    (older : List Exchange) × (sent ≡ told ++ older) × OpenedBy pace first order older × (kept ≤ 3)
+HasCome pace first (standings.Left unit) (Some order) ended orders sent told kept =
     (first ≡ standings.Left unit) × (sent ≡ told) × (kept ≤ 0)
-HasCome first standings.Idle (Some order) ended orders sent told kept = (told ≡ []) × ClosedBy first sent × (kept ≤ 1)
-HasCome first now None true orders sent told kept = NewestEndedBy first orders sent × (kept ≤ 4)
-HasCome first now None false orders sent told kept = ⊤
+HasCome pace first standings.Idle (Some order) ended orders sent told kept = (told ≡ []) × ClosedBy first sent
+    × (kept ≤ 1)
+HasCome pace first now None true orders sent told kept = NewestEndedBy pace first orders sent × (kept ≤ 4)
+HasCome pace first now None false orders sent told kept = ⊤
 
 -- and so it is of the trace
 abbrev pub IsOnCourse : Start → List Happening → Type 0
 IsOnCourse start past =
-    HasCome (stood_at start past) (standing_at start past) (waiting past) (has_ended past)
+    HasCome (pace_at start past) (stood_at start past) (standing_at start past) (waiting past) (has_ended past)
     (orders_of (records_of start past)) (sent_since_taken past) (told_in past) (kept_since past)

@@ -67,7 +67,7 @@ told_step old new start past (Kept entry) safe same told =
       tells_truth (powered_of [] past) new (standing_at start past) entry safe.0.1
           (rests_so new start past entry now safe),
     )
-told_step old new start past Stopped safe same told =
+told_step old new start past (Stopped pace) safe same told =
     (record { sentence = told.sentence; since = new; run = Stays }, tt)
 told_step old new start past (Powered address) safe lost told = (
   record {

@@ -24,7 +24,7 @@ use Rattle.dali_write.proofs.DeterminedLemmas.{wants_one}
 use Rattle.dali_trace.specs.declared.happening.Reply.TheVariants as replies
 use Rattle.dali_trace.specs.declared.happening.Happening.{Happening}
 use Rattle.dali_trace.specs.declared.happening.Happening.TheVariants.{Asked, Answered, Sent, Kept}
-use Rattle.dali_trace.specs.Trace.{waiting_since}
+use Rattle.dali_trace.specs.Trace.{pace_at, waiting_since}
 use Rattle.dali_trace.specs.Trace.{Start, records_of, standing_at, waiting, has_ended, is_at_work, is_busy, is_full}
 use Rattle.dali_trace.specs.Trace.{course_of}
 use Rattle.dali_trace.specs.Legal.{EndsAs, HasNumber, IsDue, MaySend, MayHappen, Replies, Legal}
@@ -36,6 +36,7 @@ use Rattle.dali_laws.proofs.ReplyLemmas.{only_due}
 use Rattle.dali_laws.proofs.TakenLemmas.{none_waits_ended}
 use Rattle.dali_laws.proofs.CourseLemmas.{waits_on, closed_verdict}
 use Rattle.dali_laws.proofs.WorkLemmas.{ended_idle}
+use Rattle.dali_write.specs.declared.pace.Pace.{Pace}
 
 -- What the plan asks for
 
@@ -52,14 +53,14 @@ Does (standings.Left unit) waits (asks.Ended verdicts.NotClosed) next =
     (id : ℕ) × HasNumber id waits × (next ≡ Answered id (replies.Blocked unit))
 Does stands waits (asks.Ended verdict) next = (entry : Record) × EndsIn stands verdict entry × (next ≡ Kept entry)
 
-asks_one : (stands : Standing) (told : List Exchange) (one other : Ask) → Asks stands told one → Asks stands told other
-    → one ≡ other
-asks_one standings.Idle told one other first second = absurd first
-asks_one (standings.Began order) told one other first second =
-    wants_one told order.unit (read_length order.updates) one other first second
-asks_one (standings.Opened order) told one other first second =
-    wants_one told order.unit (unlock order.updates) one other first second
-asks_one (standings.Left unit) told one other first second =
+asks_one : (pace : Pace) (stands : Standing) (told : List Exchange) (one other : Ask) → Asks pace stands told one
+    → Asks pace stands told other → one ≡ other
+asks_one pace standings.Idle told one other first second = absurd first
+asks_one pace (standings.Began order) told one other first second =
+    wants_one told order.unit (read_length pace order.updates) one other first second
+asks_one pace (standings.Opened order) told one other first second =
+    wants_one told order.unit (unlock pace order.updates) one other first second
+asks_one pace (standings.Left unit) told one other first second =
     wants_one told unit (close verdicts.Closed verdicts.NotClosed) one other first second
 
 -- no code tells that an order may be opened
@@ -132,7 +133,7 @@ data Due (start : Start) (past : List Happening) (next : Happening) : Type 0 whe
       → Due start past next
   Begins : (order : Contents) → standing_at start past ≡ standings.Idle → waiting past ≡ Some order
       → next ≡ Kept (Began order (waiting_since past)) → Due start past next
-  Continues : (ask : Ask) → Asks (standing_at start past) (told_in past) ask
+  Continues : (ask : Ask) → Asks (pace_at start past) (standing_at start past) (told_in past) ask
       → IsAtHand (standing_at start past) (waiting past)
       → Does (standing_at start past) (waiting past) ask next → Due start past next
 
@@ -141,12 +142,12 @@ idle_began : (stands : Standing) (order : Contents) (moment : ℕ) → Allows st
 idle_began standings.Idle order moment allowed = refl
 idle_began stands order moment allowed = absurd allowed
 
-sent_at_hand : (past : List Happening) (stands : Standing) (told : List Exchange) (frame : Frame)
+sent_at_hand : (pace : Pace) (past : List Happening) (stands : Standing) (told : List Exchange) (frame : Frame)
     → MaySend past stands frame
-    → Asks stands told (asks.Send frame) → IsAtHand stands (waiting past)
-sent_at_hand past standings.Idle told frame may asked = asked
-sent_at_hand past (standings.Left unit) told frame may asked = waits_on past unit frame may
-sent_at_hand past stands told frame may asked = tt
+    → Asks pace stands told (asks.Send frame) → IsAtHand stands (waiting past)
+sent_at_hand pace past standings.Idle told frame may asked = asked
+sent_at_hand pace past (standings.Left unit) told frame may asked = waits_on past unit frame may
+sent_at_hand pace past stands told frame may asked = tt
 
 kept_at_hand : (past : List Happening) (stands : Standing) (verdict : Verdict) (entry : Record) → IsDue past entry
     → EndsIn stands verdict entry
@@ -166,7 +167,7 @@ does_keep (standings.Left unit) waits verdict entry ends = (entry, ends, refl)
 does_keep stands waits verdict entry ends = (entry, ends, refl)
 
 kept_due : (start : Start) (past : List Happening) (entry : Record) → IsDue past entry
-    → (verdict : Verdict) × Asks (standing_at start past) (told_in past) (asks.Ended verdict)
+    → (verdict : Verdict) × Asks (pace_at start past) (standing_at start past) (told_in past) (asks.Ended verdict)
     × EndsIn (standing_at start past) verdict entry
     → Due start past (Kept entry)
 kept_due start past entry due (verdict, asked, ends) =
@@ -185,7 +186,8 @@ due start past (Answered id (replies.Blocked unit)) work may planned =
     (rw may.0 (id, may.1, refl))
 due start past (Answered id reply) work may planned = absurd may
 due start past (Sent frame answer) work may planned =
-    Continues (asks.Send frame) planned (sent_at_hand past (standing_at start past) (told_in past) frame may planned)
+    Continues (asks.Send frame) planned
+    (sent_at_hand (pace_at start past) past (standing_at start past) (told_in past) frame may planned)
     (answer, refl)
 due start past (Kept (Began order moment)) work may planned =
     Begins order (idle_began (standing_at start past) order moment may.whole.0.1) may.due.0
@@ -233,7 +235,7 @@ one_due start past one other legal (Says id code ended ends is) (Says number las
 one_due start past one other legal (Begins order idle waits is) (Begins waiter _ so same) =
     let begun : waiter ≡ order = cc in rw is (same ∙ ap (λ o. Kept (Began o (waiting_since past))) begun)
 one_due start past one other legal (Continues ask asked hand does) (Continues wish wished _ did) =
-    let same = asks_one (standing_at start past) (told_in past) wish ask wished asked in
+    let same = asks_one (pace_at start past) (standing_at start past) (told_in past) wish ask wished asked in
     does_one (standing_at start past) (waiting past) ask one other does (rw same at did)
 one_due start past one other legal (Says id code ended ends is) (Begins order idle waits same) =
     ended_not_waiting start past order legal ended waits

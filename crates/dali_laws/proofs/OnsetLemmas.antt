@@ -29,7 +29,7 @@ use Rattle.dali_trace.specs.declared.happening.Happening.{Happening}
 use Rattle.dali_trace.specs.declared.happening.Happening.TheVariants.{Asked, Answered, Kept, Stopped}
 use Rattle.dali_trace.specs.WhenKept.{TellsTruth}
 use Rattle.dali_journal.specs.declared.standing.Standing.TheVariants as standings
-use Rattle.dali_trace.specs.Trace.{Start, records_of, standing_at, powered_of, sent_since_taken, waiting, has_ended}
+use Rattle.dali_trace.specs.Trace.{pace_at, Start, records_of, standing_at, powered_of, sent_since_taken, waiting, has_ended}
 use Rattle.dali_trace.specs.Legal.{Legal}
 use Rattle.dali_trace.specs.Moves.{MovesBy}
 use Rattle.dali_trace.specs.Fits.{OnlyNamed, HasBeenOpened}
@@ -48,16 +48,17 @@ use Rattle.dali_laws.proofs.WorkLemmas.{said_end}
 use Rattle.dali_laws.proofs.CourseLemmas.{on_course}
 use Rattle.dali_trace.specs.ByPlan.{told_in, ByPlan}
 use Rattle.dali_journal.specs.Orders.{orders_of}
+use Rattle.dali_write.specs.declared.pace.Pace.{Pace}
 
 -- an order has sent something before it ends
 
-begun_at_least : (unit : ℕ) (updates : List (ℕ × ℕ)) (verdict : Verdict)
-    → Wants unit (read_length updates) [] (asks.Ended verdict) → ⊥
-begun_at_least unit updates verdict wants = none_ended unit _ _ verdict wants
+begun_at_least : (pace : Pace) (unit : ℕ) (updates : List (ℕ × ℕ)) (verdict : Verdict)
+    → Wants unit (read_length pace updates) [] (asks.Ended verdict) → ⊥
+begun_at_least pace unit updates verdict wants = none_ended unit _ _ verdict wants
 
-opened_at_least : (unit : ℕ) (updates : List (ℕ × ℕ)) (verdict : Verdict)
-    → Wants unit (unlock updates) [] (asks.Ended verdict) → ⊥
-opened_at_least unit updates verdict wants = none_ended unit _ _ verdict wants
+opened_at_least : (pace : Pace) (unit : ℕ) (updates : List (ℕ × ℕ)) (verdict : Verdict)
+    → Wants unit (unlock pace updates) [] (asks.Ended verdict) → ⊥
+opened_at_least pace unit updates verdict wants = none_ended unit _ _ verdict wants
 
 closing_at_least : (unit : ℕ) (verdict : Verdict)
     → Wants unit (close verdicts.Closed verdicts.NotClosed) [] (asks.Ended verdict) → ⊥
@@ -67,15 +68,15 @@ none_newer : (sent told older : List Exchange) → sent ≡ told ++ older → se
 none_newer sent [] older parts none = refl
 none_newer sent (x ∷ told) older parts none = let never = sym none ∙ parts in cc
 
-pub ended_sent : (first : Standing) (order : Contents) (code : Code) (sent : List Exchange)
-    → EndedBy first order code sent → sent ≢ []
-ended_sent first order code sent (verdict, told, older, parts, inl (ends, wants, closed)) none =
-    begun_at_least order.unit order.updates verdict
-    (subst (λ (t : List Exchange). Wants order.unit (read_length order.updates) t (asks.Ended verdict))
+pub ended_sent : (pace : Pace) (first : Standing) (order : Contents) (code : Code) (sent : List Exchange)
+    → EndedBy pace first order code sent → sent ≢ []
+ended_sent pace first order code sent (verdict, told, older, parts, inl (ends, wants, closed)) none =
+    begun_at_least pace order.unit order.updates verdict
+    (subst (λ (t : List Exchange). Wants order.unit (read_length pace order.updates) t (asks.Ended verdict))
     (none_newer sent told older parts none) wants)
-ended_sent first order code sent (verdict, told, older, parts, inr (ends, wants, opened)) none =
-    opened_at_least order.unit order.updates verdict
-    (subst (λ (t : List Exchange). Wants order.unit (unlock order.updates) t (asks.Ended verdict))
+ended_sent pace first order code sent (verdict, told, older, parts, inr (ends, wants, opened)) none =
+    opened_at_least pace order.unit order.updates verdict
+    (subst (λ (t : List Exchange). Wants order.unit (unlock pace order.updates) t (asks.Ended verdict))
     (none_newer sent told older parts none) wants)
 
 pub blocked_sent : (unit : ℕ) (sent : List Exchange)
@@ -116,9 +117,9 @@ at_start holds start (Answered id replies.Taken ∷ past) last (state ∷ states
       before = state ∷ states;
       each = each;
     }
-at_start holds start (Stopped ∷ past) last (state ∷ states) legal each =
+at_start holds start (Stopped pace ∷ past) last (state ∷ states) legal each =
     record {
-      moment = Stopped ∷ past;
+      moment = Stopped pace ∷ past;
       stands = refl;
       so = each.0;
       legal = legal;
@@ -265,7 +266,7 @@ said_spared start zero first (Answered id (replies.Kept code) ∷ past) last (st
     let said = said_end start past id code legal.0 planned.0 legal.1 in
     let whole =
     starts_whole (IsAnother order.unit left_one) (sent_since_taken past) (state_at_start past state states) state
-    since.run (ended_sent (stood_at start past) said.0 code (sent_since_taken past) said.3) in
+    since.run (ended_sent (pace_at start past) (stood_at start past) said.0 code (sent_since_taken past) said.3) in
     let start_is = onset start zero past state states order.unit bank none legal.0 each.1 whole little.there in
     let end =
     kept_spared start past id code state states legal.0 planned.0 legal.1 order bank since hand valid little.taken
@@ -278,7 +279,7 @@ said_spared start zero first (Answered id (replies.Blocked left) ∷ past) last 
     let left_one = named_unit (stood_at start past) in
     let since = since_start order.unit left_one first past state states chain.1 little.powered in
     let never =
-    blocked_never (stood_at start past) (standing_at start past) (waiting past) (has_ended past)
+    blocked_never (pace_at start past) (stood_at start past) (standing_at start past) (waiting past) (has_ended past)
     (orders_of (records_of start past)) (sent_since_taken past) (told_in past) (kept_since past)
     id left legal.1.0 legal.1.1 planned.1 (on_course start past legal.0 planned.0) in
     let whole =

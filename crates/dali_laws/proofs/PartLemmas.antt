@@ -24,7 +24,7 @@ use Rattle.dali_trace.specs.declared.happening.Happening.{Happening}
 use Rattle.dali_trace.specs.declared.happening.Happening.TheVariants.{Asked, Answered, Sent, Kept, Stopped}
 use Rattle.dali_trace.specs.Cut.{since, is_stop, is_turn, frames_in, kept_in}
 use Rattle.dali_trace.proofs.CutLemmas.{since_sooner, frames_joined, frames_next}
-use Rattle.dali_trace.specs.Trace.{Start, records_of, standing_at, sent_of, waiting, waits_in, is_at_work, is_busy}
+use Rattle.dali_trace.specs.Trace.{pace_at, Start, records_of, standing_at, sent_of, waiting, waits_in, is_at_work, is_busy}
 use Rattle.dali_trace.specs.Trace.{Course, Quiet, Waiting, Working, JustEnded, course_of, unsaid_in}
 use Rattle.dali_trace.specs.Legal.{Legal, MayFollow, MaySend, MayKeep, IsDue}
 use Rattle.dali_trace.specs.ByPlan.{ByPlan, IsPlanned, Asks, told_in}
@@ -34,6 +34,7 @@ use Rattle.dali_laws.proofs.RecordLemmas.{grounds_too}
 use Rattle.dali_laws.proofs.RepeatLemmas.{legal_sentence}
 use Rattle.dali_laws.proofs.SafeLemmas.{IsSafeFrame, IsSafe, AllSafe, safe_frame, safe_own, kept_own, sentence_own}
 use Rattle.dali_laws.proofs.SafeLemmas.{may_send, may_keep}
+use Rattle.dali_write.specs.declared.pace.Pace.{Pace}
 
 -- The session at hand
 
@@ -65,7 +66,7 @@ told_part : (before part : List Happening)
     ⊎ ((kept_in part ≡ []) × (course_of before ≡ Quiet → course_of (part ++ before) ≡ Quiet))
 told_part before [] = inr (refl, λ quiet. quiet)
 told_part before (Kept entry ∷ part) = inl refl
-told_part before (Stopped ∷ part) = inl refl
+told_part before (Stopped pace ∷ part) = inl refl
 told_part before (Answered id replies.Taken ∷ part) = inl refl
 told_part before (Answered id reply ∷ part) = elim (told_part before part) [
   | inl same ↦ inl (told_next before (Answered id reply) part same)
@@ -78,7 +79,7 @@ told_part before (next ∷ part) = elim (told_part before part) [
 
 -- its frames are the newest of those since the last stop
 stop_turns : (next : Happening) → is_stop next ≡ true → is_turn next ≡ true
-stop_turns Stopped is = refl
+stop_turns (Stopped pace) is = refl
 stop_turns _ is = let never : false ≡ true = is in cc
 
 told_newest : (past : List Happening) → (older : List Exchange) × (sent_of past ≡ told_in past ++ older)
@@ -108,22 +109,23 @@ selects_older unit location told older s =
     (s.0, s.1 ++ older, ap (λ (t : List Exchange). t ++ older) s.2 ∙ append_assoc s.0 s.1 older, s.3)
 
 -- the plan writes only where it made sure of a place
-planned_selects : (stands : Standing) (told : List Exchange) (byte unit : ℕ) → named_unit stands ≡ Some unit
-    → Asks stands told (asks.Send (Write byte)) → (other : ℕ) × (place : ℕ) × Selects other place told
-planned_selects standings.Idle told byte unit named asked = absurd asked
-planned_selects (standings.Began order) told byte unit named asked = cc
-planned_selects (standings.Opened order) told byte unit named asked =
-    let guarded = opened_guarded told order.unit order.updates (Write byte) asked in
+planned_selects : (pace : Pace) (stands : Standing) (told : List Exchange) (byte unit : ℕ)
+    → named_unit stands ≡ Some unit
+    → Asks pace stands told (asks.Send (Write byte)) → (other : ℕ) × (place : ℕ) × Selects other place told
+planned_selects pace standings.Idle told byte unit named asked = absurd asked
+planned_selects pace (standings.Began order) told byte unit named asked = cc
+planned_selects pace (standings.Opened order) told byte unit named asked =
+    let guarded = opened_guarded told order.unit pace order.updates (Write byte) asked in
     (order.unit, guarded.0, guarded.2)
-planned_selects (standings.Left left) told byte unit named asked =
+planned_selects pace (standings.Left left) told byte unit named asked =
     let guarded = closing_guarded told left (Write byte) asked in (left, guarded.0, guarded.2)
 
 -- so a frame of the plan is safe behind those of the session at hand
-planned_frame : (stands : Standing) (told back more : List Exchange) (frame : Frame)
-    → IsSafeFrame (told ++ back) stands frame → Asks stands told (asks.Send frame)
+planned_frame : (pace : Pace) (stands : Standing) (told back more : List Exchange) (frame : Frame)
+    → IsSafeFrame (told ++ back) stands frame → Asks pace stands told (asks.Send frame)
     → IsSafeFrame (told ++ more) stands frame
-planned_frame stands told back more (Write byte) safe asked =
-    let sure = planned_selects stands told byte safe.unit safe.is_named asked in
+planned_frame pace stands told back more (Write byte) safe asked =
+    let sure = planned_selects pace stands told byte safe.unit safe.is_named asked in
     record {
       unit = safe.unit;
       location = safe.location;
@@ -133,11 +135,12 @@ planned_frame stands told back more (Write byte) safe asked =
           selects_older safe.unit safe.location told more
           (selects_front safe.unit safe.location sure.0 sure.1 told back safe.selected sure.2);
     }
-planned_frame stands told back more other safe asked = safe
+planned_frame pace stands told back more other safe asked = safe
 
 part_frame : (start : Start) (before part : List Happening) (frame : Frame) → IsOfPart start before part
     → MaySend (part ++ before) (standing_at start (part ++ before)) frame
-    → Asks (standing_at start (part ++ before)) (told_in (part ++ before)) (asks.Send frame)
+    → Asks (pace_at start (part ++ before)) (standing_at start (part ++ before)) (told_in (part ++ before))
+    (asks.Send frame)
     → IsSafeFrame (sent_of part) (standing_at start (part ++ before)) frame
 part_frame start before part frame of_part may asked = by of_part where
   whole : List Happening
@@ -152,11 +155,11 @@ part_frame start before part frame of_part may asked = by of_part where
       let own = told_newest part in
       let parts : sent_of whole ≡ told_in part ++ all.0 = all.1 ∙ ap (λ (t : List Exchange). t ++ all.0) told in
       subst (λ (t : List Exchange). IsSafeFrame t stands frame) (sym own.1)
-      (planned_frame stands (told_in part) all.0 own.0 frame
+      (planned_frame (pace_at start whole) stands (told_in part) all.0 own.0 frame
       (subst (λ (t : List Exchange). IsSafeFrame t stands frame) parts (safe_frame whole stands frame may))
-      (subst (λ (t : List Exchange). Asks stands t (asks.Send frame)) told asked))
+      (subst (λ (t : List Exchange). Asks (pace_at start whole) stands t (asks.Send frame)) told asked))
   by (inr (inl idle)) =
-      absurd (subst (λ (at : Standing). Asks at (told_in whole) (asks.Send frame)) idle asked)
+      absurd (subst (λ (at : Standing). Asks (pace_at start whole) at (told_in whole) (asks.Send frame)) idle asked)
   by (inr (inr (left, at, none))) =
       let waits = waits_on whole left frame (subst (λ (st : Standing). MaySend whole st frame) at may) in
       let never : false ≡ true = sym (ap is_some none) ∙ waits in cc
@@ -171,16 +174,16 @@ verdict_grounds shows updates verdict entry is rests =
     (rests_on_too shows shows ((byte : ℕ) × shows 2 byte) (IsSeen shows) updates verdict
     (λ location byte shown. shown) (λ lock. (2, lock.0, lock.1)) rests)
 
-planned_grounds : (stands : Standing) (told : List Exchange) (verdict : Verdict) (entry : Record)
-    → Asks stands told (asks.Ended verdict) → EndsIn stands verdict entry → Grounds (StillRead told) stands entry
-planned_grounds standings.Idle told verdict entry asked ends = absurd asked
-planned_grounds (standings.Began order) told verdict entry asked ends =
+planned_grounds : (pace : Pace) (stands : Standing) (told : List Exchange) (verdict : Verdict) (entry : Record)
+    → Asks pace stands told (asks.Ended verdict) → EndsIn stands verdict entry → Grounds (StillRead told) stands entry
+planned_grounds pace standings.Idle told verdict entry asked ends = absurd asked
+planned_grounds pace (standings.Began order) told verdict entry asked ends =
     verdict_grounds (StillRead told order.unit) order.updates verdict entry ends.1
-    (fresh_rests told order.unit order.updates verdict asked)
-planned_grounds (standings.Opened order) told verdict entry asked ends =
+    (fresh_rests told order.unit pace order.updates verdict asked)
+planned_grounds pace (standings.Opened order) told verdict entry asked ends =
     verdict_grounds (StillRead told order.unit) order.updates verdict entry ends.1
-    (opened_rests told order.unit order.updates verdict asked)
-planned_grounds (standings.Left unit) told verdict entry asked ends =
+    (opened_rests told order.unit pace order.updates verdict asked)
+planned_grounds pace (standings.Left unit) told verdict entry asked ends =
     verdict_grounds (StillRead told unit) [] verdict entry ends.1 (closing_rests told unit verdict asked)
 
 -- one that tells of no verdict rests on nothing
@@ -200,7 +203,7 @@ record_grounds : (start : Start) (past : List Happening) (entry : Record) → Is
 record_grounds start past (Began order moment) planned =
     began_grounds (StillRead (told_in past)) (standing_at start past) (Began order moment) refl
 record_grounds start past other planned =
-    planned_grounds (standing_at start past) (told_in past) planned.0 other planned.1 planned.2
+    planned_grounds (pace_at start past) (standing_at start past) (told_in past) planned.0 other planned.1 planned.2
 
 -- where nothing is asked for, only an order is begun
 unasked_grounds : (shows : ℕ → ℕ → ℕ → Type 0) (start : Start) (past : List Happening) (entry : Record)

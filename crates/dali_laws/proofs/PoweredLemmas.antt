@@ -1,16 +1,22 @@
 -- Losses of power between happenings change nothing of what may come next, and of what the plan asks.
 use Rattle.std.proofs.Common.{◌≡◌, refl, ap, ◌∙◌, ℕ, Bool, false, if◌then◌else◌, List, [], ◌∷◌}
 use Rattle.dali_trace.specs.declared.happening.Happening.{Happening}
-use Rattle.dali_trace.specs.declared.happening.Happening.TheVariants.{Asked, Answered, Kept, Powered}
+use Rattle.dali_trace.specs.declared.happening.Happening.TheVariants.{Asked, Answered, Kept, Powered, Stopped}
 use Rattle.dali_trace.specs.Cut.{since, is_stop, is_start, is_turn, frames_in}
 use Rattle.dali_trace.proofs.CutLemmas.{frames_next}
-use Rattle.dali_trace.specs.Trace.{Start, records_of, course_of, replied, next_course, Course}
+use Rattle.dali_trace.specs.Trace.{pace_at, Start, records_of, course_of, replied, next_course, Course}
 use Rattle.dali_trace.specs.Legal.{MayFollow, Legal, IsFinished}
 use Rattle.dali_trace.specs.ByPlan.{IsPlanned, ByPlan}
 use Rattle.dali_laws.specs.Powered.{unpowered, IsPowerApart}
 use Rattle.dali_laws.proofs.AgreeLemmas.{Agree, happens_too, replies_too, planned_too, may_happen, said_quiet}
 
 -- Each function of a trace passes over them
+
+same_pace : (start : Start) (past : List Happening) → pace_at start past ≡ pace_at start (unpowered past)
+same_pace start [] = refl
+same_pace start (Powered address ∷ past) = same_pace start past
+same_pace start (Stopped pace ∷ past) = refl
+same_pace start (_ ∷ past) = same_pace start past
 
 pub same_records : (start : Start) (past : List Happening) → records_of start past ≡ records_of start (unpowered past)
 same_records start [] = refl
@@ -86,7 +92,7 @@ powered_legal start (newest ∷ past) apart legal =
 planned_next : (start : Start) (past : List Happening) (next : Happening) → IsPlanned start (unpowered past) next
     → IsPlanned start past next
 planned_next start past next planned =
-    planned_too start start past (unpowered past) next (same_records start past)
+    planned_too start start past (unpowered past) next (same_pace start past) (same_records start past)
     (same_frames is_turn (λ address. refl) past) planned
 
 pub powered_planned : (start : Start) (past : List Happening) → ByPlan start (unpowered past) → ByPlan start past

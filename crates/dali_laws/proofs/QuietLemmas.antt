@@ -97,7 +97,7 @@ stays_still start past (Sent frame answer ∷ more) legal e none =
 stays_still start past (Kept entry ∷ more) legal e none =
     let before = stays_still start past more legal.0 e none in
     keeps_none start (more ++ past) entry before.0 (may_keep start (more ++ past) entry legal.1)
-stays_still start past (Stopped ∷ more) legal e none =
+stays_still start past (Stopped pace ∷ more) legal e none =
     let before = stays_still start past more legal.0 e none in
     (record { idle = before.0.idle; said = refl; none = refl }, before.1, before.2)
 stays_still start past (_ ∷ more) legal e none =

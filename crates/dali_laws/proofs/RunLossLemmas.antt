@@ -80,7 +80,7 @@ since_start unit left first [] last (state ∷ states) chain kept = absurd chain
 since_start unit left first (next ∷ past) last [] chain kept = absurd chain
 since_start unit left first (Answered id replies.Taken ∷ past) last (state ∷ states) chain kept =
     begins_run unit left last
-since_start unit left first (Stopped ∷ past) last (state ∷ states) chain kept = begins_run unit left last
+since_start unit left first (Stopped pace ∷ past) last (state ∷ states) chain kept = begins_run unit left last
 since_start unit left first (Powered address ∷ past) last (state ∷ states) chain kept =
     drifts_on unit left _ _ last state _ _ address kept.0 chain.0
     (since_start unit left first past state states chain.1 kept.1)

@@ -37,7 +37,7 @@ use Rattle.dali_write.proofs.ElseLemmas.{closing_keeps_bank, run_apart, none_on,
 use Rattle.dali_trace.specs.declared.happening.Reply.TheVariants as replies
 use Rattle.dali_trace.specs.declared.happening.Happening.{Happening}
 use Rattle.dali_trace.specs.declared.happening.Happening.TheVariants.{Answered}
-use Rattle.dali_trace.specs.Trace.{Start, records_of, standing_at, sent_since_taken, waiting, has_ended, is_at_work}
+use Rattle.dali_trace.specs.Trace.{pace_at, Start, records_of, standing_at, sent_since_taken, waiting, has_ended, is_at_work}
 use Rattle.dali_trace.specs.Legal.{Legal, MaySay, HasNumber}
 use Rattle.dali_journal.specs.declared.kept.Progress.{Progress}
 use Rattle.dali_journal.specs.Orders.{orders_of}
@@ -51,6 +51,7 @@ use Rattle.dali_trace.specs.Spared.{state_at_start, losses_since, UnrefusedSince
 use Rattle.dali_laws.proofs.RunLossLemmas.{IsAnother, RunBeside, losses_to, Since, own_losses, left_losses, halves}
 use Rattle.dali_write.proofs.RunLemmas.{Leads, losses_along, UnrefusedAlong, SparedAlong}
 use Rattle.dali_gear.specs.SimState.{SimStep}
+use Rattle.dali_write.specs.declared.pace.Pace.{Pace}
 
 -- Where an order starts, and this unit or none was left: the units are apart, none is enabled but the left one, the
 -- order's unit has this bank 1, and the left one has some.
@@ -252,16 +253,17 @@ record Looked (order : Contents) (bank : BankState) (verdict : Verdict) (sent : 
   like : OnlyDiffers bank 2 now.bank1
   few : misses_in sent ≤ lost
 
-looked : (first : Standing) (order : Contents) (bank : BankState) (verdict : Verdict) (sent told older : List Exchange)
+looked : (pace : Pace) (first : Standing) (order : Contents) (bank : BankState) (verdict : Verdict)
+    (sent told older : List Exchange)
     (begun last : SimState) (run : RunBeside order.unit (named_unit first) sent begun last)
     → is_at_work first ≡ false
     → Onset (named_unit first) order.unit bank begun
     → UnrefusedAlong (IsAnother order.unit (named_unit first)) sent begun last run
     → losses_to order.unit (named_unit first) sent begun last run < most_tries
-    → sent ≡ told ++ older → Wants order.unit (read_length order.updates) told (asks.Ended verdict)
+    → sent ≡ told ++ older → Wants order.unit (read_length pace order.updates) told (asks.Ended verdict)
     → ClosedBy first older
     → Looked order bank verdict sent last (losses_to order.unit (named_unit first) sent begun last run)
-looked first order bank verdict sent told older begun last run idle onset kind few same wants closed =
+looked pace first order bank verdict sent told older begun last run idle onset kind few same wants closed =
     let loses = IsAnother order.unit (named_unit first) in
     let two = halves order.unit (named_unit first) sent told older begun last run same in
     let sum = two.sum in
@@ -278,8 +280,8 @@ looked first order bank verdict sent told older begun last run idle onset kind f
     } in
     let end =
     gone loses (λ now. now ≡ clear.now.bank1) (found_verdict clear.now.bank1.bytes order.updates) verdict order.unit
-    (read_length order.updates) clear.now told older two.mid last spared
-    (fresh_goes order.updates clear.now.bank1 (like_bank bank clear.now.bank1 clear.like onset.whole)) wants in
+    (read_length pace order.updates) clear.now told older two.mid last spared
+    (fresh_goes pace order.updates clear.now.bank1 (like_bank bank clear.now.bank1 clear.like onset.whole)) wants in
     let count = end.1 in
     let less = end.2.few in
     let before = clear.few in
@@ -295,22 +297,25 @@ looked first order bank verdict sent told older begun last run idle onset kind f
     }
 
 -- the end of an order that loses little
-pub spared_end : (first : Standing) (order : Contents) (code : Code) (bank : BankState) (sent : List Exchange)
+pub spared_end : (pace : Pace) (first : Standing) (order : Contents) (code : Code) (bank : BankState)
+    (sent : List Exchange)
     (begun last : SimState) (run : RunBeside order.unit (named_unit first) sent begun last)
     → is_at_work first ≡ false
     → Onset (named_unit first) order.unit bank begun → RisesAbove 0 order.updates
     → UnrefusedAlong (IsAnother order.unit (named_unit first)) sent begun last run
     → losses_to order.unit (named_unit first) sent begun last run < most_tries
-    → (due_code bank.bytes order.updates ≡ codes.Done → TakesAll bank order.updates) → EndedBy first order code sent
+    → (due_code bank.bytes order.updates ≡ codes.Done → TakesAll bank order.updates)
+    → EndedBy pace first order code sent
     → (code ≡ due_code bank.bytes order.updates)
     × (misses_in sent ≤ losses_to order.unit (named_unit first) sent begun last run)
-spared_end first order code bank sent begun last run idle onset rises kind few takes
+spared_end pace first order code bank sent begun last run idle onset rises kind few takes
     (verdict, told, older, same, inl (ends, wants, closed)) =
-    let look = looked first order bank verdict sent told older begun last run idle onset kind few same wants closed in
+    let look = looked pace first order bank verdict sent told older begun last run idle onset kind few same wants closed
+    in
     let is : EndsIn (standings.Began order) (found_verdict bank.bytes order.updates) (Ended code) =
     subst (λ (v : Verdict). EndsIn (standings.Began order) v (Ended code)) look.verdict_is ends in
     (short_code order code bank.bytes order.updates is, look.few)
-spared_end first order code bank sent begun last run idle onset rises kind few takes
+spared_end pace first order code bank sent begun last run idle onset rises kind few takes
     (verdict, told, older, same, inr (ends, wants, opened)) =
     let loses = IsAnother order.unit (named_unit first) in
     let two = halves order.unit (named_unit first) sent told older begun last run same in
@@ -318,7 +323,7 @@ spared_end first order code bank sent begun last run idle onset rises kind few t
     let kinds = two.kinds kind in
     let check = checked first idle opened in
     let look =
-    looked first order bank verdicts.MayOpen older check.0 check.1 begun two.mid two.before idle onset kinds.0
+    looked pace first order bank verdicts.MayOpen older check.0 check.1 begun two.mid two.before idle onset kinds.0
     (omega arith) check.2 check.3 check.4 in
     let due = open_due bank.bytes order.updates look.verdict_is in
     let own = own_losses order.unit (named_unit first) told two.mid last two.after in
@@ -333,9 +338,9 @@ spared_end first order code bank sent begun last run idle onset rises kind few t
     let least = onset.whole.least in
     let long = look.like.lengths in
     let end =
-    gone loses (λ now. ⊤) verdicts.Done verdict order.unit (unlock order.updates) look.now told older two.mid
+    gone loses (λ now. ⊤) verdicts.Done verdict order.unit (unlock pace order.updates) look.now told older two.mid
     last spared
-    (unlock_goes order.updates look.now.bank1 rises (omega arith)
+    (unlock_goes pace order.updates look.now.bank1 rises (omega arith)
     (like_takes bank look.now.bank1 order.updates look.like (takes due)))
     wants in
     let count = end.1 in
@@ -347,7 +352,8 @@ spared_end first order code bank sent begun last run idle onset rises kind few t
       omega arith,
     )
   where
-    checked : (first : Standing) → is_at_work first ≡ false → OpenedBy first order older → CheckedBy first order older
+    checked : (first : Standing) → is_at_work first ≡ false → OpenedBy pace first order older
+        → CheckedBy pace first order older
     checked standings.Idle idle opened = opened
     checked (standings.Left unit) idle opened = opened
     checked (standings.Began begun) idle opened = cc
@@ -397,15 +403,15 @@ spared_closed (standings.Left other) left unit bank sent begun last run at onset
 same_order : (one other : Contents) (hand : Option Contents) → hand ≡ Some one → hand ≡ Some other → one ≡ other
 same_order one other hand is also = let both : Some one ≡ Some other = sym is ∙ also in cc
 
-pub blocked_never : (first now : Standing) (waiter : Option Contents) (ended : Bool)
+pub blocked_never : (pace : Pace) (first now : Standing) (waiter : Option Contents) (ended : Bool)
     (orders : List (Contents × Progress))
     (sent told : List Exchange) (kept id left : ℕ)
     → now ≡ standings.Left left
-    → HasNumber id waiter → Asks now told (asks.Ended verdicts.NotClosed)
-    → HasCome first now waiter ended orders sent told kept
+    → HasNumber id waiter → Asks pace now told (asks.Ended verdicts.NotClosed)
+    → HasCome pace first now waiter ended orders sent told kept
     → (first ≡ standings.Left left)
     × Wants left (close verdicts.Closed verdicts.NotClosed) sent (asks.Ended verdicts.NotClosed)
-blocked_never first (standings.Left other) (Some order) ended orders sent told kept id left at number asked come =
+blocked_never pace first (standings.Left other) (Some order) ended orders sent told kept id left at number asked come =
     let same : other ≡ left = cc in (
       come.0 ∙ at,
       subst (λ (l : ℕ). Wants l (close verdicts.Closed verdicts.NotClosed) sent (asks.Ended verdicts.NotClosed)) same
@@ -413,10 +419,11 @@ blocked_never first (standings.Left other) (Some order) ended orders sent told k
           Wants other (close verdicts.Closed verdicts.NotClosed) t (asks.Ended verdicts.NotClosed))
           (sym come.1) asked),
     )
-blocked_never first (standings.Left other) None ended orders sent told kept id left at number asked come = absurd number
-blocked_never first standings.Idle waiter ended orders sent told kept id left at number asked come = absurd asked
-blocked_never first (standings.Began order) waiter ended orders sent told kept id left at number asked come = cc
-blocked_never first (standings.Opened order) waiter ended orders sent told kept id left at number asked come = cc
+blocked_never pace first (standings.Left other) None ended orders sent told kept id left at number asked come = absurd
+    number
+blocked_never pace first standings.Idle waiter ended orders sent told kept id left at number asked come = absurd asked
+blocked_never pace first (standings.Began order) waiter ended orders sent told kept id left at number asked come = cc
+blocked_never pace first (standings.Opened order) waiter ended orders sent told kept id left at number asked come = cc
 
 pub kept_spared : (start : Start) (past : List Happening) (id : ℕ) (code : Code) (state : SimState)
     (states : List SimState)
@@ -433,11 +440,13 @@ pub kept_spared : (start : Start) (past : List Happening) (id : ℕ) (code : Cod
 kept_spared start past id code state states legal planned may order bank since hand valid idle onset kind few takes =
     let said = said_end start past id code legal planned may in
     let same = same_order said.0 order (order_at_hand start past) said.2 hand in
-    let ended : EndedBy (stood_at start past) order code (sent_since_taken past) =
-    subst (λ (o : Contents). EndedBy (stood_at start past) o code (sent_since_taken past)) same said.3 in
+    let ended : EndedBy (pace_at start past) (stood_at start past) order code (sent_since_taken past) =
+    subst (λ (o : Contents). EndedBy (pace_at start past) (stood_at start past) o code (sent_since_taken past)) same
+    said.3 in
     let count = since.losses in
     let end =
-    spared_end (stood_at start past) order code bank (sent_since_taken past) (state_at_start past state states) state
+    spared_end (pace_at start past) (stood_at start past) order code bank (sent_since_taken past)
+    (state_at_start past state states) state
     since.run idle onset valid.rising (since.kind kind) (omega arith) takes ended in
     let less = end.1 in
     (ap replies.Kept end.0, omega arith)
@@ -450,7 +459,7 @@ pub blocked_spared : (start : Start) (past : List Happening) (id left : ℕ) (st
     → losses_since unit (named_unit (stood_at start past)) past states < most_tries → ⊥
 blocked_spared start past id left state states legal planned may asked unit bank since onset kind few =
     let never =
-    blocked_never (stood_at start past) (standing_at start past) (waiting past) (has_ended past)
+    blocked_never (pace_at start past) (stood_at start past) (standing_at start past) (waiting past) (has_ended past)
     (orders_of (records_of start past)) (sent_since_taken past) (told_in past) (kept_since past)
     id left may.0 may.1 asked (on_course start past legal planned) in
     let count = since.losses in

@@ -25,6 +25,7 @@ use Rattle.dali_laws.proofs.PartLemmas.{part_safe}
 use Rattle.dali_laws.proofs.PoweredLemmas.{same_records, same_frames}
 use Rattle.dali_laws.proofs.FrameLemmas.{only_first}
 use Rattle.dali_laws.proofs.MomentLemmas.{safe_right, part_of}
+use Rattle.dali_write.specs.declared.pace.Pace.{Pace}
 
 -- Losses of power, wherever they stand, take no safety away
 
@@ -140,10 +141,11 @@ ready_at_rest stay along right =
 same_byte : (held : Option ℕ) (first byte : ℕ) → held ≡ Some first → held ≡ Some byte → byte ≡ first
 same_byte held first byte was is = cc
 
-pub ready_begins : (first last : World) (past : List Happening) (states : List World) (limit : ℕ) → IsReady first
+pub ready_begins : (first last : World) (past : List Happening) (states : List World) (limit : ℕ)
+    (pace : Pace) → IsReady first
     → IsChain Moves first past last states
-    → Along first [] (record { records = []; limit = limit }) first past last states
-ready_begins first last past states limit ready chain = record {
+    → Along first [] (record { records = []; limit = limit; pace = pace }) first past last states
+ready_begins first last past states limit pace ready chain = record {
   locked = ready.1;
   fits = record {
     places = λ address bank location. refl;
@@ -161,10 +163,10 @@ old_holds None first byte same = same
 old_holds (Some update) first byte same = inl same
 
 pub left_begins : (first last : World) (past : List Happening) (states : List World) (order : Contents)
-    (moment unit limit : ℕ) → IsLockedAbove first
+    (moment unit limit : ℕ) (pace : Pace) → IsLockedAbove first
     → OnlyNamed (left_by order moment unit) first → IsChain Moves first past last states
-    → Along first [] (record { records = left_by order moment unit; limit = limit }) first past last states
-left_begins first last past states order moment unit limit locked only chain = record {
+    → Along first [] (record { records = left_by order moment unit; limit = limit; pace = pace }) first past last states
+left_begins first last past states order moment unit limit pace locked only chain = record {
   locked = locked;
   fits = record {
     places = λ address bank location. refl;

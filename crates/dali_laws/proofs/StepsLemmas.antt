@@ -18,7 +18,7 @@ use Rattle.dali_trace.specs.declared.happening.Reply.{Reply}
 use Rattle.dali_trace.specs.declared.happening.Reply.TheVariants as replies
 use Rattle.dali_trace.specs.declared.happening.Happening.{Happening}
 use Rattle.dali_trace.specs.declared.happening.Happening.TheVariants.{Asked, Answered, Sent, Kept, Stopped, Powered}
-use Rattle.dali_trace.specs.Trace.{Start, records_of, standing_at, sent_since_taken, waiting, has_ended, is_unsaid}
+use Rattle.dali_trace.specs.Trace.{pace_at, Start, records_of, standing_at, sent_since_taken, waiting, has_ended, is_unsaid}
 use Rattle.dali_trace.specs.Trace.{is_at_work, is_busy, course_of}
 use Rattle.dali_trace.specs.Legal.{Legal, MaySay, HasNumber, IsFinished}
 use Rattle.dali_trace.specs.ByPlan.{ByPlan}
@@ -393,8 +393,9 @@ part_adds start (Submit order moment) before after (reply, same) =
     (Answered order.id reply ∷ Asked order moment ∷ [], same)
 part_adds start Step before after (inl (due, (work, is, same))) = (work ∷ [], same)
 part_adds start Step before after (inr (due, same)) = ([], same)
-part_adds start (Stop bytes) before after (inl (same, none)) = (Stopped ∷ [], same)
-part_adds start (Stop bytes) before after (inr (entry, next, few, same)) = (Stopped ∷ Kept entry ∷ [], same)
+part_adds start (Stop bytes) before after (inl (same, none)) = (Stopped (pace_at start before) ∷ [], same)
+part_adds start (Stop bytes) before after (inr (entry, next, few, same)) =
+    (Stopped (pace_at start before) ∷ Kept entry ∷ [], same)
 part_adds start (Power address) before after same = (Powered address ∷ [], same)
 
 pub parts_add : (start : Start) (events : List Event) (before after : List Happening)

@@ -97,7 +97,7 @@ waits start (Kept (Opened unit) ∷ past) order legal e =
 waits start (Kept (Ended code) ∷ past) order legal e = cc
 waits start (Kept (Closed unit) ∷ past) order legal e =
     let w = waits start past order legal.0 e in record { older = w.older; taken = w.taken; idle = refl }
-waits start (Stopped ∷ past) order legal e = cc
+waits start (Stopped pace ∷ past) order legal e = cc
 waits start (_ ∷ past) order legal e =
     let w = waits start past order legal.0 e in record { older = w.older; taken = w.taken; idle = w.idle }
 

@@ -47,7 +47,7 @@ waiting_valid (Answered id reply ∷ Asked other moment ∷ past) order asks e =
 waiting_valid (Answered id reply ∷ past) order asks e = cc
 waiting_valid (Kept (Began other moment) ∷ past) order asks e = cc
 waiting_valid (Kept (Ended code) ∷ past) order asks e = cc
-waiting_valid (Stopped ∷ past) order asks e = cc
+waiting_valid (Stopped pace ∷ past) order asks e = cc
 waiting_valid (_ ∷ past) order asks e = waiting_valid past order asks.1 e
 
 orders_valid : (start : Start) (past : List Happening) → start.records ≡ [] → Legal start past → AsksAllProper past

@@ -12,6 +12,7 @@ use Rattle.dali_trace.specs.Worked.{empty, first_order, second_order, begun, bus
 use Rattle.dali_trace.specs.WorkedPlans.{first_frame}
 use Rattle.dali_laws.specs.Powered.{unpowered, IsPowerApart}
 use Rattle.dali_laws.specs.Law.{NothingIsDone, RefusedOrdersChangeNothing}
+use Rattle.dali_write.specs.declared.pace.Pace.TheVariants.{Checked}
 
 -- What is something that is done, and what is nothing
 
@@ -22,7 +23,7 @@ nothing_by_a_refused_order = (refl, refl)
 pub nothing_before_it_is_begun : NothingIsDone empty (Answered 1 replies.Taken ∷ Asked first_order 7 ∷ []) []
 nothing_before_it_is_begun = (refl, refl)
 
-pub nothing_by_a_stop : NothingIsDone empty (Stopped ∷ []) begun
+pub nothing_by_a_stop : NothingIsDone empty (Stopped Checked ∷ []) begun
 nothing_by_a_stop = (refl, refl)
 
 pub not_nothing_by_a_record : NothingIsDone empty (Kept (Began first_order 7) ∷ []) [] → ⊥
@@ -42,8 +43,8 @@ pub not_apart_before_the_reply : (order : Contents) (moment : ℕ)
 not_apart_before_the_reply order moment apart = apart
 
 pub none_are_left : (order : Contents) (moment : ℕ)
-    → unpowered (Powered 6 ∷ Stopped ∷ Powered 5 ∷ Asked order moment ∷ Powered 5 ∷ [])
-    ≡ Stopped ∷ Asked order moment ∷ []
+    → unpowered (Powered 6 ∷ Stopped Checked ∷ Powered 5 ∷ Asked order moment ∷ Powered 5 ∷ [])
+    ≡ Stopped Checked ∷ Asked order moment ∷ []
 none_are_left order moment = refl
 
 -- A frame behind a refused order leaves what may come behind the frame without it

@@ -30,6 +30,7 @@ use Rattle.dali_laws.specs.Stays.{Stay, IsAlong, IsRightThrough, Begins, IsStay,
 use Rattle.dali_laws.specs.WorkedStays.{at_rest, done_once, next_order, exchanged, opened_once, left_once, unlocking}
 use Rattle.dali_laws.specs.WorkedStays.{read_before, opened_unread, unread}
 use Rattle.dali_laws.proofs.StayLemmas.{ready_begins, stay_right}
+use Rattle.dali_write.specs.declared.pace.Pace.TheVariants.{Checked}
 
 -- A blank unit is ready: none is write-enabled, and its lock bytes of the banks from 2 up are none
 
@@ -84,7 +85,7 @@ exchanged_is_a_stay = record {
   is_part = refl;
   begins = record { older = done_once.records; newest = refl; idle = refl; rests = inr (inl refl) };
   along =
-      ready_begins (alone blank_unit) exchanged.last exchanged.past exchanged.states 10 ready_when_blank
+      ready_begins (alone blank_unit) exchanged.last exchanged.past exchanged.states 10 Checked ready_when_blank
       exchanged_chain;
 }
 
@@ -104,7 +105,7 @@ exchanged_legal = (
 
 exchanged_planned : ByPlan done_once (unpowered exchanged.past)
 exchanged_planned =
-    ((((tt, tt), tt), tt), wants_so 5 (read_length first_order.updates) [] (asks.Send (Dtr1 1)) tt refl)
+    ((((tt, tt), tt), tt), wants_so 5 (read_length Checked first_order.updates) [] (asks.Send (Dtr1 1)) tt refl)
 
 pub exchanged_is_right : IsRightThrough exchanged
 exchanged_is_right =
@@ -148,7 +149,7 @@ none_begins_amid_an_order_by_no_records stay none begins =
 abbrev left_stay : Stay
 left_stay = record (at_rest (alone blank_unit) [] (alone blank_unit) []) { start = left_once }
 
-pub one_begins_where_a_unit_is_left : Begins left_once (Stopped ∷ []) left_stay
+pub one_begins_where_a_unit_is_left : Begins left_once (Stopped Checked ∷ []) left_stay
 one_begins_where_a_unit_is_left = record { older = []; newest = refl; idle = refl; rests = inr (inr refl) }
 
 pub none_begins_while_it_is_closed : (stay : Stay)
@@ -175,7 +176,7 @@ unlocking_legal =
 
 pub along_amid_an_order : IsAlong amid
 along_amid_an_order =
-    ready_begins (alone blank_unit) amid.last unlocking amid.states 10 ready_when_blank unlocking_comes.steps
+    ready_begins (alone blank_unit) amid.last unlocking amid.states 10 Checked ready_when_blank unlocking_comes.steps
 
 at_the_last : (holds : List Happening → World → Type 0) (past : List Happening) (last : World) (states : List World)
     → AtEachMoment holds past last states → holds past last

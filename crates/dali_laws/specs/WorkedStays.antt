@@ -12,6 +12,7 @@ use Rattle.dali_trace.specs.declared.happening.Happening.TheVariants.{Asked, Ans
 use Rattle.dali_trace.specs.Trace.{Start}
 use Rattle.dali_trace.specs.Worked.{first_order, measured, empty, alone, blank_unit, write_at}
 use Rattle.dali_laws.specs.Stays.{Stay, left_by}
+use Rattle.dali_write.specs.declared.pace.Pace.TheVariants.{Checked}
 
 -- a stay that begins at rest with this world
 abbrev pub at_rest : World → List Happening → World → List World → Stay
@@ -27,7 +28,7 @@ at_rest first past last states = record {
 
 -- order 1 for unit 5 was done
 abbrev pub done_once : Start
-done_once = record { records = Ended Done ∷ Opened 5 ∷ Began first_order 7 ∷ []; limit = 10 }
+done_once = record { records = Ended Done ∷ Opened 5 ∷ Began first_order 7 ∷ []; limit = 10; pace = Checked }
 
 -- order 2 for the same short address
 abbrev pub next_order : Contents
@@ -43,11 +44,11 @@ exchanged =
 
 -- order 1 was opened, and a blank unit comes in the place of the one that was read; the lock byte is written
 abbrev pub opened_once : Start
-opened_once = record { records = Opened 5 ∷ Began first_order 7 ∷ []; limit = 10 }
+opened_once = record { records = Opened 5 ∷ Began first_order 7 ∷ []; limit = 10; pace = Checked }
 
 -- order 1 left its unit open
 abbrev pub left_once : Start
-left_once = record { records = left_by first_order 7 5; limit = 10 }
+left_once = record { records = left_by first_order 7 5; limit = 10; pace = Checked }
 
 abbrev pub unlocking : List Happening
 unlocking = write_at 5 0x02 0x55 []

@@ -4,7 +4,8 @@ ghost use Rattle.std.specs.Prelude.{◌≡◌, ◌+◌, ◌*◌, ◌<◌, ◌≤
 ghost use Rattle.dali_bus.specs.World.{World};
 ghost use Rattle.dali_bus.specs.Chain.{IsChain};
 ghost use Rattle.dali_journal.specs.declared.standing.Standing.TheVariants as standings;
-ghost use Rattle.dali_write.specs.Plans.{greatest};
+ghost use Rattle.dali_write.specs.declared.pace.Pace.{Pace};
+ghost use Rattle.dali_write.specs.Plans.{rows_of, read_backs, greatest};
 ghost use Rattle.dali_trace.specs.Work.{work_limit, frames_from};
 ghost use Rattle.dali_trace.specs.declared.happening.Happening.{Happening};
 ghost use Rattle.dali_trace.specs.Trace.{Start};
@@ -101,11 +102,18 @@ pub fn orders_are_said_in_time()
 pub fn limits_are_these()
     ensures limit { (updates : ℕ) → work_limit updates ≡ 112 * updates + 560 }
     ensures low { (updates : List (ℕ × ℕ)) → greatest updates < 0x13
-        → frames_from standings.Idle updates ≡ 14 * length updates + 28 }
+        → frames_from Pace.Checked standings.Idle updates ≡ 14 * length updates + 28 }
     ensures high { (updates : List (ℕ × ℕ)) → 0x13 ≤ greatest updates
-        → frames_from standings.Idle updates ≡ 14 * length updates + 42 }
-    ensures left { (unit : ℕ) (updates : List (ℕ × ℕ))
-        → frames_from (standings.Left unit) updates ≡ frames_from standings.Idle updates + 14 }
+        → frames_from Pace.Checked standings.Idle updates ≡ 14 * length updates + 42 }
+    // By the short plan, with a row for each sixteen neighbours that are read back:
+    ensures low_short { (updates : List (ℕ × ℕ)) → greatest updates < 0x13
+        → frames_from Pace.Short standings.Idle updates
+        ≡ 6 * length updates + 6 * length (rows_of 16 (read_backs updates)) + 20 }
+    ensures high_short { (updates : List (ℕ × ℕ)) → 0x13 ≤ greatest updates
+        → frames_from Pace.Short standings.Idle updates
+        ≡ 6 * length updates + 6 * length (rows_of 16 (read_backs updates)) + 28 }
+    ensures left { (pace : Pace) (unit : ℕ) (updates : List (ℕ × ℕ))
+        → frames_from pace (standings.Left unit) updates ≡ frames_from pace standings.Idle updates + 14 }
 {}
 
 /// Losses of power, anywhere but between an order and its reply, change nothing of what is legal and by plan: a trace
@@ -145,14 +153,15 @@ pub fn every_moment_of_a_stay_is_right()
 pub fn each_rest_suits_the_next_stay()
     ensures ready { (stay : Stay) → IsAlong stay → IsRightThrough stay → IsReadyAtRest stay }
     // A stay wants no more of the units that it begins with, told by no records and against what they hold;
-    ensures begins { (first last : World) (past : List Happening) (states : List World) (limit : ℕ)
+    ensures begins { (first last : World) (past : List Happening) (states : List World) (limit : ℕ) (pace : Pace)
         → IsReady first → IsChain Moves first past last states
-        → Along first [] (record { records = []; limit = limit }) first past last states }
+        → Along first [] (record { records = []; limit = limit; pace = pace }) first past last states }
     // and where a unit is left, told by its order's records, that no other is write-enabled.
     ensures left { (first last : World) (past : List Happening) (states : List World) (order : Contents)
-        (moment unit limit : ℕ) → IsLockedAbove first → OnlyNamed (left_by order moment unit) first
+        (moment unit limit : ℕ) (pace : Pace) → IsLockedAbove first → OnlyNamed (left_by order moment unit) first
         → IsChain Moves first past last states
-        → Along first [] (record { records = left_by order moment unit; limit = limit }) first past last states }
+        → Along first [] (record { records = left_by order moment unit; limit = limit; pace = pace }) first past last
+        states }
 {}
 
 /// A luminaire that nobody touched between two stays fits over both: what its memory was when the first began, with the

@@ -15,21 +15,22 @@ use Rattle.dali_faults.specs.declared.fault.Status.{Status}
 use Rattle.dali_link_commands.specs.BehindAnswers.{BreaksBehind, IsBehindNamed, IsBreakTold}
 use Rattle.dali_link_commands.specs.Benches.{with_lines}
 use Rattle.dali_faults.specs.JournalInput.{journal_limit, order_limit}
+use Rattle.dali_write.specs.declared.pace.Pace.{Pace}
 
 -- what broke a drive off was told, and the lines alone were written for that
 pub break_told : {G N : Type 0} (gave : G → G → List Given → Type 0) (contents : N → Option (List ℕ))
-    (older : Option JournalState) (before after : Report N) (orders left : G) (first last : Look)
+    (older : Option JournalState) (pace : Pace) (before after : Report N) (orders left : G) (first last : Look)
     (replies : Option (List ℕ)) (lost : Bool) (status : Status) (fault : BehindFault)
-    → EndsBehind gave (IsTold contents) (IsToldEnd contents) older order_limit journal_limit orders fault first
+    → EndsBehind gave (IsTold contents) (IsToldEnd contents) older order_limit journal_limit pace orders fault first
     before left (with_lines last replies lost) after
     → BehindShows fault (with_lines last replies lost).failed → IsBreakTold fault status replies last.streams.out
-    → BreaksBehind gave contents older before after orders left first status last
-break_told gave contents older before after orders left first last replies lost status (behind.Open why) ends shows
+    → BreaksBehind gave contents older pace before after orders left first status last
+break_told gave contents older pace before after orders left first last replies lost status (behind.Open why) ends shows
     told = inl (search)
-break_told gave contents older before after orders left first last replies lost status (behind.Join why) ends shows
+break_told gave contents older pace before after orders left first last replies lost status (behind.Join why) ends shows
     told = inr (inl (search))
-break_told gave contents older before after orders left first last replies lost status (behind.Drive why) ends shows
-    told = inr (inr (search))
+break_told gave contents older pace before after orders left first last replies lost status (behind.Drive why) ends
+    shows told = inr (inr (search))
 
 -- records behind others that are at rest stand as they do by themselves
 pub standing_behind : (own older : List Record) → standing_of older ≡ Idle

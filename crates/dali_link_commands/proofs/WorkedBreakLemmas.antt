@@ -15,86 +15,90 @@ use Rattle.dali_link_commands.specs.BehindAnswers.{UnopenedBehind, UnjoinedBehin
 use Rattle.dali_link_commands.specs.declared.required.Required.{Required}
 use Rattle.dali_link_commands.specs.BehindAnswers.{EndsLinesBehind, EndsListBehind}
 use Rattle.dali_link_commands.proofs.WorkedBenchLemmas.{emptied_unsettled}
+use Rattle.dali_write.specs.declared.pace.Pace.{Pace}
 
 module _ {G N : Type 0} (gave : G → G → List Given → Type 0) (contents : N → Option (List ℕ))
-    (older : Option JournalState) (before after : Report N) (orders left : G) (first : Look) (status : Status)
-    (last : Look) where
+    (older : Option JournalState) (pace : Pace) (before after : Report N) (orders left : G) (first : Look)
+    (status : Status) (last : Look) where
   -- ---- a journal that isn't opened
 
   -- 21 File comes only where its store has failed, and no other stream
   pub unopened_where_no_store_failed :
-      (u : UnopenedBehind gave contents older before after orders left first status last)
+      (u : UnopenedBehind gave contents older pace before after orders left first status last)
       → u.fault ≡ unopened.Store stores.Failed → last.failed.journal ≡ false → ⊥
   unopened_where_no_store_failed u is unfailed = cc
 
-  pub unopened_where_a_link_failed : UnopenedBehind gave contents older before after orders left first status last
+  pub unopened_where_a_link_failed : UnopenedBehind gave contents older pace before after orders left first status last
       → last.failed.link_out ≡ true → ⊥
   unopened_where_a_link_failed u failed = cc
 
   pub unopened_too_big_where_a_store_failed :
-      (u : UnopenedBehind gave contents older before after orders left first status last)
+      (u : UnopenedBehind gave contents older pace before after orders left first status last)
       → u.fault ≡ unopened.Store stores.TooBig → last.failed.journal ≡ true → ⊥
   unopened_too_big_where_a_store_failed u is failed = cc
 
   -- ---- journals that are none together
 
-  pub unjoined_and_sent : UnjoinedBehind gave contents older before after orders left first status last
+  pub unjoined_and_sent : UnjoinedBehind gave contents older pace before after orders left first status last
       → first.streams.link ≡ Some [] → last.streams.link ≡ Some (codes "C301\n") → ⊥
   unjoined_and_sent u none sent = cc (ap (λ (s : Streams). s.link) u.unjoined.streams)
 
-  pub unjoined_and_heard : UnjoinedBehind gave contents older before after orders left first status last
+  pub unjoined_and_heard : UnjoinedBehind gave contents older pace before after orders left first status last
       → first.streams.answers ≡ Some (codes "--\n") → last.streams.answers ≡ Some [] → ⊥
   unjoined_and_heard u line heard = cc (ap (λ (s : Streams). s.answers) u.unjoined.streams)
 
-  pub unjoined_and_given : UnjoinedBehind gave contents older before after orders left first status last
+  pub unjoined_and_given : UnjoinedBehind gave contents older pace before after orders left first status last
       → (left ≡ orders → ⊥) → ⊥
   unjoined_and_given u given = given u.unjoined.ungiven
 
-  pub unjoined_and_unsettled : UnjoinedBehind gave contents older before after orders left first status last
+  pub unjoined_and_unsettled : UnjoinedBehind gave contents older pace before after orders left first status last
       → last.streams.journal ≡ Some (1 ∷ []) → last.may_leave [] → ⊥
   unjoined_and_unsettled u shows less = emptied_unsettled _ _ shows less u.unjoined.settled
 
-  pub unjoined_where_a_store_failed : UnjoinedBehind gave contents older before after orders left first status last
+  pub unjoined_where_a_store_failed : UnjoinedBehind gave contents older pace before after orders left first status last
       → last.failed.journal ≡ true → ⊥
   unjoined_where_a_store_failed u failed = cc
 
   -- ---- what is broken off
 
   -- a stop leaves the record that was kept before, and no less
-  pub broken_and_forgotten : (b : BrokenBehind gave contents older before after orders left first status last)
+  pub broken_and_forgotten : (b : BrokenBehind gave contents older pace before after orders left first status last)
       → b.broken.observed.breaks.follow.then.journal ≡ Some (1 ∷ []) → last.streams.journal ≡ Some (1 ∷ 2 ∷ [])
       → last.may_leave [] → ⊥
   broken_and_forgotten b then shows less =
       let (more, rest, front, whole) = rw (then, shows) at (b.broken.observed.breaks.left [] less) in cc
 
-  pub broken_where_none_failed : (b : BrokenBehind gave contents older before after orders left first status last)
+  pub broken_where_none_failed : (b : BrokenBehind gave contents older pace before after orders left first status last)
       → b.fault ≡ faults.Journal → last.failed.journal ≡ false → ⊥
   broken_where_none_failed b is unfailed = let failed = (rw is at b.failed).0 in cc
 
 -- ---- what came to its end
 
 pub ended_and_unsettled : {G N : Type 0} (gave : G → G → List Given → Type 0) (over : G → Type 0)
-    (contents : N → Option (List ℕ)) (older : Option JournalState) (before after : Report N) (orders left : G)
-    (first last : Look) → FollowsBehind gave over contents older before after orders left first last
+    (contents : N → Option (List ℕ)) (older : Option JournalState) (pace : Pace) (before after : Report N)
+    (orders left : G)
+    (first last : Look) → FollowsBehind gave over contents older pace before after orders left first last
     → last.streams.journal ≡ Some (1 ∷ []) → last.may_leave [] → ⊥
-ended_and_unsettled _ _ _ _ _ _ _ _ _ _ f shows less = emptied_unsettled _ _ shows less f.settled
+ended_and_unsettled _ _ _ _ _ _ _ _ _ _ _ f shows less = emptied_unsettled _ _ shows less f.settled
 
 pub lines_ended_and_unsettled : {R N : Type 0} (rest : R → Option (List ℕ)) (failed : R → Bool)
-    (contents : N → Option (List ℕ)) (older : Option JournalState) (required : Required) (before after : Report N)
+    (contents : N → Option (List ℕ)) (older : Option JournalState) (pace : Pace) (required : Required)
+    (before after : Report N)
     (orders left : OrderLines R) (first : Look) (status : Status) (last : Look)
-    → EndsLinesBehind rest failed contents older required before after orders left first status last
+    → EndsLinesBehind rest failed contents older pace required before after orders left first status last
     → last.streams.journal ≡ Some (1 ∷ []) → last.may_leave [] → ⊥
-lines_ended_and_unsettled _ _ _ _ _ _ _ _ _ _ _ _ e shows less = emptied_unsettled _ _ shows less e.follows.settled
+lines_ended_and_unsettled _ _ _ _ _ _ _ _ _ _ _ _ _ e shows less = emptied_unsettled _ _ shows less e.follows.settled
 
 pub list_ended_and_unsettled : {N : Type 0} (older : Option JournalState) (contents : N → Option (List ℕ)) (moment : ℕ)
-    (required : Required) (before after : Report N) (orders : List Contents) (first : Look) (status : Status)
-    (last : Look) → EndsListBehind older contents moment required before after orders first status last
+    (pace : Pace) (required : Required) (before after : Report N) (orders : List Contents) (first : Look)
+    (status : Status)
+    (last : Look) → EndsListBehind older contents moment pace required before after orders first status last
     → last.streams.journal ≡ Some (1 ∷ []) → last.may_leave [] → ⊥
-list_ended_and_unsettled _ _ _ _ _ _ _ _ _ _ e shows less = emptied_unsettled _ _ shows less e.settled
+list_ended_and_unsettled _ _ _ _ _ _ _ _ _ _ _ e shows less = emptied_unsettled _ _ shows less e.settled
 
 pub list_ended_where_a_store_failed : {N : Type 0} (older : Option JournalState) (contents : N → Option (List ℕ))
-    (moment : ℕ) (required : Required) (before after : Report N) (orders : List Contents) (first : Look)
+    (moment : ℕ) (pace : Pace) (required : Required) (before after : Report N) (orders : List Contents) (first : Look)
     (status : Status) (last : Look)
-    → EndsListBehind older contents moment required before after orders first status last
+    → EndsListBehind older contents moment pace required before after orders first status last
     → last.failed.journal ≡ true → ⊥
-list_ended_where_a_store_failed _ _ _ _ _ _ _ _ _ _ e failed = cc (sym failed, e.unfailed.0)
+list_ended_where_a_store_failed _ _ _ _ _ _ _ _ _ _ _ e failed = cc (sym failed, e.unfailed.0)

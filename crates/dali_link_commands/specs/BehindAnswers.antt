@@ -26,7 +26,7 @@ use Rattle.dali_follow.specs.Gave as lines
 use Rattle.dali_report.specs.declared.report.Report.{Report}
 use Rattle.dali_report.specs.Reports.{outcome_of}
 use Rattle.dali_report.specs.Told.{IsTold, IsToldEnd}
-use Rattle.dali_engine.specs.WriterState.{WriterState, start_of}
+use Rattle.dali_engine.specs.WriterState.{WriterState, start_by}
 use Rattle.dali_faults.specs.declared.fault.Fault.{Fault}
 use Rattle.dali_faults.specs.declared.fault.Fault.TheVariants.{Input}
 use Rattle.dali_faults.specs.declared.fault.Status.{Status}
@@ -41,6 +41,7 @@ use Rattle.dali_link_commands.specs.Older.{IsOlderFault, fault_older}
 use Rattle.dali_link_commands.specs.Benches.{IsUndriven, with_lines}
 use Rattle.dali_link_commands.specs.OrdersAnswers.{EndsUndriven, IsUnread}
 use Rattle.dali_link_commands.specs.Told.{IsFaultTold, IsFileFaultTold}
+use Rattle.dali_write.specs.declared.pace.Pace.{Pace}
 
 -- the fault of journals that are none together
 abbrev pub fault_unjoined : JoinFault → Fault
@@ -53,19 +54,19 @@ IsBreakTold (behind.Join fault) status before after = IsFileFaultTold (fault_unj
 IsBreakTold (behind.Drive fault) status before after = IsFaultTold fault status before after
 
 module _ {G N : Type 0} (gave : G → G → List Given → Type 0) (over : G → Type 0) (contents : N → Option (List ℕ))
-    (older : Option JournalState) (before after : Report N) (orders left : G) (first last : Look) where
+    (older : Option JournalState) (pace : Pace) (before after : Report N) (orders left : G) (first last : Look) where
   -- just what was given was followed, up to where no more came, nothing more is to be done, and the report has it all;
   -- no stream has failed, and a stop leaves what the journal shows
   pub record FollowsBehind : Type 0 where
     pub writer : WriterState
-    pub followed : IsFollowBehind gave over (IsTold contents) older order_limit journal_limit orders first.streams
-        before writer left last.streams after
+    pub followed : IsFollowBehind gave over (IsTold contents) older order_limit journal_limit pace orders
+        first.streams before writer left last.streams after
     pub unfailed : IsUnfailed last.failed
     pub settled : Settled last
 
 module _ {G N : Type 0} (gave : G → G → List Given → Type 0) (contents : N → Option (List ℕ))
-    (older : Option JournalState) (before after : Report N) (orders left : G) (first : Look) (status : Status)
-    (last : Look) where
+    (older : Option JournalState) (pace : Pace) (before after : Report N) (orders left : G) (first : Look)
+    (status : Status) (last : Look) where
   -- What is told of a fault goes behind what the lines held then, 'replies', where they hadn't failed unless that was
   -- the fault, 'lost'.
 
@@ -75,7 +76,8 @@ module _ {G N : Type 0} (gave : G → G → List Given → Type 0) (contents : N
     pub fault : OpenFault
     pub replies : Option (List ℕ)
     pub lost : Bool
-    pub unopened : EndsAtFault order_limit journal_limit [] (stored.Open fault) first (with_lines last replies lost)
+    pub unopened : EndsAtFault order_limit journal_limit pace [] (stored.Open fault) first
+        (with_lines last replies lost)
     pub failed : FailsOpen fault (with_lines last replies lost).failed
     pub told : IsFileFaultTold (fault_unopened fault) status replies last.streams.out
     pub unread : left ≡ orders
@@ -98,7 +100,7 @@ module _ {G N : Type 0} (gave : G → G → List Given → Type 0) (contents : N
     pub replies : Option (List ℕ)
     pub lost : Bool
     pub broken : IsFollowBehindBreak gave (IsTold contents) (IsToldEnd contents) older order_limit journal_limit
-        orders fault first.streams before left (with_lines last replies lost).streams after last.may_leave
+        pace orders fault first.streams before left (with_lines last replies lost).streams after last.may_leave
     pub failed : ShowsFault fault (with_lines last replies lost).failed
     pub told : IsFaultTold fault status replies last.streams.out
 
@@ -107,36 +109,38 @@ module _ {G N : Type 0} (gave : G → G → List Given → Type 0) (contents : N
   BreaksBehind = UnopenedBehind ⊎ UnjoinedBehind ⊎ BrokenBehind
 
 module _ {R N : Type 0} (rest : R → Option (List ℕ)) (failed : R → Bool) (contents : N → Option (List ℕ))
-    (older : Option JournalState) (required : Required) (before after : Report N) (orders left : OrderLines R)
+    (older : Option JournalState) (pace : Pace) (required : Required) (before after : Report N)
+    (orders left : OrderLines R)
     (first : Look) (status : Status) (last : Look) where
   -- what the lines of a stream gave was followed, and a failure of their source is told
   pub record EndsLinesBehind : Type 0 where
     pub replies : Option (List ℕ)
     pub lost : Bool
-    pub follows : FollowsBehind (lines.Gave rest failed) lines.IsOver contents older before after orders left first
+    pub follows : FollowsBehind (lines.Gave rest failed) lines.IsOver contents older pace before after orders left first
         (with_lines last replies lost)
     pub told : TellsFollowed (failed (lines.state_of left).source) (lines.state_of left).has_refused required
-        (outcome_of (start_of follows.followed.behind.journal) (happenings follows.followed.observed.follow.steps))
+        (outcome_of (start_by pace follows.followed.behind.journal) (happenings follows.followed.observed.follow.steps))
         status replies last.streams.out
 
   abbrev pub IsLinesBehind : Type 0
   IsLinesBehind =
-      EndsLinesBehind ⊎ BreaksBehind (lines.Gave rest failed) contents older before after orders left first status last
+      EndsLinesBehind
+      ⊎ BreaksBehind (lines.Gave rest failed) contents older pace before after orders left first status last
 
 module _ {N : Type 0} (older : Option JournalState) (contents : N → Option (List ℕ)) (moment : ℕ)
-    (required : Required) (before after : Report N) (orders : List Contents) (first : Look) (status : Status)
-    (last : Look) where
+    (pace : Pace) (required : Required) (before after : Report N) (orders : List Contents) (first : Look)
+    (status : Status) (last : Look) where
   -- all the orders of a list were asked at this moment, nothing more is to be done, and the report has all of it; what
   -- is told then goes behind what the lines held, which hadn't failed
   pub record EndsListBehind : Type 0 where
     pub writer : WriterState
     pub replies : Option (List ℕ)
     pub lost : Bool
-    pub driven : IsDriveBehind (IsTold contents) older order_limit journal_limit (at_moment moment orders)
+    pub driven : IsDriveBehind (IsTold contents) older order_limit journal_limit pace (at_moment moment orders)
         first.streams before writer (with_lines last replies lost).streams after
     pub unfailed : IsUnfailed (with_lines last replies lost).failed
     pub settled : Settled last
-    pub told : TellsEnded required (outcome_of (start_of driven.behind.journal) driven.observed.drive.past)
+    pub told : TellsEnded required (outcome_of (start_by pace driven.behind.journal) driven.observed.drive.past)
         status replies last.streams.out
 
   -- what is answered of a list of orders, behind an older journal where there is one
@@ -144,7 +148,7 @@ module _ {N : Type 0} (older : Option JournalState) (contents : N → Option (Li
   IsAnswerBehind =
       EndsListBehind
       ⊎ ((listed : ListedOrders) × (left : ListedOrders) × (state_of listed ≡ record { rest = orders; moment = moment })
-      × BreaksBehind GaveListed contents older before after listed left first status last)
+      × BreaksBehind GaveListed contents older pace before after listed left first status last)
 
 -- what is answered where older journals of these names are read: behind what they hold, which is at rest, or that one
 -- can't be used; where there are no names, behind none
@@ -167,9 +171,9 @@ EndsUnread before after first status last =
 
 -- The same of a file of lines, of which nothing is known: of what it gave, or of one that isn't opened.
 abbrev pub IsFileFollow : {F N : Type 0} → Option JournalState → (F → Option (List ℕ)) → (N → Option (List ℕ)) → ℕ
-    → Required → Report N → Report N → Look → Status → Look → Type 0
-IsFileFollow {F} older remaining contents moment required before after first status last =
+    → Pace → Required → Report N → Report N → Look → Status → Look → Type 0
+IsFileFollow {F} older remaining contents moment pace required before after first status last =
     ((orders : OrderLines (StdSource F)) × (left : OrderLines (StdSource F)) × AreUnread source_failed moment orders
-    × IsLinesBehind (source_left remaining) source_failed contents older required before after orders left first
+    × IsLinesBehind (source_left remaining) source_failed contents older pace required before after orders left first
     status last)
     ⊎ ((fault : InputFault) × IsUnread fault × EndsUndriven fault first status last × (after ≡ before))

@@ -1,11 +1,13 @@
 -- What a command over a link does: each as its own definition says.
-use Rattle.std.specs.Prelude.{◌≡◌, ◌≤◌, ◌⊎◌, ◌&&◌, ◌||◌, not, ℕ, Bool, true, false, is_some, List, [], Option, None, ⊤}
+use Rattle.std.specs.Prelude.{◌≡◌, ◌≤◌, ◌⊎◌, ◌&&◌, ◌||◌, not, ℕ, Bool, true, false, is_some, length, List, [], Option, None, ⊤}
 use Rattle.std.specs.Io.KnownBytes.{Appends}
+use Rattle.std.specs.List.{AllByRecursion}
 use Rattle.std.specs.declared.fs.File.{File}
 use Rattle.dali_bank.specs.Order.{Contents}
 use Rattle.dali_drive.specs.Desks.{Look}
 use Rattle.dali_report.specs.declared.report.Report.{Report}
 use Rattle.dali_report.specs.Told.{has_failed, has_output}
+use Rattle.dali_report.specs.declared.progress.Watched.{Watched}
 use Rattle.dali_faults.specs.declared.fault.Status.{Status}
 use Rattle.dali_faults.specs.declared.fault.Status.TheVariants.{Failed, Unwritten}
 use Rattle.dali_link_commands.specs.declared.link_command.LinkCommand.{LinkCommand}
@@ -15,12 +17,13 @@ use Rattle.dali_link_commands.specs.BehindAnswers.{IsAnswerBehind, IsBehindNamed
 use Rattle.dali_journal.specs.JournalState.{JournalState}
 use Rattle.dali_link_commands.specs.Benches.{with_lines}
 use Rattle.dali_link_commands.specs.OrdersAnswers.{IsFileAnswer}
-use Rattle.dali_link_commands.specs.ReadAnswers.{IsReadAnswer, IsScanAnswer, IsVerifyAnswer}
+use Rattle.dali_link_commands.specs.ReadAnswers.{IsReadAnswer, IsScanAnswer, IsVerifyAnswer, asked_addresses}
 use Rattle.dali_link_commands.specs.Told.{IsPlain, error_line}
 
--- a short address that it names is one
+-- each short address that it names is one
 abbrev pub IsShort : LinkCommand → Type 0
 IsShort (Read unit bank) = unit ≤ 63
+IsShort (Scan addresses sought) = AllByRecursion (λ address. address ≤ 63) addresses.now
 IsShort other = ⊤
 
 -- the name of the file that it writes, and none where it writes none
@@ -29,6 +32,14 @@ file_of (Drive task report) = task.journal.now
 file_of (Follow task report) = task.journal.now
 file_of (Read unit bank) = bank.now
 file_of other = []
+
+-- of what a person watches how far it is
+abbrev pub watched_of : LinkCommand → Watched
+watched_of (Drive task report) = Watched.Drive task.pace
+watched_of (Follow task report) = Watched.Drive task.pace
+watched_of (Read unit bank) = Watched.Read
+watched_of (Verify orders report) = Watched.Verify
+watched_of (Scan addresses sought) = Watched.Scan (length (asked_addresses addresses.now))
 
 -- a report couldn't be written, which is told in plain words behind all else; not where the output has failed
 abbrev pub TellsUnreported : Status → Option (List ℕ) → Option (List ℕ) → Type 0
@@ -90,11 +101,12 @@ anything leaves = ⊤
 abbrev pub IsLinkAnswer : LinkCommand → Look → Status → Look → Type 0
 IsLinkAnswer (Drive task report) first status last =
     IsReported (is_some report) (BehindNamed task.older.now (λ older.
-    OverOrders (IsAnswerBehind older report_contents task.moment task.required))) first status last
+    OverOrders (IsAnswerBehind older report_contents task.moment task.pace task.required))) first status last
 IsLinkAnswer (Follow task report) first status last =
     IsReported (is_some report) (BehindNamed task.older.now (λ older.
-    IsFileFollow older file_contents report_contents task.moment task.required)) first status last
+    IsFileFollow older file_contents report_contents task.moment task.pace task.required)) first status last
 IsLinkAnswer (Read unit bank) first status last = IsReadAnswer unit anything first status last
 IsLinkAnswer (Verify orders report) first status last =
     IsReported (is_some report) (OverOrders (IsVerifyAnswer report_contents)) first status last
-IsLinkAnswer Scan first status last = IsScanAnswer first status last
+IsLinkAnswer (Scan addresses sought) first status last =
+    IsScanAnswer sought (asked_addresses addresses.now) first status last

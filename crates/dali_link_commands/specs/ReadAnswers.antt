@@ -1,5 +1,6 @@
 -- What `read`, `verify` and `scan` answer and write.
-use Rattle.std.specs.Prelude.{◌≡◌, ◌⊎◌, ℕ, Bool, List, Option, Some, None, length, if◌then◌else◌}
+use Rattle.std.specs.Prelude.{◌≡◌, ◌⊎◌, ℕ, Bool, List, [], Option, Some, None, length, if◌then◌else◌}
+use Rattle.std.specs.List.{range_with_len}
 use Rattle.dali_bank.specs.Order.{Contents}
 use Rattle.dali_input.specs.declared.fault.InputFault.TheVariants.{File}
 use Rattle.dali_input.specs.BankText.{rows_text}
@@ -8,6 +9,7 @@ use Rattle.dali_store.specs.declared.store.StoreFault.TheVariants as stores
 use Rattle.dali_store.specs.Stores.{Becomes, KeepsOrBecomes}
 use Rattle.dali_read.specs.Places.{bank_course}
 use Rattle.dali_trace.specs.declared.fault.DriveFault.{DriveFault}
+use Rattle.dali_drive.specs.declared.sought.Sought.{Sought}
 use Rattle.dali_drive.specs.SurveyLines.{bytes_line, silent_line}
 use Rattle.dali_drive.specs.Surveys.{IsScan, ScanBroke, IsVerifiedTold, VerifyBrokeTold, link_of}
 use Rattle.dali_drive.specs.Transcript.{Streams}
@@ -109,21 +111,29 @@ module _ {N : Type 0} (contents : N → Option (List ℕ)) (before after : Repor
 
 -- ---- `scan`
 
-pub record EndsScanned (first : Look) (status : Status) (last : Look) : Type 0 where
+-- the short addresses that are asked where these are named: all where none is
+abbrev pub asked_addresses : List ℕ → List ℕ
+asked_addresses [] = range_with_len 0 64
+asked_addresses addresses = addresses
+
+pub record EndsScanned (sought : Sought) (addresses : List ℕ) (first : Look) (status : Status) (last : Look)
+    : Type 0 where
   pub units : ℕ
-  pub scanned : IsScan units (on_link first) (on_link last)
+  pub scanned : IsScan sought addresses units (on_link first) (on_link last)
   pub untouched : IsUntouched first last
   pub unfailed : IsUnfailed last.failed
   pub status_is : status ≡ Good
 
-pub record EndsUnscanned (first : Look) (status : Status) (last : Look) : Type 0 where
+pub record EndsUnscanned (sought : Sought) (addresses : List ℕ) (first : Look) (status : Status) (last : Look)
+    : Type 0 where
   pub fault : DriveFault
   pub lines : Option (List ℕ)
   pub lost : Bool
-  pub broke : ScanBroke fault (on_link first) (on_link (with_lines last lines lost))
+  pub broke : ScanBroke sought addresses fault (on_link first) (on_link (with_lines last lines lost))
   pub untouched : IsUntouched first last
   pub failed : ShowsFault fault (with_lines last lines lost).failed
   pub told : IsFaultTold fault status lines last.streams.out
 
-abbrev pub IsScanAnswer : Look → Status → Look → Type 0
-IsScanAnswer first status last = EndsScanned first status last ⊎ EndsUnscanned first status last
+abbrev pub IsScanAnswer : Sought → List ℕ → Look → Status → Look → Type 0
+IsScanAnswer sought addresses first status last =
+    EndsScanned sought addresses first status last ⊎ EndsUnscanned sought addresses first status last

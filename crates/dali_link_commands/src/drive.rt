@@ -1,4 +1,4 @@
-ghost use Rattle.std.specs.Prelude.{◌≡◌, is_some};
+ghost use Rattle.std.specs.Prelude.{◌≡◌, if◌then◌else◌, is_some};
 ghost use Rattle.dali_drive.specs.Behind.{IsReadyBehind};
 ghost use Rattle.dali_drive.specs.Stored.{LeavesPart};
 ghost use Rattle.dali_input.specs.Input.{ReadsAtMost, state_of};
@@ -7,28 +7,23 @@ ghost use Rattle.dali_store.specs.Stores.{LeavesOnly};
 ghost use Rattle.dali_link_commands.specs.Benches.{TellsUnwritten, bench};
 ghost use Rattle.dali_link_commands.specs.BehindAnswers.{IsAnswerBehind};
 ghost use Rattle.dali_link_commands.specs.OrdersAnswers.{IsReaderAnswer};
-ghost use Rattle.dali_faults.specs.JournalInput.{order_limit};
+ghost use Rattle.dali_faults.specs.JournalInput.{journal_limit, order_limit};
 
 use crate::broken::tell_broken;
 use crate::drive_lines::{FileFault, tell_file, tell_refused};
 use crate::lines::Lines;
 use crate::required::{Required, tell_ended};
 use dali_bank::Order;
-use dali_drive::{JournalLimits, ListedOrders, Sink, Source, StoreDesk, follow_stored};
+use dali_drive::{ListedOrders, Sink, Source, StoreDesk, Terms, follow_stored};
 use dali_faults::{JOURNAL_LIMIT, Status};
 use dali_input::{Input, ORDERS_LIMIT, read_input, read_orders};
 use dali_journal::{Journal, MOST_ORDERS};
 use dali_report::Report;
 use dali_store::Store;
+use dali_write::Pace;
 use std::alloc::Global;
 use std::io;
 use std::io::{ErrorKind, Read, Write};
-
-// What a journal may have.
-pub(crate) const LIMITS: JournalLimits = JournalLimits {
-    orders: MOST_ORDERS,
-    bytes: JOURNAL_LIMIT as usize,
-};
 
 /// What is to be driven, and how.
 #[derive(Clone, Copy)]
@@ -41,8 +36,34 @@ pub struct DriveTask<'a> {
     pub older: &'a [&'a str],
     /// The moment that is kept with each order that begins.
     pub moment: u64,
+    /// The plan of its sessions.
+    pub pace: Pace,
     /// What the last replies have to be.
     pub required: Required,
+}
+
+impl DriveTask<'_> {
+    // What it goes by: what a journal may have, and its plan.
+    pub(crate) fn terms(&self) -> Terms
+        ensures { result ≡ record { orders = order_limit; bytes = journal_limit; pace = self.now.pace } }
+    {
+        Terms {
+            orders: MOST_ORDERS,
+            bytes: JOURNAL_LIMIT as usize,
+            pace: self.pace,
+        }
+    }
+}
+
+/// The plan that is asked for: the short one, or else the checked one.
+pub fn pace_of(short_plan: bool) -> Pace
+    ensures { result ≡ if short_plan then Pace.Short else Pace.Checked }
+{
+    if short_plan {
+        Pace::Short
+    } else {
+        Pace::Checked
+    }
 }
 
 /// Carries out the orders that a reader gives over a link, with the journal that a store holds, as `drive_orders` does.
@@ -60,7 +81,7 @@ pub fn drive_input<R: Read, I: Source, L: Sink, S: Store, W: Write, N: Write + D
     requires ready { IsReadyBehind older
         (bench S.seen S.failed S.may_leave L.held L.failed I.left I.failed W.contents desk.old) }
     ensures driven { IsReaderAnswer
-        (IsAnswerBehind older N.contents task.entry.moment task.entry.required report.old report.new)
+        (IsAnswerBehind older N.contents task.entry.moment task.entry.pace task.entry.required report.old report.new)
         (report.new ≡ report.old)
         (bench S.seen S.failed S.may_leave L.held L.failed I.left I.failed W.contents desk.old)
         result (bench S.seen S.failed S.may_leave L.held L.failed I.left I.failed W.contents desk.new)
@@ -121,7 +142,7 @@ pub fn drive_orders<I: Source, L: Sink, S: Store, W: Write, N: Write + Drop>(
 ) -> Status
     requires ready { IsReadyBehind older
         (bench S.seen S.failed S.may_leave L.held L.failed I.left I.failed W.contents desk.old) }
-    ensures answer { IsAnswerBehind older N.contents task.entry.moment task.entry.required
+    ensures answer { IsAnswerBehind older N.contents task.entry.moment task.entry.pace task.entry.required
         report.old report.new orders.now
         (bench S.seen S.failed S.may_leave L.held L.failed I.left I.failed W.contents desk.old) result
         (bench S.seen S.failed S.may_leave L.held L.failed I.left I.failed W.contents desk.new)
@@ -131,8 +152,9 @@ pub fn drive_orders<I: Source, L: Sink, S: Store, W: Write, N: Write + Drop>(
         (LeavesPart order_limit (S.seen desk.old.journal) (S.seen desk.new.journal)
         (S.may_leave desk.old.journal)) }
 {
+    report.expect(orders);
     let mut listed = ListedOrders::new(orders, task.moment);
-    match follow_stored(alloc, older, LIMITS, &mut listed, desk, report) {
+    match follow_stored(alloc, older, task.terms(), &mut listed, desk, report) {
         Ok(_writer) => tell_ended(&mut desk.out, task.required, report.outcome()),
         Err(fault) => tell_broken(alloc, task.journal, desk, fault),
     }

@@ -43,7 +43,7 @@ pub fn drive_files<
     requires unfailed { IsUnfailed (std_bench L.contents I.remaining O.contents desk.old).failed }
     ensures driven { IsBehindNamed task.entry.older.now
         (λ older. IsFileAnswer
-        (IsAnswerBehind older N.contents task.entry.moment task.entry.required report.old report.new)
+        (IsAnswerBehind older N.contents task.entry.moment task.entry.pace task.entry.required report.old report.new)
         (report.new ≡ report.old) (std_bench L.contents I.remaining O.contents desk.old) result
         (std_bench L.contents I.remaining O.contents desk.new))
         (EndsUnread report.old report.new (std_bench L.contents I.remaining O.contents desk.old) result

@@ -10,7 +10,7 @@ ghost use Rattle.dali_link_commands.specs.FollowAnswers.{TellsFollowed};
 ghost use Rattle.dali_faults.specs.JournalInput.{order_limit};
 
 use crate::broken::tell_broken;
-use crate::drive::{DriveTask, LIMITS, failure_of};
+use crate::drive::{DriveTask, failure_of};
 use crate::drive_lines::{FileFault, tell_file};
 use crate::lines::Lines;
 use crate::required::tell_ended;
@@ -45,7 +45,8 @@ pub fn follow_lines<R: Source, I: Source, L: Sink, S: Store, W: Write, N: Write 
 ) -> Status
     requires ready { IsReadyBehind older
         (bench S.seen S.failed S.may_leave L.held L.failed I.left I.failed W.contents desk.old) }
-    ensures answer { IsLinesBehind R.left R.failed N.contents older task.entry.required report.old report.new
+    ensures answer { IsLinesBehind R.left R.failed N.contents older task.entry.pace task.entry.required
+        report.old report.new
         orders.old orders.new (bench S.seen S.failed S.may_leave L.held L.failed I.left I.failed W.contents desk.old)
         result (bench S.seen S.failed S.may_leave L.held L.failed I.left I.failed W.contents desk.new)
         × TellsUnwritten result
@@ -54,7 +55,7 @@ pub fn follow_lines<R: Source, I: Source, L: Sink, S: Store, W: Write, N: Write 
         (LeavesPart order_limit (S.seen desk.old.journal) (S.seen desk.new.journal)
         (S.may_leave desk.old.journal)) }
 {
-    match follow_stored(alloc, older, LIMITS, orders, desk, report) {
+    match follow_stored(alloc, older, task.terms(), orders, desk, report) {
         Ok(_writer) => tell_followed(alloc, &mut desk.out, task, orders, report.outcome()),
         Err(fault) => tell_broken(alloc, task.journal, desk, fault),
     }

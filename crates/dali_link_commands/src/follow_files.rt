@@ -39,7 +39,7 @@ pub fn follow_file<
 ) -> Status
     requires unfailed { IsUnfailed (std_bench L.contents I.remaining O.contents desk.old).failed }
     ensures followed { IsBehindNamed task.entry.older.now
-        (λ older. IsFileFollow older file_contents N.contents task.entry.moment task.entry.required
+        (λ older. IsFileFollow older file_contents N.contents task.entry.moment task.entry.pace task.entry.required
         report.old report.new
         (std_bench L.contents I.remaining O.contents desk.old) result
         (std_bench L.contents I.remaining O.contents desk.new))

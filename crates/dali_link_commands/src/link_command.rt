@@ -1,7 +1,8 @@
-ghost use Rattle.std.specs.Prelude.{◌≡◌, if◌then◌else◌};
+ghost use Rattle.std.specs.Prelude.{◌≡◌, if◌then◌else◌, length};
 ghost use Rattle.dali_drive.specs.Desks.{IsUnfailed};
 ghost use Rattle.dali_link_commands.specs.Benches.{TellsUnwritten, std_bench};
-ghost use Rattle.dali_link_commands.specs.LinkCommands.{IsShort, IsLinkAnswer, file_of};
+ghost use Rattle.dali_link_commands.specs.LinkCommands.{IsShort, IsLinkAnswer, file_of, watched_of};
+ghost use Rattle.dali_link_commands.specs.ReadAnswers.{asked_addresses};
 
 use crate::drive::DriveTask;
 use crate::drive_files::drive_files;
@@ -11,8 +12,9 @@ use crate::read::read_bank;
 use crate::report_file::{Others, ReportFile};
 use crate::survey::scan;
 use crate::survey_files::verify_file;
-use dali_drive::{StdSink, StdSource, StoreDesk};
+use dali_drive::{Sought, StdSink, StdSource, StoreDesk};
 use dali_faults::Status;
+use dali_report::{Progress, Watched};
 use dali_store::FileStore;
 use std::fs::{File, Files};
 use std::io::{Read, Write};
@@ -40,8 +42,11 @@ pub enum LinkCommand<'a> {
         orders: &'a str,
         report: Option<&'a str>,
     },
-    /// `scan`.
-    Scan,
+    /// `scan`, of the units at these short addresses, or at all where none is named.
+    Scan {
+        addresses: &'a [u8],
+        sought: Sought,
+    },
 }
 
 impl<'a> LinkCommand<'a> {
@@ -65,16 +70,32 @@ impl<'a> LinkCommand<'a> {
         match *self {
             LinkCommand::Drive { task, .. } | LinkCommand::Follow { task, .. } => task.journal,
             LinkCommand::Read { bank, .. } => bank,
-            LinkCommand::Verify { .. } | LinkCommand::Scan => "",
+            LinkCommand::Verify { .. } | LinkCommand::Scan { .. } => "",
+        }
+    }
+
+    /// Of what a person watches how far it is.
+    pub fn watched(&self) -> Watched
+        ensures { result ≡ watched_of self.now }
+    {
+        match *self {
+            LinkCommand::Drive { task, .. } | LinkCommand::Follow { task, .. } => {
+                Watched::Drive(task.pace)
+            }
+            LinkCommand::Read { .. } => Watched::Read,
+            LinkCommand::Verify { .. } => Watched::Verify,
+            LinkCommand::Scan { addresses, .. } => Watched::Scan(count_of(addresses)),
         }
     }
 
     /// Carries the command out at a desk whose streams haven't failed, and whose store is in the file that it names
-    /// (`FileStore::for_text`). A short address that it names has to be at most 63.
+    /// (`FileStore::for_text`). Each short address that it names has to be at most 63. Whoever watches is told of its
+    /// orders, and changes nothing.
     pub fn carry_out<R: Files<File = File> + AllocGlobal, I: Read, L: Write, O: Write>(
         &self,
         rt: &R,
         desk: &mut StoreDesk<StdSource<I>, StdSink<L>, FileStore<'_, R>, Lines<O>>,
+        progress: Option<&Progress>,
     ) -> Status
         requires ready { IsShort self.now × IsUnfailed (std_bench L.contents I.remaining O.contents desk.old).failed }
         ensures carried_out { IsLinkAnswer self.now (std_bench L.contents I.remaining O.contents desk.old) result
@@ -83,12 +104,12 @@ impl<'a> LinkCommand<'a> {
     {
         match *self {
             LinkCommand::Drive { task, report } => {
-                let mut file = ReportFile::open(rt, report, others_of(&task));
+                let mut file = ReportFile::open(rt, report, others_of(&task), progress);
                 let ended = drive_files(rt, task, desk, &mut file.report);
                 file.end(rt.alloc(), &mut desk.out, report, ended)
             }
             LinkCommand::Follow { task, report } => {
-                let mut file = ReportFile::open(rt, report, others_of(&task));
+                let mut file = ReportFile::open(rt, report, others_of(&task), progress);
                 let ended = follow_file(rt, task, desk, &mut file.report);
                 file.end(rt.alloc(), &mut desk.out, report, ended)
             }
@@ -99,12 +120,22 @@ impl<'a> LinkCommand<'a> {
                     journal: "",
                     older: &[],
                 };
-                let mut file = ReportFile::open(rt, report, others);
+                let mut file = ReportFile::open(rt, report, others, progress);
                 let ended = verify_file(rt, orders, desk, &mut file.report);
                 file.end(rt.alloc(), &mut desk.out, report, ended)
             }
-            LinkCommand::Scan => scan(rt.alloc(), desk),
+            LinkCommand::Scan { addresses, sought } => scan(rt.alloc(), addresses, sought, desk),
         }
+    }
+}
+
+// How many short addresses are asked where these are named.
+fn count_of(addresses: &[u8]) -> u64
+    ensures { result ≡ length (asked_addresses addresses.now) }
+{
+    match addresses {
+        [] => 64,
+        named => named.len() as u64,
     }
 }
 

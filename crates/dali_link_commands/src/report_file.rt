@@ -1,7 +1,7 @@
 // The file of a report. No contract tells what a file holds: that it holds then what it is given is trusted.
 ghost use Rattle.std.specs.Prelude.{◌≡◌, ◌≢◌, ◌↔◌, ◌&&◌, ℕ, List, OnOk, false, true, is_none, is_some};
 ghost use Rattle.dali_text.specs.Output.{Takes, TellsFailure, has_failed, held};
-ghost use Rattle.dali_report.specs.Told.{has_failed as report_failed, has_output};
+ghost use Rattle.dali_report.specs.Told.{has_failed as report_failed, has_output, is_watched};
 ghost use Rattle.dali_link_commands.specs.LinkCommands.{EndsReported, TellsUnreported, is_lost};
 ghost use Rattle.dali_link_commands.specs.Told.{IsPlain, error_line};
 
@@ -10,7 +10,7 @@ use crate::report_lines::ReportLines;
 use crate::report_output::ReportOutput;
 use crate::words::plain_words;
 use dali_faults::Status;
-use dali_report::{Report, run_behind};
+use dali_report::{Progress, Report, run_behind};
 use dali_text::{Output, OutputFailed};
 use std::alloc::Global;
 use std::fs::{File, Files, Metadata, OpenOptions, TryLockError};
@@ -46,23 +46,25 @@ pub(crate) struct Others<'a> {
 
 /// A report into a file, or into none.
 #[derive(Drop)]
-pub(crate) struct ReportFile {
-    pub(crate) report: Report<ReportOutput>,
+pub(crate) struct ReportFile<'a> {
+    pub(crate) report: Report<'a, ReportOutput>,
     unopened: Option<Unopened>,
 }
 
-impl ReportFile {
+impl<'a> ReportFile<'a> {
     /// Opens the file, or makes it, for this command alone; with no name there is none. What it holds stays, and what
     /// there is to report goes behind it. It is none of the command's other files, no link, and has to be a report or
-    /// empty.
+    /// empty. What is watched is told of all of it too, if that is.
     pub(crate) fn open<R: Files<File = File> + AllocGlobal>(
         rt: &R,
         name: Option<&str>,
         others: Others<'_>,
-    ) -> ReportFile
+        progress: Option<&'a Progress>,
+    ) -> ReportFile<'a>
         ensures output { has_output result.report ≡ (is_some name.entry && is_none result.unopened) }
         ensures unopened { is_some result.unopened ≡ true → is_some name.entry ≡ true }
         ensures unfailed { report_failed result.report ≡ false }
+        ensures watched { is_watched result.report ≡ is_some progress.entry }
     {
         let (run, output, unopened) = match name {
             Some(name) => match opened(rt, name, others) {
@@ -72,7 +74,7 @@ impl ReportFile {
             None => (1, None, None),
         };
         ReportFile {
-            report: Report::new(rt.alloc(), run, output),
+            report: Report::new(rt.alloc(), run, output, progress),
             unopened,
         }
     }

@@ -1,4 +1,5 @@
-ghost use Rattle.std.specs.Prelude.{◌≡◌, ◌↔◌, if◌then◌else◌, false, true};
+ghost use Rattle.std.specs.Prelude.{◌≡◌, ◌↔◌, ◌≤◌, if◌then◌else◌, false, true};
+ghost use Rattle.std.specs.List.{AllByRecursion};
 ghost use Rattle.dali_drive.specs.Desks.{IsUnfailed};
 ghost use Rattle.dali_input.specs.Input.{ReadsAtMost, state_of};
 ghost use Rattle.dali_input.specs.Orders.{orders_limit};
@@ -6,20 +7,27 @@ ghost use Rattle.dali_text.specs.Output.{has_failed, held};
 ghost use Rattle.dali_link_commands.specs.Bare.{TellsBare, is_empty as no_orders};
 ghost use Rattle.dali_link_commands.specs.Benches.{TellsUnwritten, bench};
 ghost use Rattle.dali_link_commands.specs.OrdersAnswers.{IsReaderAnswer};
-ghost use Rattle.dali_link_commands.specs.ReadAnswers.{IsScanAnswer, IsVerifyAnswer};
+ghost use Rattle.dali_link_commands.specs.ReadAnswers.{IsScanAnswer, IsVerifyAnswer, asked_addresses};
 
 use crate::drive::failure_of;
 use crate::drive_lines::{Causes, FileFault, tell_fault, tell_file, tell_refused};
 use crate::lines::Lines;
 use crate::required::tell_bare;
 use dali_bank::Order;
-use dali_drive::{Sink, Source, StoreDesk, scan_units, verify_orders};
+use dali_drive::{Sink, Sought, Source, StoreDesk, scan_units, verify_orders};
 use dali_faults::Status;
 use dali_input::{Input, ORDERS_LIMIT, read_input, read_orders};
 use dali_report::Report;
 use dali_store::Store;
 use std::alloc::Global;
 use std::io::{Read, Write};
+
+// All short addresses.
+static ALL_ADDRESSES: [u8; 64] = [
+    0, 1, 2, 3, 4, 5, 6, 7, 8, 9, 10, 11, 12, 13, 14, 15, 16, 17, 18, 19, 20, 21, 22, 23, 24, 25,
+    26, 27, 28, 29, 30, 31, 32, 33, 34, 35, 36, 37, 38, 39, 40, 41, 42, 43, 44, 45, 46, 47, 48, 49,
+    50, 51, 52, 53, 54, 55, 56, 57, 58, 59, 60, 61, 62, 63,
+];
 
 /// Compares units with the orders that a reader gives, over a link, as `verify_units` does.
 ///
@@ -78,6 +86,7 @@ pub fn verify_units<I: Source, L: Sink, S: Store, W: Write, N: Write + Drop>(
         × TellsUnwritten result
         (bench S.seen S.failed S.may_leave L.held L.failed I.left I.failed W.contents desk.new) }
 {
+    report.expect(orders);
     let ended = verify_orders(
         orders,
         &mut desk.link_in,
@@ -113,24 +122,34 @@ fn tell_verified<W: Write>(lines: &mut Lines<W>, orders: &[Order], all_same: boo
     tell_bare(lines, orders.is_empty(), ended)
 }
 
-/// Asks each short address for the last location of its memory bank 1, over streams that haven't failed, as
-/// `scan_units` does: a line for each unit that answers and one for their number, or one for the fault that ends it, 2
-/// Link, 3 Line, 4 End or 6 TooLong.
+/// Asks the units at these short addresses, each at most 63, or at all where none is named, over streams that haven't
+/// failed, as `scan_units` does: a line for each unit that answers and one for their number, or one for the fault that
+/// ends it, 2 Link, 3 Line, 4 End or 6 TooLong.
 ///
 /// Where `lines` fails it is 7 Out, or there stands a first part of the fault's line.
 pub fn scan<I: Source, L: Sink, S: Store, W: Write>(
     alloc: Global,
+    addresses: &[u8],
+    sought: Sought,
     desk: &mut StoreDesk<I, L, S, Lines<W>>,
 ) -> Status
+    requires short { AllByRecursion (λ address. address ≤ 63) addresses.now }
     requires unfailed { IsUnfailed
         (bench S.seen S.failed S.may_leave L.held L.failed I.left I.failed W.contents desk.old).failed }
-    ensures answer { IsScanAnswer
+    ensures answer { IsScanAnswer sought (asked_addresses addresses.now)
         (bench S.seen S.failed S.may_leave L.held L.failed I.left I.failed W.contents desk.old)
         result (bench S.seen S.failed S.may_leave L.held L.failed I.left I.failed W.contents desk.new)
         × TellsUnwritten result
         (bench S.seen S.failed S.may_leave L.held L.failed I.left I.failed W.contents desk.new) }
 {
-    match scan_units(&mut desk.link_in, &mut desk.link_out, &mut desk.out) {
+    let addresses = asked(addresses);
+    match scan_units(
+        addresses,
+        sought,
+        &mut desk.link_in,
+        &mut desk.link_out,
+        &mut desk.out,
+    ) {
         Ok(_) => Status::Good,
         Err(fault) => {
             let causes = Causes {
@@ -140,5 +159,18 @@ pub fn scan<I: Source, L: Sink, S: Store, W: Write>(
             };
             tell_fault(alloc, &mut desk.out, fault, causes)
         }
+    }
+}
+
+// The short addresses that are asked where these are named.
+fn asked(addresses: &[u8]) -> &[u8]
+    requires { AllByRecursion (λ address. address ≤ 63) addresses.now }
+    ensures addresses { result.now ≡ asked_addresses addresses.now }
+    ensures short { AllByRecursion (λ address. address ≤ 63) result.now }
+{
+    if addresses.is_empty() {
+        &ALL_ADDRESSES
+    } else {
+        addresses
     }
 }

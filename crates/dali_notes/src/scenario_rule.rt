@@ -22,6 +22,8 @@ pub enum Rule {
     Digits,
     /// True or false.
     Truth,
+    /// The name of a plan.
+    Plan,
     /// An array.
     List,
     /// Whatever stands there.
@@ -37,6 +39,7 @@ impl Rule {
             Rule::Registers => are_wholes(json, 0, 255) && count(json) == 3,
             Rule::Digits => are_digits(json),
             Rule::Truth => json.as_bool().is_some(),
+            Rule::Plan => is_plan(json),
             Rule::List => json.as_array().is_some(),
             Rule::Anything => true,
         }
@@ -59,6 +62,7 @@ impl fmt::Display for Rule {
                 )
             }
             Rule::Truth => f.write_str("true or false"),
+            Rule::Plan => write!(f, "\"{}\" or \"{}\"", key::CHECKED, key::SHORT),
             Rule::List => f.write_str("an array"),
             Rule::Anything => f.write_str("an order"),
         }
@@ -98,7 +102,7 @@ fn optional(key: &'static str, rule: Rule) -> Member {
 }
 
 /// The keys of a scenario.
-pub fn scenario_members() -> [Member; 4] {
+pub fn scenario_members() -> [Member; 5] {
     [
         required(
             key::LIMIT,
@@ -107,6 +111,7 @@ pub fn scenario_members() -> [Member; 4] {
                 most: u64::from(MOST_ORDERS),
             },
         ),
+        optional(key::PLAN, Rule::Plan),
         required(key::UNITS, Rule::List),
         optional(key::FATES, Rule::List),
         required(key::EVENTS, Rule::List),
@@ -213,4 +218,9 @@ fn are_digits(json: &Json) -> bool {
         }
         _ => false,
     }
+}
+
+// Whether the value is the name of a plan.
+fn is_plan(json: &Json) -> bool {
+    json.as_str() == Some(key::CHECKED) || json.as_str() == Some(key::SHORT)
 }

@@ -1,6 +1,9 @@
 -- What is found of an order, where each byte is shown at its location.
 use Rattle.std.proofs.Common.{◌≡◌, inl, inr, refl, sym, ap, subst, ◌∙◌, ℕ, suc, ◌<◌, ◌≤◌, List, [], ◌∷◌, ◌++◌}
-use Rattle.std.proofs.Common.{append-nil, slice_get, arith}
+use Rattle.std.proofs.Common.{append-nil, slice_get, arith, Bool, true, false, Some, drop, option_map}
+use Rattle.std.specs.Prelude.{nat_lt, if◌then◌else◌}
+use Rattle.std.proofs.lemmas.Bool.{ltb-true, ltb-false}
+use Rattle.std.proofs.lemmas.Option.{slice_get-map}
 use Rattle.std.specs.Prelude.{◌≢◌}
 use Rattle.std.specs.List.{AllByRecursion}
 use Rattle.std.proofs.lemmas.List.{map-append}
@@ -12,7 +15,7 @@ use Rattle.dali_read.specs.declared.finding.Finding.TheVariants.{Same, Other, Sh
 use Rattle.dali_read.specs.Findings.{own_bytes, IsFirstOther, IsFound}
 use Rattle.dali_read.specs.Places.{order_course}
 use Rattle.dali_read.specs.Readings.{IsRead}
-use Rattle.dali_read.specs.Shown.{InBlock, Finds}
+use Rattle.dali_read.specs.Shown.{InBlock, Finds, ShowsTold}
 use Rattle.dali_read.proofs.InBlockLemmas.{Tells, read_tells}
 use Rattle.dali_read.proofs.CourseLemmas.{own_places, order_place, near_places, far_places, order_follows}
 
@@ -140,7 +143,38 @@ found_so shows updates bytes (Other location byte) tells (last, reach, inr (more
           byte (far_shown shows updates bytes more last 0x00 0x03 tells far is) first,
     )
 
+-- the byte that was told of an update's own location is shown there
+update_place : (updates : List (ℕ × ℕ)) (index : ℕ) (update : ℕ × ℕ) → slice_get updates index ≡ Some update
+    → slice_get (own_places updates) index ≡ Some update.0
+update_place updates index update at =
+    slice_get-map (λ (one : ℕ × ℕ). one.0) updates index ∙ ap (λ o. option_map (λ (one : ℕ × ℕ). one.0) o) at
+
+shown_behind : (shows : ℕ → ℕ → Type 0) (updates : List (ℕ × ℕ)) (bytes : List ℕ) (near : Bool)
+    → nat_lt (greatest updates) 0x13 ≡ near → Tells shows (order_place updates) bytes
+    → (index byte : ℕ) (update : ℕ × ℕ) → slice_get (drop (if near then 1 else 3) bytes) index ≡ Some byte
+    → slice_get updates index ≡ Some update → shows update.0 byte
+shown_behind shows updates [] true is tells index byte update there at = cc
+shown_behind shows updates (last ∷ more) true is tells index byte update there at =
+    near_shown shows updates (last ∷ more) more last tells (ltb-true (greatest updates) 0x13 is) refl index update.0
+    byte there (update_place updates index update at)
+shown_behind shows updates [] false is tells index byte update there at = cc
+shown_behind shows updates (last ∷ []) false is tells index byte update there at = cc
+shown_behind shows updates (last ∷ high ∷ []) false is tells index byte update there at = cc
+shown_behind shows updates (last ∷ high ∷ low ∷ more) false is tells index byte update there at =
+    far_shown shows updates (last ∷ high ∷ low ∷ more) more last high low tells
+    (ltb-false (greatest updates) 0x13 is) refl index update.0 byte there (update_place updates index update at)
+
+pub told_so : (shows : ℕ → ℕ → Type 0) (updates : List (ℕ × ℕ)) (bytes : List ℕ)
+    → Tells shows (order_place updates) bytes → ShowsTold shows updates bytes
+told_so shows updates bytes tells = shown_behind shows updates bytes (nat_lt (greatest updates) 0x13) refl tells
+
 -- of a whole reading
+pub updates_told : (told : List Exchange) (unit : ℕ) (updates : List (ℕ × ℕ)) (bytes : List ℕ)
+    → IsRead unit (order_course updates) bytes told → ShowsTold (InBlock told unit) updates bytes
+updates_told told unit updates bytes read =
+    told_so (InBlock told unit) updates bytes
+    (read_tells (order_place updates) unit (order_course updates) bytes told (order_follows updates) read)
+
 pub order_read : (told : List Exchange) (unit : ℕ) (updates : List (ℕ × ℕ)) (bytes : List ℕ) (finding : Finding)
     → IsRead unit (order_course updates) bytes told → IsFound updates bytes finding
     → Finds (InBlock told unit) updates finding

@@ -8,7 +8,7 @@ use Rattle.dali_bus.specs.Carry.{WorldStep}
 use Rattle.dali_write.specs.Exchanges.{Exchange}
 use Rattle.dali_write.proofs.RunLemmas.{Leads}
 use Rattle.dali_write.specs.declared.block.Block.{Block}
-use Rattle.dali_write.specs.Requests.{block_requests, moved_on}
+use Rattle.dali_write.specs.Requests.{block_requests, moved_on, each_try}
 use Rattle.dali_write.specs.Blocks.{Fits, IsBlockRead}
 use Rattle.dali_write.specs.Tries.{Succeeds}
 use Rattle.dali_read.specs.Readings.{Course, Done, bytes_in, told_in, InTurn, IsRead}
@@ -39,7 +39,7 @@ get_joined (first ∷ older) newer (suc index) byte is = grind (arith, get_joine
 
 -- a read of a block told these bytes
 pub was_read : (unit : ℕ) (this : Block) (bytes : List ℕ) (told : List Exchange)
-    → (done : Succeeds (block_requests unit this) (Some bytes) told) → IsBlockRead unit this bytes done.0
+    → (done : Succeeds (each_try (block_requests unit this)) (Some bytes) told) → IsBlockRead unit this bytes done.0
 was_read unit this bytes told done = (done.4, let is = done.5 in cc)
 
 -- the place of each byte of a block that fits
@@ -50,7 +50,7 @@ place_is unit this bytes tried fits read index byte is = grind (arith, slice_get
 
 -- so many bytes were told of a block that was read
 pub done_count : (unit : ℕ) (this : Block) (bytes : List ℕ) (told : List Exchange)
-    → Succeeds (block_requests unit this) (Some bytes) told → length bytes ≡ this.count
+    → Succeeds (each_try (block_requests unit this)) (Some bytes) told → length bytes ≡ this.count
 done_count unit this bytes told done = block_count unit this bytes done.0 (was_read unit this bytes told done)
 
 -- each place of the block shows its byte

@@ -11,5 +11,6 @@ pub mod OrderFramesLemmas
 pub mod SparedLemmas
 pub mod StaysLemmas
 pub mod SparedCourseLemmas
+pub mod IdentityLemmas
 pub mod WorkedReadLemmas
 pub mod WorkedPlaceLemmas

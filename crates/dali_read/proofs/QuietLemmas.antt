@@ -11,7 +11,7 @@ use Rattle.dali_write.specs.Blocks.{Fits}
 use Rattle.dali_write.specs.Guards.{IsGuarded}
 use Rattle.dali_write.specs.Plans.{read_block}
 use Rattle.dali_write.specs.Reads.{IsPassive}
-use Rattle.dali_write.specs.Requests.{block_requests}
+use Rattle.dali_write.specs.Requests.{block_requests, each_try}
 use Rattle.dali_write.specs.Tries.{most_tries}
 use Rattle.dali_write.specs.Worlds.{KeepsAt}
 use Rattle.dali_write.proofs.AskedLemmas.{Sent, Asks, sent_both, misses_sent, access_sent, block_asks, IsCalm, block_calm}
@@ -33,8 +33,9 @@ in_turn_sent P unit all course [] in_turn = tt
 in_turn_sent P unit all course (newest ∷ done) in_turn =
     grind (
       arith,
-      sent_both P newest.told (told_in done) (access_sent P (block_requests unit newest.block) (Some
-          newest.bytes) newest.told (all newest.block in_turn.1) (inl in_turn.3)) (in_turn_sent P unit all course done
+      sent_both P newest.told (told_in done) (access_sent P (each_try (block_requests unit newest.block)) (Some
+          newest.bytes) newest.told (λ misses. all newest.block in_turn.1) (inl in_turn.3))
+          (in_turn_sent P unit all course done
           in_turn.0),
     )
 
@@ -46,9 +47,9 @@ ends_sent P unit all course (Some bytes) told read =
 ends_sent P unit all course None told silent =
     grind (
       arith,
-      sent_both P silent.missed (told_in silent.done) (misses_sent P (block_requests unit silent.block)
+      sent_both P silent.missed (told_in silent.done) (misses_sent P (each_try (block_requests unit silent.block))
           most_tries silent.missed
-          (all silent.block silent.fits) silent.fails) (in_turn_sent P unit all course silent.done
+          (λ misses. all silent.block silent.fits) silent.fails) (in_turn_sent P unit all course silent.done
           silent.in_turn),
     )
 
@@ -59,7 +60,7 @@ reading_sent P unit all course told frame reading =
     let plan = read_block reading.block in
     let wants = amid_wants unit reading.block reading.tried frame reading.amid in
     let asks : PlanAsks P unit plan =
-    (all reading.block reading.fits, either_all (PlanAsks P unit) _ _ tt (λ bytes. tt)) in (
+    (λ misses. all reading.block reading.fits, either_all (PlanAsks P unit) _ _ tt (λ bytes. tt)) in (
       wanted_asked P unit plan reading.tried frame asks wants,
       subst (λ (t : List Exchange). Sent P t) reading.told_are
           (sent_both P reading.tried (told_in reading.done)

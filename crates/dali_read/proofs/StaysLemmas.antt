@@ -14,7 +14,7 @@ use Rattle.dali_read.proofs.OrderFramesLemmas.{if_not, if_so}
 use Rattle.dali_read.proofs.CourseLemmas.{last_follows, bank_follows, order_place, order_follows}
 use Rattle.dali_read.proofs.SparedLemmas.{HeadIs, Stays}
 
-first_within : (bank : List ℕ) (next : Block) → IsBank bank → Some first_block ≡ Some next
+pub first_within : (bank : List ℕ) (next : Block) → IsBank bank → Some first_block ≡ Some next
     → next.location + next.count ≤ length bank
 first_within bank next is begins = grind arith
 

@@ -1,14 +1,17 @@
 -- Near the edges of what is read, of what is found, and of how many frames that takes.
-use Rattle.std.proofs.Common.{◌≡◌, ◌⊎◌, inl, inr, refl, ℕ, ◌+◌, ◌≤◌, List, []}
+use Rattle.std.proofs.Common.{◌≡◌, ◌⊎◌, inl, inr, refl, ap, ◌∙◌, ℕ, suc, ◌+◌, ◌≤◌, List, []}
 use Rattle.std.proofs.Common.{◌∷◌, ◌++◌, drop, Some, None, arith}
+use Rattle.std.specs.Prelude.{slice_get}
 use Rattle.dali_write.specs.WorkedAccesses.{after_a_miss}
 use Rattle.dali_read.specs.declared.finding.Finding.TheVariants.{Same, Other, Short, Format}
 use Rattle.dali_write.specs.Requests.{block}
-use Rattle.dali_read.specs.Places.{last_course, bank_course, row_of, order_course}
-use Rattle.dali_read.specs.Findings.{IsFound}
-use Rattle.dali_read.specs.Shown.{ShowsBank, Finds, Holds}
-use Rattle.dali_read.specs.Counts.{block_frames, bank_frames, blocks_behind, order_frames, found_frames, AreSoMany}
+use Rattle.dali_read.specs.Places.{last_course, bank_course, identity_course, row_of, order_course}
+use Rattle.dali_read.specs.Findings.{IsFound, told_bytes}
+use Rattle.dali_read.specs.Shown.{ShowsBank, ShowsIdentity, Finds, Holds}
+use Rattle.dali_read.specs.Counts.{block_frames, bank_frames, identity_frames, blocks_behind, order_frames, found_frames}
+use Rattle.dali_read.specs.Counts.{AreSoMany}
 use Rattle.dali_read.specs.WorkedReads.{four_updates, five_updates, row, filled, three_updates, small_bank, other_bank}
+use Rattle.dali_read.specs.WorkedReads.{known_bytes, known_bank}
 use Rattle.dali_bus.proofs.ByteLemmas.{same_byte}
 use Rattle.dali_write.proofs.WorkedAccessLemmas.{miss_length, one_miss}
 
@@ -33,6 +36,14 @@ fe_is_read = refl
 
 pub nothing_more : (bank_course (0x00 ∷ []) ≡ None) × (last_course (0x77 ∷ []) ≡ None)
 nothing_more = (refl, refl)
+
+-- Which blocks of what a unit is: none behind 00h where the bank ends at 0Fh
+
+pub identity_blocks : (identity_course [] ≡ Some (block 0x00 1)) × (identity_course (0x10 ∷ []) ≡ Some (block 0x03 14))
+    × (identity_course (0xFF ∷ []) ≡ Some (block 0x03 14))
+    × (identity_course (0x0F ∷ []) ≡ None)
+    × (identity_course (0x77 ∷ known_bytes) ≡ None)
+identity_blocks = (refl, refl, refl, refl, refl)
 
 -- Which blocks of an order
 
@@ -70,6 +81,16 @@ pub split_row : (order_course (row 0x20 17) (0x77 ∷ 0x00 ∷ 0x03 ∷ filled 1
     × (order_course (row 0x20 17) (0x77 ∷ 0x00 ∷ 0x03 ∷ filled 17) ≡ None)
 split_row = (refl, refl)
 
+-- what was read of an order's own locations: behind the last location, and from 13h on behind the content format
+pub own_bytes_told : (told_bytes four_updates (0x10 ∷ 1 ∷ 2 ∷ []) ≡ 1 ∷ 2 ∷ [])
+    × (told_bytes five_updates (0x13 ∷ 0x00 ∷ 0x03 ∷ 1 ∷ 2 ∷ []) ≡ 1 ∷ 2 ∷ [])
+    × (told_bytes ((0x12, 7) ∷ []) (0x20 ∷ 8 ∷ []) ≡ 8 ∷ [])
+own_bytes_told = (refl, refl, refl)
+
+pub nothing_told : (told_bytes five_updates (0x12 ∷ []) ≡ []) × (told_bytes four_updates [] ≡ [])
+    × (told_bytes five_updates (0x13 ∷ 0x01 ∷ 0x03 ∷ []) ≡ [])
+nothing_told = (refl, refl, refl)
+
 -- How many frames
 
 pub block_numbers : (block_frames 1 ≡ 7) × (block_frames 2 ≡ 8) × (block_frames 16 ≡ 22)
@@ -79,6 +100,10 @@ pub bank_numbers : (bank_frames 0x00 ≡ 7) × (bank_frames 0x10 ≡ 29) × (ban
     × (bank_frames 0x77 ≡ 174)
     × (bank_frames 0xFE ≡ 357) × (bank_frames 0xFF ≡ 357)
 bank_numbers = (refl, refl, refl, refl, refl, refl)
+
+pub identity_numbers : (identity_frames 0x00 ≡ 7) × (identity_frames 0x0F ≡ 7) × (identity_frames 0x10 ≡ 27)
+    × (identity_frames 0xFF ≡ 27)
+identity_numbers = (refl, refl, refl, refl)
 
 pub row_numbers : (blocks_behind 0 0 [] ≡ 0) × (blocks_behind 0 0 five_updates ≡ 3)
     × (blocks_behind 0 0 (row 0x20 16) ≡ 1)
@@ -236,3 +261,38 @@ others_arent_bank shows = omega (arith, same_byte 8 9 (shows.bytes_are 4 9 refl)
 pub bank_to_feh : ShowsBank (Holds (0xFF ∷ filled 254)) (0xFF ∷ filled 254)
 bank_to_feh =
     record { last = 0xFF; names = refl; count = refl; bytes_are = λ location byte there. there }
+
+-- what a unit is, in a bank that ends at 10h and in one that ends before
+pub known_unit : ShowsIdentity (Holds known_bank) (0x10 ∷ known_bytes)
+known_unit =
+    record {
+      last = 0x10;
+      more = known_bytes;
+      bytes_are = refl;
+      named = refl;
+      reach = inr (omega arith, refl);
+      more_are = λ index byte there.
+          let behind : 3 + index ≡ suc (suc (suc index)) = omega arith in
+          ap (λ (n : ℕ). slice_get known_bank n) behind ∙ there;
+    }
+
+pub short_unit : ShowsIdentity (Holds small_bank) (0x04 ∷ [])
+short_unit =
+    record {
+      last = 0x04;
+      more = [];
+      bytes_are = refl;
+      named = refl;
+      reach = inl (omega arith, refl);
+      more_are = λ index byte there. cc;
+    }
+
+pub last_alone_isnt_known : ShowsIdentity (Holds known_bank) (0x10 ∷ []) → ⊥
+last_alone_isnt_known shows = let same : 0x10 ∷ [] ≡ shows.last ∷ shows.more = shows.bytes_are in grind arith
+
+pub fewer_arent_known : ShowsIdentity (Holds known_bank) (0x10 ∷ drop 1 known_bytes) → ⊥
+fewer_arent_known shows =
+    let same : 0x10 ∷ drop 1 known_bytes ≡ shows.last ∷ shows.more = shows.bytes_are in grind arith
+
+pub short_isnt_known : ShowsIdentity (Holds (0x0F ∷ drop 1 known_bank)) (0x0F ∷ known_bytes) → ⊥
+short_isnt_known shows = let same : 0x0F ∷ known_bytes ≡ shows.last ∷ shows.more = shows.bytes_are in grind arith

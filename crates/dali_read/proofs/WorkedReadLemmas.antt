@@ -11,7 +11,7 @@ use Rattle.dali_write.specs.declared.block.Block.{Block}
 use Rattle.dali_write.specs.declared.request.Wish.TheVariants.{Nothing, Exactly, Anything}
 use Rattle.dali_write.specs.Blocks.{Fits, IsAmid}
 use Rattle.dali_write.specs.Plans.{read_block}
-use Rattle.dali_write.specs.Requests.{request, block, block_requests}
+use Rattle.dali_write.specs.Requests.{request, block, block_requests, each_try}
 use Rattle.dali_write.specs.Tries.{Missed, Misses, Succeeds}
 use Rattle.dali_write.specs.WorkedBlocks.{two_locations, whole_read}
 use Rattle.dali_write.proofs.BlockBytesLemmas.{block_count}
@@ -31,7 +31,7 @@ use Rattle.dali_read.proofs.TurnLemmas.{none_done}
 one_missed : (this : Block) → Missed (block_requests 5 this) missed_try
 one_missed this = (Exactly 1, _, (λ (answered : None ≡ Some 1). cc), (Nothing, tt, refl))
 
-all_missed : (this : Block) (misses : ℕ) → Misses (block_requests 5 this) misses (missed_tries misses)
+all_missed : (this : Block) (misses : ℕ) → Misses (each_try (block_requests 5 this)) misses (missed_tries misses)
 all_missed this zero = refl
 all_missed this (suc misses) = (missed_try, missed_tries misses, refl, one_missed this, all_missed this misses)
 
@@ -46,7 +46,7 @@ last_done = record { block = first_block; bytes = 0x77 ∷ []; told = last_read 
 first_fits : Fits first_block
 first_fits = record { some = omega arith; few = omega arith; within = omega arith }
 
-first_succeeds : Succeeds (block_requests 5 first_block) (Some (0x77 ∷ [])) last_read
+first_succeeds : Succeeds (each_try (block_requests 5 first_block)) (Some (0x77 ∷ [])) last_read
 first_succeeds = (
   last_read,
   [],
@@ -74,7 +74,7 @@ last_is_read =
 
 -- two blocks, one after the other
 
-first_part_read : Succeeds (block_requests 5 first_block) (Some (0x02 ∷ [])) first_part
+first_part_read : Succeeds (each_try (block_requests 5 first_block)) (Some (0x02 ∷ [])) first_part
 first_part_read = (
   first_part,
   [],
@@ -91,7 +91,8 @@ first_part_read = (
 )
 
 -- with seven misses before it
-second_part_read : Succeeds (block_requests 5 (block 0x01 2)) (Some (0x0A ∷ 0x0B ∷ [])) (second_part ++ missed_tries 7)
+second_part_read : Succeeds (each_try (block_requests 5 (block 0x01 2))) (Some (0x0A ∷ 0x0B ∷ []))
+    (second_part ++ missed_tries 7)
 second_part_read = (
   second_part,
   missed_tries 7,

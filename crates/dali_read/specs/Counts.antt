@@ -19,6 +19,10 @@ row_frames count = count + 6 * ((count + 15) / most_locations)
 abbrev pub bank_frames : ℕ → ℕ
 bank_frames last = block_frames 1 + row_frames (min last 0xFE)
 
+-- those of the identity of a unit whose bank has this last location
+abbrev pub identity_frames : ℕ → ℕ
+identity_frames last = block_frames 1 + (if nat_lt last 0x10 then 0 else block_frames 14)
+
 -- The blocks of these updates, where this location is next to that of the update before them, whose block has room for
 -- so many more.
 abbrev pub blocks_behind : ℕ → ℕ → List (ℕ × ℕ) → ℕ

@@ -1,5 +1,5 @@
 -- What the bytes that were read for an order say of it.
-use Rattle.std.specs.Prelude.{◌≡◌, ◌≢◌, ◌⊎◌, ◌≤◌, ◌<◌, ℕ, List, ◌∷◌, ◌++◌, map}
+use Rattle.std.specs.Prelude.{◌≡◌, ◌≢◌, ◌⊎◌, ◌≤◌, ◌<◌, ℕ, List, ◌∷◌, ◌++◌, drop, map, nat_lt, if◌then◌else◌}
 use Rattle.dali_write.specs.Plans.{greatest}
 use Rattle.dali_read.specs.declared.finding.Finding.{Finding}
 use Rattle.dali_read.specs.declared.finding.Finding.TheVariants.{Same, Other, Short, Format}
@@ -30,3 +30,8 @@ IsFound updates bytes found = (last : ℕ) × (greatest updates ≤ last) × IsB
       ((more : List ℕ) × (bytes ≡ last ∷ more) × (greatest updates < 0x13) × IsFirstOther updates more found)
       ⊎ ((more : List ℕ) × (bytes ≡ last ∷ 0x00 ∷ 0x03 ∷ more) × (0x13 ≤ greatest updates)
       × IsFirstOther updates more found)
+
+-- What was read of the updates' own locations, one behind the other: what stands behind the last location, and where
+-- an update is at 13h or above behind the content format.
+abbrev pub told_bytes : List (ℕ × ℕ) → List ℕ → List ℕ
+told_bytes updates bytes = drop (if nat_lt (greatest updates) 0x13 then 1 else 3) bytes

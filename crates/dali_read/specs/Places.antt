@@ -26,6 +26,12 @@ bank_course (last ∷ more) =
     then Some (block (suc (length more)) (min (min last 0xFE - length more) most_locations))
     else None
 
+-- 00h, and where that names 10h or a location behind it 03h to 10h, which are the GTIN and the identification number
+abbrev pub identity_course : Course
+identity_course [] = Some first_block
+identity_course (last ∷ []) = if nat_lt last 0x10 then None else Some (block 0x03 14)
+identity_course (last ∷ byte ∷ more) = None
+
 -- so many of the updates, from the first one on, are in a row from this location on
 abbrev pub in_a_row : ℕ → List (ℕ × ℕ) → ℕ
 in_a_row location [] = 0
@@ -54,4 +60,5 @@ order_course updates (last ∷ more) =
 abbrev pub course_of : Places → Course
 course_of places.Last = last_course
 course_of places.Bank = bank_course
+course_of places.Identity = identity_course
 course_of (places.Order order) = order_course order.now.updates

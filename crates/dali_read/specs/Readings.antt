@@ -3,7 +3,7 @@ use Rattle.std.specs.Prelude.{◌≡◌, ℕ, List, [], ◌∷◌, ◌++◌, Opt
 use Rattle.dali_frame.specs.declared.forward.Frame.{Frame}
 use Rattle.dali_write.specs.Exchanges.{Exchange}
 use Rattle.dali_write.specs.declared.block.Block.{Block}
-use Rattle.dali_write.specs.Requests.{block_requests}
+use Rattle.dali_write.specs.Requests.{block_requests, each_try}
 use Rattle.dali_write.specs.Blocks.{Fits, IsAmid}
 use Rattle.dali_write.specs.Tries.{most_tries, Misses, Succeeds}
 
@@ -31,7 +31,7 @@ abbrev pub InTurn : ℕ → Course → List Done → Type 0
 InTurn unit course [] = ⊤
 InTurn unit course (newest ∷ done) =
     InTurn unit course done × Fits newest.block × (course (bytes_in done) ≡ Some newest.block)
-    × Succeeds (block_requests unit newest.block) (Some newest.bytes) newest.told
+    × Succeeds (each_try (block_requests unit newest.block)) (Some newest.bytes) newest.told
 
 -- these bytes were read, and no block is next
 pub record IsRead (unit : ℕ) (course : Course) (bytes : List ℕ) (told : List Exchange) : Type 0 where
@@ -49,7 +49,7 @@ pub record IsSilent (unit : ℕ) (course : Course) (told : List Exchange) : Type
   pub fits : Fits block
   pub next : course (bytes_in done) ≡ Some block
   pub missed : List Exchange
-  pub fails : Misses (block_requests unit block) most_tries missed
+  pub fails : Misses (each_try (block_requests unit block)) most_tries missed
   pub told_are : missed ++ told_in done ≡ told
 
 -- what a reading ends with: its bytes, or none where the unit was silent

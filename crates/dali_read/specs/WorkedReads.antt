@@ -58,3 +58,10 @@ small_bank = 0x04 ∷ 1 ∷ 0xFF ∷ 7 ∷ 8 ∷ []
 
 abbrev pub other_bank : List ℕ
 other_bank = 0x13 ∷ 1 ∷ 0xFF ∷ 7 ∷ 6 ∷ (replicate 12 0 ++ 0x00 ∷ 0x03 ∷ 5 ∷ [])
+
+-- the bytes of a GTIN and of an identification number, and a bank that ends behind them
+abbrev pub known_bytes : List ℕ
+known_bytes = 0x00 ∷ 0x03 ∷ 0xA4 ∷ 0x7D ∷ 0x4E ∷ 0xC3 ∷ 1 ∷ 2 ∷ 3 ∷ 4 ∷ 5 ∷ 6 ∷ 7 ∷ 8 ∷ []
+
+abbrev pub known_bank : List ℕ
+known_bank = 0x10 ∷ 1 ∷ 0xFF ∷ known_bytes

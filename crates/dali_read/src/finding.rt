@@ -1,6 +1,6 @@
 ghost use Rattle.std.specs.Prelude.{◌≡◌, ◌≤◌, length, None};
 ghost use Rattle.dali_read.specs.Places.{order_course};
-ghost use Rattle.dali_read.specs.Findings.{IsFound, IsFirstOther};
+ghost use Rattle.dali_read.specs.Findings.{IsFound, IsFirstOther, told_bytes as told};
 
 use dali_bank::Order;
 use dali_write::greatest_location;
@@ -33,6 +33,18 @@ pub fn compare(order: &Order, bytes: &[u8]) -> Finding
         #[tactic(auto, using(crate::proofs::FindingLemmas::enough_formatted))]
         [_, 0x00, 0x03, bytes @ ..] => first_other(updates, bytes),
         _ => Finding::Format,
+    }
+}
+
+/// What was read of the locations that the order writes, one behind the other as far as they were read, of all bytes
+/// that were read for it in the blocks of `Places::Order`.
+pub fn told_bytes<'a>(order: &Order, bytes: &'a [u8]) -> &'a [u8]
+    ensures { result.now ≡ told order.now.updates bytes.now }
+{
+    match bytes {
+        [_, told @ ..] if greatest_location(order.updates()) < 0x13 => told,
+        [_, _, _, told @ ..] => told,
+        _ => &[],
     }
 }
 

@@ -21,12 +21,13 @@ ghost use Rattle.dali_read.specs.declared.finding.Finding.{Finding};
 ghost use Rattle.dali_write.specs.Requests.{block_requests, moved_on};
 ghost use Rattle.dali_write.specs.Blocks.{Fits, IsBlockRead};
 ghost use Rattle.dali_write.specs.Requests.{block};
-ghost use Rattle.dali_read.specs.Places.{last_course, bank_course, order_course};
+ghost use Rattle.dali_read.specs.Places.{last_course, bank_course, identity_course, order_course};
 ghost use Rattle.dali_read.specs.Readings.{Course, Ends, IsRead, IsReading};
 ghost use Rattle.dali_read.specs.Findings.{IsFound};
-ghost use Rattle.dali_read.specs.Shown.{InBlock, WhenTold, ShowsBank, Finds, Holds};
+ghost use Rattle.dali_read.specs.Shown.{InBlock, WhenTold, ShowsBank, ShowsIdentity, ShowsTold, Finds, Holds};
 ghost use Rattle.dali_write.specs.WhenBlock.{WhenBlock};
-ghost use Rattle.dali_read.specs.Counts.{block_frames, bank_frames, order_frames, found_frames, AreSoMany};
+ghost use Rattle.dali_read.specs.Counts.{block_frames, bank_frames, identity_frames, order_frames, found_frames};
+ghost use Rattle.dali_read.specs.Counts.{AreSoMany};
 
 /// A block read of one location is the checked read, how many frames one has, and where DTR0 stands behind its reads:
 /// so many further.
@@ -60,16 +61,20 @@ pub fn block_bytes_were_there()
         → WhenBlock (IsAmong loses) (newer ++ (tried ++ older)) first last unit block bytes }
 {}
 
-/// What a reading that came to its end tells: a whole bank, or what is found of an order, byte by byte by reads of
-/// blocks of its own; and when each of these bytes was there.
+/// What a reading that came to its end tells: a whole bank, what a unit is, or what is found of an order and the bytes
+/// of its own locations, byte by byte by reads of blocks of its own; and when each of these bytes was there.
 pub fn readings_are_true()
     ensures last { (told : List Exchange) (unit : ℕ) (bytes : List ℕ) → IsRead unit last_course bytes told
         → (last : ℕ) × (bytes ≡ last ∷ []) × InBlock told unit 0x00 last }
     ensures bank { (told : List Exchange) (unit : ℕ) (bytes : List ℕ) → IsRead unit bank_course bytes told
         → ShowsBank (InBlock told unit) bytes }
+    ensures identity { (told : List Exchange) (unit : ℕ) (bytes : List ℕ) → IsRead unit identity_course bytes told
+        → ShowsIdentity (InBlock told unit) bytes }
     ensures order { (told : List Exchange) (unit : ℕ) (updates : List (ℕ × ℕ)) (bytes : List ℕ) (finding : Finding)
         → IsRead unit (order_course updates) bytes told → IsFound updates bytes finding
         → Finds (InBlock told unit) updates finding }
+    ensures updates { (told : List Exchange) (unit : ℕ) (updates : List (ℕ × ℕ)) (bytes : List ℕ)
+        → IsRead unit (order_course updates) bytes told → ShowsTold (InBlock told unit) updates bytes }
     ensures moments { (loses : List ℕ) (told : List Exchange) (first last : World) (unit location byte : ℕ)
         → InBlock told unit location byte → Run WorldStep (IsAmong loses) told first last
         → WhenTold (IsAmong loses) told first last unit location byte }
@@ -101,6 +106,8 @@ pub fn readings_take_exactly()
         → AreSoMany (block_frames 1) told }
     ensures bank { (told : List Exchange) (unit last : ℕ) (more : List ℕ) → IsRead unit bank_course (last ∷ more) told
         → AreSoMany (bank_frames last) told }
+    ensures identity { (told : List Exchange) (unit last : ℕ) (more : List ℕ)
+        → IsRead unit identity_course (last ∷ more) told → AreSoMany (identity_frames last) told }
     ensures order { (told : List Exchange) (unit : ℕ) (updates : List (ℕ × ℕ)) (bytes : List ℕ) (finding : Finding)
         → IsRead unit (order_course updates) bytes told → IsFound updates bytes finding
         → AreSoMany (found_frames updates finding) told }
@@ -108,17 +115,22 @@ pub fn readings_take_exactly()
         → Ends unit last_course outcome told → length told ≤ most_tries * block_frames 1 }
     ensures bank_limit { (told : List Exchange) (unit : ℕ) (outcome : Option (List ℕ))
         → Ends unit bank_course outcome told → length told ≤ most_tries * bank_frames 0xFE }
+    ensures identity_limit { (told : List Exchange) (unit : ℕ) (outcome : Option (List ℕ))
+        → Ends unit identity_course outcome told → length told ≤ most_tries * identity_frames 0x10 }
     ensures order_limit { (told : List Exchange) (unit : ℕ) (updates : List (ℕ × ℕ)) (outcome : Option (List ℕ))
         → Ends unit (order_course updates) outcome told → length told ≤ most_tries * order_frames updates }
     ensures amid_last { (told : List Exchange) (unit : ℕ) (frame : Frame) → IsReading unit last_course told frame
         → length told < most_tries * block_frames 1 }
     ensures amid_bank { (told : List Exchange) (unit : ℕ) (frame : Frame) → IsReading unit bank_course told frame
         → length told < most_tries * bank_frames 0xFE }
+    ensures amid_identity { (told : List Exchange) (unit : ℕ) (frame : Frame)
+        → IsReading unit identity_course told frame → length told < most_tries * identity_frames 0x10 }
     ensures amid_order { (told : List Exchange) (unit : ℕ) (updates : List (ℕ × ℕ)) (frame : Frame)
         → IsReading unit (order_course updates) told frame → length told < most_tries * order_frames updates }
     ensures whole { block_frames 16 ≡ 22 }
     ensures small { bank_frames 0x77 ≡ 174 }
     ensures large { bank_frames 0xFE ≡ 357 }
+    ensures known { identity_frames 0x10 ≡ 27 }
 {}
 
 /// On the simulated bus, where no fate refuses, no other unit is write-enabled, and the unit keeps its power and loses
@@ -134,6 +146,11 @@ pub fn spared_readings_succeed()
         (first last : SimState) (spared : Spared (IsAmong loses) at unit told first last)
         → Ends at bank_course outcome told
         → (outcome ≡ Some unit.bank1.bytes) × MissesByLosses (IsAmong loses) at unit told first last spared }
+    ensures identity { (loses : List ℕ) (at : ℕ) (unit : UnitState) (outcome : Option (List ℕ)) (told : List Exchange)
+        (first last : SimState) (spared : Spared (IsAmong loses) at unit told first last)
+        → Ends at identity_course outcome told
+        → ((bytes : List ℕ) × (outcome ≡ Some bytes) × ShowsIdentity (Holds unit.bank1.bytes) bytes)
+        × MissesByLosses (IsAmong loses) at unit told first last spared }
     ensures order { (loses : List ℕ) (at : ℕ) (unit : UnitState) (updates : List (ℕ × ℕ))
         (outcome : Option (List ℕ)) (told : List Exchange) (first last : SimState)
         (spared : Spared (IsAmong loses) at unit told first last)

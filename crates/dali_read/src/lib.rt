@@ -7,5 +7,5 @@ pub mod laws;
 mod places;
 
 pub use dali_write::Block;
-pub use finding::{Finding, compare};
+pub use finding::{Finding, compare, told_bytes};
 pub use places::Places;

@@ -1,7 +1,7 @@
 ghost use Rattle.std.specs.Prelude.{◌≡◌, ◌+◌, ◌≤◌, drop, length, min, IfSome};
 ghost use Rattle.dali_bank.specs.Order.{AreUpdates};
 ghost use Rattle.dali_write.specs.Blocks.{Fits};
-ghost use Rattle.dali_read.specs.Places.{course_of, bank_course, order_course, row_of, in_a_row};
+ghost use Rattle.dali_read.specs.Places.{course_of, bank_course, identity_course, order_course, row_of, in_a_row};
 
 use dali_bank::Order;
 use dali_write::{Block, greatest_location};
@@ -13,6 +13,12 @@ const MOST_LOCATIONS: u8 = 16;
 const FIRST: Block = Block {
     location: 0x00,
     count: 1,
+};
+
+// The GTIN and the identification number.
+const IDENTITY: Block = Block {
+    location: 0x03,
+    count: 14,
 };
 
 // The content format.
@@ -28,6 +34,8 @@ pub enum Places<'a> {
     Last,
     /// 00h, and all up to the location that it names, at most up to FEh.
     Bank,
+    /// 00h, and where that names 10h or a location behind it the GTIN and the identification number, 03h to 10h.
+    Identity,
     /// 00h; 11h and 12h where the order writes from 13h on; and, where these suit it, each location that it writes.
     Order(&'a Order),
 }
@@ -42,6 +50,7 @@ impl Places<'_> {
         match self {
             Places::Last => bytes.is_empty().then_some(FIRST),
             Places::Bank => bank_block(bytes),
+            Places::Identity => identity_block(bytes),
             Places::Order(order) => order_block(order.updates(), bytes),
         }
     }
@@ -65,6 +74,19 @@ fn bank_block(bytes: &[u8]) -> Option<Block>
         location: read + 1,
         count: (end - read).min(MOST_LOCATIONS),
     })
+}
+
+// The next block of a unit's identity.
+fn identity_block(bytes: &[u8]) -> Option<Block>
+    ensures next { result ≡ identity_course bytes.now }
+    ensures fits { IfSome result Fits }
+    ensures few { IfSome result (λ block. length bytes.now + block.count ≤ 255) }
+{
+    match bytes {
+        [] => Some(FIRST),
+        [last] if *last >= 0x10 => Some(IDENTITY),
+        _ => None,
+    }
 }
 
 // The next block of an order of these updates.

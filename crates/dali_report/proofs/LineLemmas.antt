@@ -55,14 +55,28 @@ pub found_members : {none : Members}
     {v4 d4 : Data} {m4 : Members}
     {v5 d5 : Data} {m5 : Members}
     {v6 d6 : Data} {m6 : Members}
+    {v7 d7 : Data} {m7 : Members}
     → none ≡ no_members
     → v1 ≡ d1 → m1 ≡ put (codes "unit") v1 none
     → v2 ≡ d2 → m2 ≡ put (codes "run") v2 m1
     → v3 ≡ d3 → m3 ≡ put (codes "order") v3 m2
     → v4 ≡ d4 → m4 ≡ put (codes "location") v4 m3
     → v5 ≡ d5 → m5 ≡ put (codes "found") v5 m4
-    → v6 ≡ d6 → m6 ≡ put (codes "byte") v6 m5
-    → m6 ≡ member (codes "byte") d6 (member (codes "found") d5
-    (member (codes "location") d4 (member (codes "order") d3
-    (member (codes "run") d2 (member (codes "unit") d1 no_members)))))
-found_members e e1 f1 e2 f2 e3 f3 e4 f4 e5 f5 e6 f6 = rw (f6, e6, f5, e5, f4, e4, f3, e3, f2, e2, f1, e1, e) refl
+    → v6 ≡ d6 → m6 ≡ put (codes "differs") v6 m5
+    → v7 ≡ d7 → m7 ≡ put (codes "byte") v7 m6
+    → m7 ≡ member (codes "byte") d7 (member (codes "differs") d6
+    (member (codes "found") d5 (member (codes "location") d4 (member (codes "order") d3
+    (member (codes "run") d2 (member (codes "unit") d1 no_members))))))
+found_members e e1 f1 e2 f2 e3 f3 e4 f4 e5 f5 e6 f6 e7 f7 =
+    rw (f7, e7, f6, e6, f5, e5, f4, e4, f3, e3, f2, e2, f1, e1, e) refl
+
+pub difference_members : {none : Members}
+    {v1 d1 : Data} {m1 : Members}
+    {v2 d2 : Data} {m2 : Members}
+    {v3 d3 : Data} {m3 : Members}
+    → none ≡ no_members
+    → v1 ≡ d1 → m1 ≡ put (codes "wants") v1 none
+    → v2 ≡ d2 → m2 ≡ put (codes "has") v2 m1
+    → v3 ≡ d3 → m3 ≡ put (codes "field") v3 m2
+    → m3 ≡ member (codes "field") d3 (member (codes "has") d2 (member (codes "wants") d1 no_members))
+difference_members e e1 f1 e2 f2 e3 f3 = rw (f3, e3, f2, e2, f1, e1, e) refl

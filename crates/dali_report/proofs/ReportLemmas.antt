@@ -111,7 +111,7 @@ none_yet start (Answered id (replies.Blocked unit) ∷ past) none = cc
 none_yet start (Asked order moment ∷ past) none = none_yet start past none
 none_yet start (Kept record_ ∷ past) none = none_yet start past none
 none_yet start (Sent frame answer ∷ past) none = none_yet start past none
-none_yet start (Stopped ∷ past) none = none_yet start past none
+none_yet start (Stopped pace ∷ past) none = none_yet start past none
 none_yet start (Powered unit ∷ past) none = none_yet start past none
 
 -- and no exchange behind it

@@ -15,14 +15,15 @@ use Rattle.dali_trace.specs.declared.happening.Happening.TheVariants.{Asked, Ans
 use Rattle.dali_trace.specs.Trace.{Start}
 use Rattle.dali_report.specs.declared.outcome.Outcome.TheVariants as outcomes
 use Rattle.dali_report.specs.declared.outcome.Outcome.TheVariants.{Nothing, DoneNow, NotDone}
-use Rattle.dali_read.specs.declared.finding.Finding.{Finding}
 use Rattle.dali_report.specs.declared.report.Report.{Report}
 use Rattle.dali_report.specs.declared.tally.Tally.{Tally}
+use Rattle.dali_drive.specs.Found.{Found, was_found}
 use Rattle.dali_report.specs.Lines.{end_data, escaped, found_data, is_plain, last_data}
 use Rattle.dali_report.specs.Reports.{all_done, exchanges, is_ended_now, outcome_of, report_text, resumed, spoken_of}
 use Rattle.dali_report.specs.Reports.{told_at}
 use Rattle.dali_report.specs.Tallies.{IsTally}
 use Rattle.dali_report.specs.Told.{HasWritten, IsTold, IsToldEnd, IsToldFound, has_failed, report_held, spoken}
+use Rattle.dali_write.specs.declared.pace.Pace.TheVariants.{Checked}
 
 -- ---- which order is spoken of, and whether it ended in this drive
 
@@ -34,14 +35,14 @@ second = record { id = 2; unit = 6; updates = (0x09, 0x01) ∷ [] }
 
 -- a journal of no order, and one that has begun the first
 abbrev new_start : Start
-new_start = record { records = []; limit = 3 }
+new_start = record { records = []; limit = 3; pace = Checked }
 
 abbrev begun_start : Start
-begun_start = record { records = Began first 7 ∷ []; limit = 3 }
+begun_start = record { records = Began first 7 ∷ []; limit = 3; pace = Checked }
 
 -- and one that has ended it
 abbrev ended_start : Start
-ended_start = record { records = Ended Done ∷ Opened 5 ∷ Began first 7 ∷ []; limit = 3 }
+ended_start = record { records = Ended Done ∷ Opened 5 ∷ Began first 7 ∷ []; limit = 3; pace = Checked }
 
 pub the_newest_is_spoken_of : (spoken_of begun_start (Asked second 0 ∷ []) ≡ Some second)
     × (spoken_of begun_start [] ≡ Some first)
@@ -135,7 +136,7 @@ not_done_in_doubt = refl
 -- ---- of which run a line is
 
 pub run_is_told :
-    (run : ℕ) → (get (codes "run") (found_data run first None) ≡ Some (number (unsigned run)))
+    (run : ℕ) → (get (codes "run") (found_data run (was_found first None []) []) ≡ Some (number (unsigned run)))
     × (get (codes "run") (end_data run faults.End (Enable 5) []) ≡ Some (number (unsigned run)))
     × (get (codes "run") (last_data (told_at run new_start [] 1 replies.Busy)) ≡ Some (number (unsigned run)))
 run_is_told run = (refl, refl, refl)
@@ -195,11 +196,11 @@ module _ {W : Type 0} (contents : W → Option (List ℕ)) (first_report now : R
   speaks_of_the_newest told = (told.spoken_is, told.resumed_is, told.ended_is)
 
   -- a report never becomes that of another run
-  pub run_stays : (found : List (Contents × Option Finding)) → first_report.run ≡ 3
+  pub run_stays : (found : List Found) → first_report.run ≡ 3
       → (IsTold contents begun_start first_report now [] ⊎ IsToldFound contents first_report now found)
       → now.run ≡ 3
   run_stays found is (inl told) = told.run_is ∙ is
-  run_stays found is (inr told) = told.0 ∙ is
+  run_stays found is (inr told) = told.same_run ∙ is
 
   pub end_is_kept_in_mind : IsTold contents begun_start first_report now (Kept (Ended Done) ∷ [])
       → now.ended ≡ true

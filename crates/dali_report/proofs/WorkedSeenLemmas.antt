@@ -19,6 +19,22 @@ without_run =
 pub run_is_read : run_in (object (member (codes "byte") null (with_run (number (unsigned 7))))) ≡ Some 7
 run_is_read = refl
 
+-- and of a line that tells the fields in which the unit differs
+pub newest_run_is_read :
+    run_in (object (member (codes "byte") null (member (codes "differs") (array no_items)
+    (with_run (number (unsigned 7)))))) ≡ Some 7
+newest_run_is_read = refl
+
+pub no_other_key_in_its_place :
+    run_in (object (member (codes "byte") null (member (codes "differ") (array no_items)
+    (with_run (number (unsigned 7)))))) ≡ None
+no_other_key_in_its_place = refl
+
+-- which has a run
+pub newest_without_a_run :
+    run_in (object (member (codes "byte") null (member (codes "differs") (array no_items) without_run))) ≡ None
+newest_without_a_run = refl
+
 -- a line of an earlier version comes before the first run
 pub earlier_is_before_the_first : run_in (object (member (codes "byte") null without_run)) ≡ Some 0
 earlier_is_before_the_first = refl

@@ -1,6 +1,6 @@
 -- The lines of a report: each is a value of JSON in its shortest text, and says of which run it is: a command that
 -- writes into the report.
-use Rattle.std.specs.Prelude.{ℕ, ◌^◌, ◌-◌, ◌++◌, Bool, true, false, List, [], ◌∷◌, Option, Some, None, codes, min}
+use Rattle.std.specs.Prelude.{◌≡◌, ℕ, ◌^◌, ◌-◌, ◌++◌, Bool, true, false, List, [], ◌∷◌, Option, Some, None, codes, min}
 use Rattle.std.specs.Prelude.{if◌then◌else◌, nat_le, ◌&&◌, not, ◌==◌}
 use Rattle.std.specs.List.{flat_map}
 use Rattle.serde_json.specs.Data.{Data, null, number, unsigned, string, object, member, no_members}
@@ -8,7 +8,6 @@ use Rattle.serde_json.specs.Written.{compact_text}
 use Rattle.dali_frame.specs.declared.forward.Frame.{Frame}
 use Rattle.dali_frame.specs.Frame.{frame_word}
 use Rattle.dali_frame.specs.Hex.{byte_digits, word_digits}
-use Rattle.dali_bank.specs.Order.{Contents}
 use Rattle.dali_journal.specs.Spelling.{code_number, code_name}
 use Rattle.dali_read.specs.declared.finding.Finding.{Finding}
 use Rattle.dali_read.specs.declared.finding.Finding.TheVariants.{Same, Other, Short, Format}
@@ -17,6 +16,8 @@ use Rattle.dali_trace.specs.declared.happening.Reply.TheVariants as replies
 use Rattle.dali_trace.specs.Replies.{reply_text}
 use Rattle.dali_trace.specs.declared.fault.DriveFault.{DriveFault}
 use Rattle.dali_trace.specs.Faults.{drive_number, drive_name}
+use Rattle.dali_drive.specs.Found.{Found}
+use Rattle.dali_report.specs.Differences.{Difference, AreDifferences, differences_data, held_bank, wanted_bank}
 use Rattle.dali_report.specs.declared.line.LastReply.{LastReply}
 
 -- the line of a value
@@ -104,11 +105,19 @@ abbrev pub byte_data : Option Finding → Data
 byte_data (Some (Other location byte)) = number (unsigned byte)
 byte_data other = null
 
-abbrev pub found_data : ℕ → Contents → Option Finding → Data
-found_data run order found = object (
-    member (codes "byte") (byte_data found)
-    (member (codes "found") (string (found_text found))
-    (member (codes "location") (location_data found)
-    (member (codes "order") (number (unsigned order.id))
+abbrev pub found_data : ℕ → Found → List Difference → Data
+found_data run found differences = object (
+    member (codes "byte") (byte_data found.finding)
+    (member (codes "differs") (differences_data differences)
+    (member (codes "found") (string (found_text found.finding))
+    (member (codes "location") (location_data found.finding)
+    (member (codes "order") (number (unsigned found.order.id))
     (member (codes "run") (number (unsigned run))
-    (member (codes "unit") (number (unsigned order.unit)) no_members))))))
+    (member (codes "unit") (number (unsigned found.order.unit)) no_members)))))))
+
+-- the line of what was found in this run, with the fields in which the unit differs
+abbrev pub IsFoundLine : ℕ → Found → List ℕ → Type 0
+IsFoundLine run found line =
+    (differences : List Difference)
+    × AreDifferences (held_bank found.order found.bytes) (wanted_bank found.order) differences
+    × (line ≡ line_of (found_data run found differences))

@@ -1,5 +1,5 @@
 -- What a report tells of a drive: a line for each order at its last reply. A trace has the newest happening first.
-use Rattle.std.specs.Prelude.{◌==◌, ◌||◌, ◌&&◌, ℕ, Bool, true, false, List, [], ◌∷◌, ◌++◌, Option, Some, None, length}
+use Rattle.std.specs.Prelude.{◌≡◌, ◌==◌, ◌||◌, ◌&&◌, ℕ, Bool, true, false, List, [], ◌∷◌, ◌++◌, Option, Some, None, length}
 use Rattle.std.specs.Prelude.{option_map}
 use Rattle.std.specs.List.{list_any}
 use Rattle.dali_bank.specs.Order.{Contents}
@@ -10,7 +10,6 @@ use Rattle.dali_journal.specs.declared.standing.Standing.{Standing}
 use Rattle.dali_journal.specs.declared.standing.Standing.TheVariants as standings
 use Rattle.dali_journal.specs.Orders.{moment_of}
 use Rattle.dali_journal.specs.Sentence.{standing_of}
-use Rattle.dali_read.specs.declared.finding.Finding.{Finding}
 use Rattle.dali_write.specs.Exchanges.{Exchange}
 use Rattle.dali_write.specs.Misses.{misses_in}
 use Rattle.dali_trace.specs.declared.happening.Reply.{Reply}
@@ -20,7 +19,8 @@ use Rattle.dali_trace.specs.declared.happening.Happening.TheVariants.{Asked, Ans
 use Rattle.dali_trace.specs.Cut.{since, frames_in}
 use Rattle.dali_trace.specs.Trace.{Start, records_of}
 use Rattle.dali_trace.specs.declared.fault.DriveFault.{DriveFault}
-use Rattle.dali_report.specs.Lines.{counted, last_data, end_data, found_data, line_of}
+use Rattle.dali_drive.specs.Found.{Found}
+use Rattle.dali_report.specs.Lines.{counted, last_data, end_data, line_of, IsFoundLine}
 use Rattle.dali_report.specs.declared.line.LastReply.{LastReply}
 use Rattle.dali_report.specs.declared.outcome.Outcome.{Outcome}
 use Rattle.dali_report.specs.declared.outcome.Outcome.TheVariants.{Nothing, DoneNow, Done, NotDone}
@@ -97,9 +97,11 @@ broken_text run start past fault frame text = report_text run start past ++ line
 
 -- ---- the text of what was found of orders
 
-abbrev pub found_lines : ℕ → List (Contents × Option Finding) → List ℕ
-found_lines run [] = []
-found_lines run (newest ∷ found) = found_lines run found ++ line_of (found_data run newest.0 newest.1)
+abbrev pub AreFoundLines : ℕ → List Found → List ℕ → Type 0
+AreFoundLines run [] text = text ≡ []
+AreFoundLines run (newest ∷ found) text =
+    (before : List ℕ) × (line : List ℕ) × AreFoundLines run found before × IsFoundLine run newest line
+    × (text ≡ before ++ line)
 
 -- ---- what all last replies come to
 

@@ -41,13 +41,20 @@ is_found more value =
 abbrev pub is_line : ℕ → Data → Bool
 is_line more value = is_last more value || is_end more value || is_found more value
 
+-- a line of a verification that tells the fields in which the unit differs
+abbrev pub is_newest : Data → Bool
+is_newest value = is_found 2 value && has value (codes "differs")
+
 -- the run that a line tells
 abbrev pub told_run : Data → Option ℕ
 told_run value = option_and_then as_u64 (option_and_then as_number (get (codes "run") value))
 
--- of which run it is: a line of an earlier version tells none, and comes before the first
+-- of which run it is: a line of the first version tells none, and comes before the first
 abbrev pub run_in : Data → Option ℕ
-run_in value = if is_line 0 value then Some 0 else if is_line 1 value then told_run value else None
+run_in value =
+    if is_line 0 value then Some 0
+    else if is_line 1 value || is_newest value then told_run value
+    else None
 
 -- a line that is JSON is seen by that
 abbrev pub seen_by : Option ℕ → Seen

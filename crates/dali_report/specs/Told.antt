@@ -5,18 +5,18 @@ use Rattle.std.proofs.Common.{refl}
 use Rattle.std.proofs.KnownBytes.{Appends-nil}
 use Rattle.dali_bank.specs.Order.{Contents}
 use Rattle.dali_frame.specs.declared.forward.Frame.{Frame}
-use Rattle.dali_read.specs.declared.finding.Finding.{Finding}
 use Rattle.dali_text.specs.declared.output.Output.{Output}
 use Rattle.dali_text.specs.Output as output
 use Rattle.dali_trace.specs.declared.happening.Happening.{Happening}
 use Rattle.dali_trace.specs.Cut.{since}
 use Rattle.dali_trace.specs.Trace.{Start}
 use Rattle.dali_trace.specs.declared.fault.DriveFault.{DriveFault}
+use Rattle.dali_drive.specs.Found.{Found}
 use Rattle.dali_report.specs.declared.outcome.Outcome.{Outcome}
 use Rattle.dali_report.specs.declared.report.Report.{Report}
 use Rattle.dali_report.specs.declared.report.Spoken.{Spoken}
-use Rattle.dali_report.specs.Reports.{resumed, spoken_of, is_asked, has_end, exchanges, report_text, broken_text, found_lines}
-use Rattle.dali_report.specs.Reports.{outcome_of}
+use Rattle.dali_report.specs.Reports.{resumed, spoken_of, is_asked, has_end, exchanges, report_text, broken_text}
+use Rattle.dali_report.specs.Reports.{AreFoundLines, outcome_of}
 use Rattle.dali_report.specs.Tallies.{IsTally}
 
 -- an output that may be none
@@ -42,6 +42,10 @@ has_failed_output report = output_failed report.output
 -- it goes somewhere
 abbrev pub has_output : {W : Type 0} → Report W → Bool
 has_output report = is_some report.output
+
+-- a person watches it
+abbrev pub is_watched : {W : Type 0} → Report W → Bool
+is_watched report = is_some report.progress
 
 -- which run of the report this is
 abbrev pub run_of : {W : Type 0} → Report W → ℕ
@@ -89,14 +93,25 @@ pub record IsToldEnd {W : Type 0} (contents : W → Option (List ℕ)) (start : 
   pub run_is : now.run ≡ first.run
   pub written : HasWritten contents first now (broken_text first.run start past fault frame text)
 
--- it was told that this was found of these orders, the newest first
-abbrev pub IsToldFound : {W : Type 0} → (W → Option (List ℕ)) → Report W → Report W
-    → List (Contents × Option Finding) → Type 0
-IsToldFound contents first now found =
-    (now.run ≡ first.run) × HasWritten contents first now (found_lines first.run found)
+-- unless it has failed or goes nowhere, the lines of what was found stand behind what the first of the two held
+abbrev pub HasWrittenFound : {W : Type 0} → (W → Option (List ℕ)) → Report W → Report W → List Found → Type 0
+HasWrittenFound contents first now found =
+    has_failed now ≡ false → has_output now ≡ true
+    → (text : List ℕ) × AreFoundLines first.run found text
+    × Appends (report_held contents first) (report_held contents now) text
+
+-- it was told that all this was found, the newest first; and once it had failed nothing more was written
+pub record IsToldFound {W : Type 0} (contents : W → Option (List ℕ)) (first now : Report W) (found : List Found)
+    : Type 0 where
+  pub same_run : now.run ≡ first.run
+  pub written : HasWrittenFound contents first now found
+  pub silent : has_failed first ≡ true → IsSilent first now
 
 -- at first, nothing
 pub none_found : {W : Type 0} (contents : W → Option (List ℕ)) (report : Report W)
     → IsToldFound contents report report []
-none_found contents report =
-    (refl, (λ failed. Appends-nil (report_held contents report), λ failed. (failed, refl)))
+none_found contents report = record {
+  same_run = refl;
+  written = λ well goes. ([], refl, Appends-nil (report_held contents report));
+  silent = λ failed. (failed, refl);
+}

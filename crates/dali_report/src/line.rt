@@ -1,14 +1,17 @@
 // The lines of a report: values of JSON.
-ghost use Rattle.std.specs.Prelude.{◌≡◌, IfOk, false, string_bytes};
+ghost use Rattle.std.specs.Prelude.{◌≡◌, IfOk, List, false, string_bytes};
 ghost use Rattle.serde_json.specs.View.{view, members_view};
 ghost use Rattle.serde_json.specs.Data.{string, put};
 ghost use Rattle.serde_json.specs.Written.{has_float};
 ghost use Rattle.dali_frame.specs.Frame.{IsProper, frame_word};
 ghost use Rattle.dali_frame.specs.Hex.{word_digits};
+ghost use Rattle.dali_drive.specs.Found.{was_found};
+ghost use Rattle.dali_report.specs.Differences.{AreDifferences, Difference, held_bank, wanted_bank};
 ghost use Rattle.dali_report.specs.Lines.{last_data, end_data, found_data, number_or_null, code_data, name_data};
 ghost use Rattle.dali_report.specs.Lines.{ended_data, escaped, found_text, line_of};
-ghost use Rattle.dali_report.specs.Lines.{location_data, byte_data};
+ghost use Rattle.dali_report.specs.Lines.{location_data, byte_data, IsFoundLine};
 
+use crate::differences::differing_fields;
 use dali_bank::Order;
 use dali_drive::DriveFault;
 use dali_frame::{Frame, word_of};
@@ -102,7 +105,7 @@ impl LastReply {
 }
 
 // The members of an object, with one more. The last key comes first, so that each is put in front of the others.
-fn with(
+pub(crate) fn with(
     mut members: Map<String, Value>,
     alloc: Global,
     key: &str,
@@ -212,16 +215,18 @@ impl fmt::Display for EscapedByte {
     }
 }
 
-/// The line in this run of what was found of an order: nothing of a silent unit.
+/// The line in this run of what was found of an order, in all these bytes that were read for it: nothing of a silent
+/// unit.
 pub(crate) fn found_line(
     alloc: Global,
     run: u64,
     order: &Order,
     found: Option<Finding>,
+    read: &[u8],
 ) -> Result<Vec<u8>, AllocError>
-    ensures { IfOk result (λ line. line.items ≡ line_of (found_data run order.now found)) }
+    ensures { IfOk result (λ line. IsFoundLine run (was_found order.now found read.now) line.items) }
 {
-    let value = found_value(alloc, run, order, found)?;
+    let value = found_value(alloc, run, order, found, read)?;
     line_of(alloc, &value)
 }
 
@@ -230,8 +235,11 @@ fn found_value(
     run: u64,
     order: &Order,
     found: Option<Finding>,
+    read: &[u8],
 ) -> Result<Value, AllocError>
-    ensures { IfOk result (λ value. view value ≡ found_data run order.now found) }
+    ensures { IfOk result (λ value. (differing : List Difference)
+        × AreDifferences (held_bank order.now read.now) (wanted_bank order.now) differing
+        × (view value ≡ found_data run (was_found order.now found read.now) differing)) }
 {
     let members = with(Map::new(alloc), alloc, "unit", Value::from(order.unit()))?;
     let members = with(members, alloc, "run", Value::from(run))?;
@@ -239,6 +247,12 @@ fn found_value(
     let members = with(members, alloc, "location", location_of(found))?;
     let text = Value::try_from_str(alloc, found_text(found))?;
     let members = with(members, alloc, "found", text)?;
+    let members = with(
+        members,
+        alloc,
+        "differs",
+        differing_fields(alloc, order, read)?,
+    )?;
     let members = with(members, alloc, "byte", byte_of(found))?;
     Ok(Value::Object(members))
 }

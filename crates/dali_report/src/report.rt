@@ -8,10 +8,11 @@ ghost use Rattle.dali_report.specs.Lines.{last_data, line_of};
 ghost use Rattle.dali_report.specs.Reports.{is_last_reply, is_well as well, resumed};
 ghost use Rattle.dali_report.specs.Told.{IsTold, IsToldEnd, output_held, output_failed, report_held};
 ghost use Rattle.dali_report.specs.Told.{has_failed as report_failed, has_failed_output, has_output};
-ghost use Rattle.dali_report.specs.Told.{spoken, is_number, IsToldFound, none_found, outcome_so_far, run_of};
+ghost use Rattle.dali_report.specs.Told.{is_watched, spoken, is_number, IsToldFound, none_found, outcome_so_far, run_of};
 
 use crate::line::{LastReply, end_line, found_line};
 use crate::outcome::Outcome;
+use crate::progress::Progress;
 use crate::tally::Tally;
 use dali_bank::Order;
 use dali_drive::{DriveFault, FindingObserver, Observer};
@@ -45,10 +46,13 @@ impl Spoken {
 /// the drive off, each with the number of the run. With no output it keeps in mind alone what all of them came to.
 ///
 /// A line is flushed before more happens. Where one can't be written, no more is.
+///
+/// What a person watches of it is told all of it too, and changes nothing in it.
 #[derive(Drop)]
-pub struct Report<W> {
+pub struct Report<'a, W> {
     alloc: Global,
     output: Option<Output<W>>,
+    progress: Option<&'a Progress>,
     // Whether there was no memory for a line.
     starved: bool,
     // The order that the journal had left unfinished.
@@ -62,18 +66,25 @@ pub struct Report<W> {
     run: u64,
 }
 
-impl<W: Write> Report<W> {
-    /// This run of a report, into an output where one is wanted.
-    pub fn new(alloc: Global, run: u64, output: Option<Output<W>>) -> Report<W>
+impl<'a, W: Write> Report<'a, W> {
+    /// This run of a report, into an output where one is wanted, and beside what is watched, if that is.
+    pub fn new(
+        alloc: Global,
+        run: u64,
+        output: Option<Output<W>>,
+        progress: Option<&'a Progress>,
+    ) -> Report<'a, W>
         ensures held { report_held W.contents result ≡ output_held W.contents output }
         ensures failed { report_failed result ≡ output_failed output }
         ensures output { has_output result ≡ is_some output }
         ensures outcome { outcome_so_far result ≡ Outcome.Nothing }
         ensures run { run_of result ≡ run }
+        ensures watched { is_watched result ≡ is_some progress.entry }
     {
         Report {
             alloc,
             output,
+            progress,
             starved: false,
             resumed: None,
             spoken: None,
@@ -81,6 +92,34 @@ impl<W: Write> Report<W> {
             tally: Tally::new(),
             outcome: Outcome::Nothing,
             run,
+        }
+    }
+
+    /// These are all orders that are to come, for whoever watches.
+    pub fn expect(&self, orders: &[Order]) {
+        if let Some(progress) = self.progress {
+            progress.expect(orders);
+        }
+    }
+
+    // A drive begins with this journal, for whoever watches.
+    fn show_begun(&self, journal: &Journal) {
+        if let Some(progress) = self.progress {
+            progress.resume(journal);
+        }
+    }
+
+    // This happened, for whoever watches.
+    fn show(&self, happening: &Happening, journal: &Journal) {
+        if let Some(progress) = self.progress {
+            progress.see(happening, journal);
+        }
+    }
+
+    // This was found, for whoever watches.
+    fn show_found(&self, order: &Order, found: Option<Finding>) {
+        if let Some(progress) = self.progress {
+            progress.find(order, found);
         }
     }
 
@@ -173,6 +212,7 @@ impl<W: Write> Report<W> {
     // Whether lines are written: there is an output, and none has failed.
     fn is_wanted(&self) -> bool
         ensures wanted { (result ≡ true) → report_failed self.now ≡ false }
+        ensures output { (result ≡ true) → has_output self.now ≡ true }
         ensures unwanted { (result ≡ false) → (report_failed self.now ≡ true) ⊎ (self.now.output ≡ None) }
     {
         self.output.is_some() && !self.has_failed()
@@ -194,12 +234,13 @@ impl<W: Write> Report<W> {
     }
 }
 
-impl<W: Write + Drop> Observer for Report<W> {
+impl<W: Write + Drop> Observer for Report<'_, W> {
     ghost told = { IsTold W.contents };
 
     ghost told_end = { IsToldEnd W.contents };
 
     fn begin(&mut self, journal: &Journal) {
+        self.show_begun(journal);
         self.resumed = unfinished(journal);
         self.spoken = self.resumed;
         self.ended = false;
@@ -208,6 +249,7 @@ impl<W: Write + Drop> Observer for Report<W> {
     }
 
     fn see(&mut self, happening: &Happening, journal: &Journal) {
+        self.show(happening, journal);
         match happening {
             Happening::Asked(order, _) => {
                 self.spoken = Some(Spoken::of(order));
@@ -217,7 +259,7 @@ impl<W: Write + Drop> Observer for Report<W> {
             Happening::Kept(Record::Ended(_)) => self.ended = true,
             Happening::Answered(_, Reply::Taken) => {}
             Happening::Answered(id, reply) => self.tell(*id, *reply, journal),
-            Happening::Kept(_) | Happening::Stopped | Happening::Powered(_) => {}
+            Happening::Kept(_) | Happening::Stopped(_) | Happening::Powered(_) => {}
         }
     }
 
@@ -228,12 +270,13 @@ impl<W: Write + Drop> Observer for Report<W> {
     }
 }
 
-impl<W: Write + Drop> FindingObserver for Report<W> {
+impl<W: Write + Drop> FindingObserver for Report<'_, W> {
     ghost told_found = { IsToldFound W.contents };
 
-    fn find(&mut self, order: &Order, found: Option<Finding>) {
+    fn find(&mut self, order: &Order, found: Option<Finding>, read: &[u8]) {
+        self.show_found(order, found);
         if self.is_wanted() {
-            self.put(found_line(self.alloc, self.run, order, found));
+            self.put(found_line(self.alloc, self.run, order, found, read));
         }
     }
 

@@ -3,15 +3,15 @@ ghost use Rattle.std.specs.Prelude.{◌≡◌, ◌+◌, ◌-◌, ◌^◌, ◌≤
 ghost use Rattle.serde_json.specs.View.{view};
 ghost use Rattle.dali_report.specs.Seen.{IsSeen, begin_alike, begins_so as beginning, has as has_key, has_count};
 ghost use Rattle.dali_report.specs.Seen.{is_end as end_with, is_found as found_with, is_last as last_with};
-ghost use Rattle.dali_report.specs.Seen.{is_line as line_with, run_in as run_told, seen_by};
+ghost use Rattle.dali_report.specs.Seen.{is_line as line_with, is_newest as newest, run_in as run_told, seen_by};
 ghost use Rattle.dali_report.specs.Seen.{told_run as run_at};
 
 use serde_json::Value;
 use std::alloc::{AllocError, Global};
 
-/// The most bytes of a line, without its line feed. The longest one, of an order in doubt with its five numbers of
-/// twenty digits each, has 229.
-pub const LINE_LIMIT: usize = 512;
+/// The most bytes of a line, without its line feed. The longest one, of a unit that differs from an order in each
+/// field, has 1276.
+pub const LINE_LIMIT: usize = 2048;
 
 /// What a line of a file is to a report.
 #[derive(Clone, Copy, Debug, PartialEq, Eq)]
@@ -59,7 +59,7 @@ fn run_in(value: &Value) -> Option<u64>
 {
     if is_line(value, 0) {
         Some(0)
-    } else if is_line(value, 1) {
+    } else if is_line(value, 1) || is_newest(value) {
         told_run(value)
     } else {
         None
@@ -111,8 +111,15 @@ fn is_end(value: &Value, more: usize) -> bool
         && has(value, "name")
 }
 
+// Whether it is a line of a verification that tells the fields in which the unit differs.
+fn is_newest(value: &Value) -> bool
+    ensures { result ≡ newest (view value.now) }
+{
+    is_found(value, 2) && has(value, "differs")
+}
+
 fn is_found(value: &Value, more: usize) -> bool
-    requires { more ≤ 1 }
+    requires { more ≤ 2 }
     ensures { result ≡ found_with more (view value.now) }
 {
     counts(value, 5 + more)

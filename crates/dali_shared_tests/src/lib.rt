@@ -3,7 +3,14 @@
 
 ghost use Rattle.std.specs.Prelude.{◌≡◌, IfOk, IfErr, true, false};
 
+mod gtin;
+
+pub use gtin::{GTIN, GTIN_RECORDS, HEADER};
+use std::alloc::AllocError;
 use std::test::Fail;
+
+/// As many steps as any order of the tests takes, and more.
+pub const ENOUGH: usize = 1_700;
 
 /// Fails a test where something isn't so, and tells what was wanted. It is proved once, and an `assert_eq` at each
 /// place.
@@ -28,4 +35,11 @@ pub fn expect_at(place: usize, is_so: bool, wanted: &str) -> Result<(), Fail>
     } else {
         Err(Fail::from((place, wanted)))
     }
+}
+
+/// Puts one more at the end of a list.
+pub fn put<T: Drop>(list: &mut Vec<T>, item: T) -> Result<(), AllocError> {
+    list.reserve(1)?;
+    list.push_reserved(item);
+    Ok(())
 }

@@ -1,6 +1,7 @@
 ghost use Rattle.std.specs.Prelude.{◌≡◌, [], OnOk, IfOk};
 ghost use Rattle.dali_journal.specs.JournalState.{HasRoom, MayBegin};
 
+mod behind;
 mod journals;
 mod large;
 mod left_unit;

@@ -6,7 +6,7 @@ use dali_bank::{BLANK, Order};
 use dali_frame::word_of;
 use dali_gear::{Bus, Fate, SimBus, Unit};
 use dali_shared_tests::expect_that;
-use dali_write::{Ask, Block, Session, Verdict, laws};
+use dali_write::{Ask, Block, Pace, Session, Verdict, laws};
 use std::alloc::Global;
 use std::test::Fail;
 
@@ -82,7 +82,7 @@ fn judge_fresh(
     frames: u32,
     verdict: Verdict,
 ) -> Result<(), Fail> {
-    let mut session = Session::fresh(order(unit, updates)?);
+    let mut session = Session::fresh(order(unit, updates)?, Pace::Checked);
     expect_that(
         ends_so(bus, &mut session, frames, verdict),
         "the end of a fresh session",
@@ -91,7 +91,7 @@ fn judge_fresh(
 
 // The same of an opened session with the GTIN.
 fn judge_opened(bus: &mut SimBus, unit: u8, frames: u32, verdict: Verdict) -> Result<(), Fail> {
-    let mut session = Session::opened(order(unit, &GTIN)?);
+    let mut session = Session::opened(order(unit, &GTIN)?, Pace::Checked);
     expect_that(
         ends_so(bus, &mut session, frames, verdict),
         "the end of an opened session",
@@ -144,7 +144,7 @@ fn judge_frames(bus: &mut SimBus, session: &mut Session) -> Result<(), Fail> {
 #[test]
 fn the_frames_of_a_fresh_session(rt: HostRuntime) -> Result<(), Fail> {
     let mut bus = blank_bus(rt.alloc(), Vec::new(rt.alloc()))?;
-    let mut session = Session::fresh(order(5, &GTIN)?);
+    let mut session = Session::fresh(order(5, &GTIN)?, Pace::Checked);
     judge_frames(&mut bus, &mut session)
 }
 
@@ -289,7 +289,7 @@ fn then(alloc: Global, whole: usize, last: Fate) -> Result<Vec<Fate>, Fail> {
 // Carries an opened session on with this loss behind so many whole frames.
 fn judge_loss(alloc: Global, whole: usize, loss: Fate) -> Result<(), Fail> {
     let mut bus = blank_bus(alloc, then(alloc, whole, loss)?)?;
-    let mut opened = Session::opened(order(5, &GTIN)?);
+    let mut opened = Session::opened(order(5, &GTIN)?, Pace::Checked);
     let (frames, verdict) = finish(&mut bus, &mut opened);
     let is_done = frames <= 112 && verdict == Some(Verdict::Done);
     expect_that(is_done, "done in 112 frames")
@@ -329,8 +329,8 @@ fn bus_with_dtr1_lost(alloc: Global) -> Result<SimBus, Fail> {
 
 // Carries both sessions of an order on, which take 121 frames.
 fn judge_both(bus: &mut SimBus) -> Result<(), Fail> {
-    let mut fresh = Session::fresh(order(5, &GTIN)?);
-    let mut opened = Session::opened(order(5, &GTIN)?);
+    let mut fresh = Session::fresh(order(5, &GTIN)?, Pace::Checked);
+    let mut opened = Session::opened(order(5, &GTIN)?, Pace::Checked);
     let (before, may_open) = finish(bus, &mut fresh);
     let (after, done) = finish(bus, &mut opened);
     let are_ended = may_open == Some(Verdict::MayOpen) && done == Some(Verdict::Done);

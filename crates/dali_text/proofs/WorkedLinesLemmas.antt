@@ -9,6 +9,7 @@ use Rattle.dali_text.specs.BankLines.{IsPlainText}
 use Rattle.dali_text.specs.Output.{TellsFailure, has_failed}
 use Rattle.dali_text.specs.RunText.{trace_text, total}
 use Rattle.dali_text.specs.UnitLines.{group_line}
+use Rattle.dali_write.specs.declared.pace.Pace.TheVariants.{Checked}
 
 -- ---- a bank of three bytes, at its end
 
@@ -53,15 +54,15 @@ no_error_of_a_good_output W T E old new error well = λ tells. cc
 
 -- ---- runs of frames
 
-pub two_frames_are_one_run : trace_text false (Sent (Dtr0 1) None ∷ Sent (Dtr0 2) None ∷ Stopped ∷ [])
+pub two_frames_are_one_run : trace_text false (Sent (Dtr0 1) None ∷ Sent (Dtr0 2) None ∷ Stopped Checked ∷ [])
     ≡ codes "frames 2\nstop\n"
 two_frames_are_one_run = rw (decimal_digit 2 (omega arith)) refl
 
-pub apart_they_are_two : trace_text false (Sent (Dtr0 1) None ∷ Stopped ∷ Sent (Dtr0 2) None ∷ [])
+pub apart_they_are_two : trace_text false (Sent (Dtr0 1) None ∷ Stopped Checked ∷ Sent (Dtr0 2) None ∷ [])
     ≡ codes "frames 1\nstop\nframes 1\n"
 apart_they_are_two = rw (decimal_digit 1 (omega arith)) refl
 
-pub each_is_counted : total (Sent (Dtr0 1) None ∷ Stopped ∷ Sent (Dtr0 2) (Some 255) ∷ []) ≡ 2
+pub each_is_counted : total (Sent (Dtr0 1) None ∷ Stopped Checked ∷ Sent (Dtr0 2) (Some 255) ∷ []) ≡ 2
 each_is_counted = refl
 
 -- ---- a group of a bank

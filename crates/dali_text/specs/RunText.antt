@@ -25,7 +25,7 @@ happening_line (Answered id reply) = reply_line id reply
 happening_line (Sent frame answer) =
     codes "send " ++ word_digits (frame_word frame) ++ codes " " ++ answer_text answer ++ codes "\n"
 happening_line (Kept entry) = codes "keep " ++ record_text entry ++ codes "\n"
-happening_line Stopped = codes "stop\n"
+happening_line (Stopped pace) = codes "stop\n"
 happening_line (Powered address) = codes "power " ++ decimal address ++ codes "\n"
 
 -- ---- a trace, the oldest happening first

@@ -123,7 +123,7 @@ fn write_happening<W: Write>(
             let entry = RecordText(entry);
             writeln!(output, "keep {entry}")
         }
-        Happening::Stopped => writeln!(output, "stop"),
+        Happening::Stopped(_) => writeln!(output, "stop"),
         Happening::Powered(address) => writeln!(output, "power {address}"),
     }
 }

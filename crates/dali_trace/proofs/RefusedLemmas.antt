@@ -29,6 +29,7 @@ use Rattle.dali_trace.specs.Worked.{second_order, another_number_said, blocked_u
 use Rattle.dali_trace.specs.Worked.{frame_to_another_unit_once_opened, frame_past_the_left_unit, another_lock_byte}
 use Rattle.dali_trace.specs.Worked.{opened_after_a_stop, written_after_a_stop, said_after_a_stop, closed_by_an_old_read}
 use Rattle.dali_trace.specs.Worked.{asked, begun, said, select_at, short_after_six_frames}
+use Rattle.dali_write.specs.declared.pace.Pace.TheVariants.{Checked}
 
 -- the newest exchange and the third newest of those that select
 newest_is : (unit location : ℕ) (x : Exchange) (told : List Exchange) → Selects unit location (x ∷ told)
@@ -336,7 +337,7 @@ not_with_none_waiting legal = let e = legal.1.1.1 in cc
 pub not_begun_past_the_limit : MayKeep one_done_of_one second_taken (Began second_order 9) → ⊥
 not_begun_past_the_limit may = omega (arith, may.whole.1)
 
-pub not_started_past_the_limit : Legal (record { records = Began first_order 7 ∷ []; limit = 0 }) [] → ⊥
+pub not_started_past_the_limit : Legal (record { records = Began first_order 7 ∷ []; limit = 0; pace = Checked }) [] → ⊥
 not_started_past_the_limit legal = omega (arith, legal.1)
 
 -- moments, and that an order waits

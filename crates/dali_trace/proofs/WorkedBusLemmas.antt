@@ -25,6 +25,7 @@ use Rattle.dali_trace.specs.Spared.{UnrefusedSince}
 use Rattle.dali_trace.specs.WorkedLosses.{bus_after, buses_along}
 use Rattle.dali_trace.proofs.NewUnitLemmas.{new_locked}
 use Rattle.dali_journal.proofs.PairLemmas.{and-parts}
+use Rattle.dali_write.specs.declared.pace.Pace.TheVariants.{Checked}
 
 -- each answer in the trace is the one that the bus gives
 abbrev same_answer : Option ℕ → Option ℕ → Bool
@@ -115,7 +116,7 @@ pub none_refused : (first : SimState) (past : List Happening) → none_refuse fi
     → UnrefusedSince past (buses_along first past)
 none_refused first [] kind = tt
 none_refused first (Answered id replies.Taken ∷ past) kind = tt
-none_refused first (Stopped ∷ past) kind = tt
+none_refused first (Stopped pace ∷ past) kind = tt
 none_refused first (Sent frame answer ∷ past) kind =
     ((next_kind (bus_after first past).fates (kind_after first past kind)).0, none_refused first past kind)
 none_refused first (_ ∷ past) kind = none_refused first past kind

@@ -7,6 +7,7 @@ use Rattle.dali_trace.specs.declared.happening.Happening.{Happening}
 use Rattle.dali_trace.specs.declared.happening.Happening.TheVariants.{Asked, Answered, Sent, Kept, Stopped, Powered}
 use Rattle.dali_trace.specs.Cut.{since, up_to, is_stop, is_start, is_turn, frames_in, kept_in}
 use Rattle.dali_trace.specs.Worked.{first_order}
+use Rattle.dali_write.specs.declared.pace.Pace.TheVariants.{Checked}
 
 -- the two parts are the trace
 pub parts_joined : (ends : Happening → Bool) (past : List Happening) → since ends past ++ up_to ends past ≡ past
@@ -29,7 +30,7 @@ abbrev taken_before : List Happening
 taken_before = Answered 1 replies.Taken ∷ Asked first_order 7 ∷ Sent (AskDtr0 6) (Some 3) ∷ []
 
 abbrev stop_before : List Happening
-stop_before = Stopped ∷ Sent (AskDtr0 7) (Some 3) ∷ []
+stop_before = Stopped Checked ∷ Sent (AskDtr0 7) (Some 3) ∷ []
 
 abbrev whole : List Happening
 whole = passed_by ++ record_before ++ taken_before ++ stop_before

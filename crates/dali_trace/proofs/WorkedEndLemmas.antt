@@ -26,6 +26,7 @@ use Rattle.dali_trace.proofs.WorkedLemmas.{reads_stand}
 use Rattle.dali_trace.proofs.WorkedEndingLemmas.{third_begun_legal, format_legal}
 use Rattle.dali_trace.proofs.WorkedBusLemmas.{bus_chain, none_refused, new_off, new_lock_bytes}
 use Rattle.dali_trace.proofs.WorkedPlanLemmas.{Onset, Keeps, wants_so, frames_planned, frames_go_on}
+use Rattle.dali_write.specs.declared.pace.Pace.TheVariants.{Checked}
 
 is_small : IsBank small_bank.bytes
 is_small = record { least = omega arith; most = omega arith; last = refl }
@@ -44,9 +45,10 @@ year = record {
 
 -- Short, after one answer was lost and another unit lost its power
 
-short_legal : Legal (fresh 10) short_order_ended
+short_legal : Legal (fresh 10 Checked) short_order_ended
 short_legal = (
-  read_legal (fresh 10) (Powered 6 ∷ read_try third_begun) 5 0x00 0x10 (((third_begun_legal, (5, refl)), refl), tt)
+  read_legal (fresh 10 Checked) (Powered 6 ∷ read_try third_begun) 5 0x00 0x10
+      (((third_begun_legal, (5, refl)), refl), tt)
       (5, refl) refl,
   record {
     whole = (((tt, tt, refl), tt, tt), omega arith);
@@ -56,23 +58,23 @@ short_legal = (
 )
 
 -- the third order is looked at
-looks : Onset (fresh 10) third_begun 5 (read_length third_order.updates)
+looks : Onset (fresh 10 Checked) third_begun 5 (read_length Checked third_order.updates)
 looks = record { planned = (((tt, tt), tt), tt); untold = refl; asks = λ told ask wants. wants }
 
-short_planned : ByPlan (fresh 10) short_order_ended
+short_planned : ByPlan (fresh 10 Checked) short_order_ended
 short_planned =
-    let plan = read_length third_order.updates in
+    let plan = read_length Checked third_order.updates in
     let tried = told_in (read_try third_begun) in
     let told = told_in (read_at 5 0x00 0x10 third_begun) in
     let keeps : Keeps 5 plan (told ++ tried) =
     (((((((((tt, refl), refl), refl), refl), refl), refl), refl), refl), refl) in (
-      frames_go_on (fresh 10) (Powered 6 ∷ read_try third_begun) 5 plan tried
-          (frames_planned (fresh 10) third_begun 5 plan looks tried ((tt, refl), refl), tt) refl looks.asks told
+      frames_go_on (fresh 10 Checked) (Powered 6 ∷ read_try third_begun) 5 plan tried
+          (frames_planned (fresh 10 Checked) third_begun 5 plan looks tried ((tt, refl), refl), tt) refl looks.asks told
           keeps,
       (verdicts.Short, wants_so 5 plan (told ++ tried) (asks.Ended verdicts.Short) keeps refl, (tt, refl)),
     )
 
-pub ends_short : MeetsAll (fresh 10) short_bus third_order small_bank codes.Short 1 short_order_ended
+pub ends_short : MeetsAll (fresh 10 Checked) short_bus third_order small_bank codes.Short 1 short_order_ended
 ends_short = record {
   legal = (short_legal, (refl, (refl, refl)));
   planned = (short_planned, tt);
@@ -96,20 +98,20 @@ ends_short = record {
 
 -- Format, with nothing lost
 
-format_planned : ByPlan (fresh 10) format_ended
+format_planned : ByPlan (fresh 10 Checked) format_ended
 format_planned =
-    let plan = read_length third_order.updates in
+    let plan = read_length Checked third_order.updates in
     let told = told_in (read_at 5 0x12 0x04 (read_at 5 0x11 0x00 (read_at 5 0x00 0x77 third_begun))) in
     let length : Keeps 5 plan (told_in (read_at 5 0x00 0x77 third_begun)) =
     (((((((tt, refl), refl), refl), refl), refl), refl), refl) in
     let high : Keeps 5 plan (told_in (read_at 5 0x11 0x00 (read_at 5 0x00 0x77 third_begun))) =
     (((((((length, refl), refl), refl), refl), refl), refl), refl) in
     let keeps : Keeps 5 plan told = (((((((high, refl), refl), refl), refl), refl), refl), refl) in (
-      frames_planned (fresh 10) third_begun 5 plan looks told keeps,
+      frames_planned (fresh 10 Checked) third_begun 5 plan looks told keeps,
       (verdicts.Format, wants_so 5 plan told (asks.Ended verdicts.Format) keeps refl, (tt, refl)),
     )
 
-pub ends_format : MeetsAll (fresh 10) format_bus third_order another_format codes.Format 0 format_ended
+pub ends_format : MeetsAll (fresh 10 Checked) format_bus third_order another_format codes.Format 0 format_ended
 ends_format = record {
   legal = (format_legal, (refl, (refl, refl)));
   planned = (format_planned, tt);
@@ -133,15 +135,15 @@ ends_format = record {
 
 -- Done, after the answer to a write was lost
 
-fourth_begun_legal : Legal (fresh 10) fourth_begun
+fourth_begun_legal : Legal (fresh 10 Checked) fourth_begun
 fourth_begun_legal = (
   (((tt, omega arith), tt), (refl, (tt, refl, refl))),
   record { whole = ((tt, tt, refl), omega arith); due = (refl, refl); grounds = tt },
 )
 
-fourth_opened_legal : Legal (fresh 10) fourth_opened
+fourth_opened_legal : Legal (fresh 10 Checked) fourth_opened
 fourth_opened_legal = (
-  read_legal (fresh 10) fourth_begun 5 0x00 0x10 fourth_begun_legal (5, refl) refl,
+  read_legal (fresh 10 Checked) fourth_begun 5 0x00 0x10 fourth_begun_legal (5, refl) refl,
   record {
     whole = (((tt, tt, refl), refl, tt), omega arith);
     due = tt;
@@ -149,19 +151,20 @@ fourth_opened_legal = (
   },
 )
 
-fourth_ended_legal : Legal (fresh 10) fourth_ended
+fourth_ended_legal : Legal (fresh 10 Checked) fourth_ended
 fourth_ended_legal =
     let unlocked : List Happening = write_at 5 0x02 0x55 fourth_opened in
     let lost : List Happening = Sent (Write 0xAB) None ∷ select_at 5 0x08 (enable_twice 5 unlocked) in
     let locked : List Happening = write_at 5 0x02 0xFF fourth_written in
     let lock_read : List Happening = read_at 5 0x02 0xFF locked in
-    let one = write_legal (fresh 10) fourth_opened 5 0x02 0x55 fourth_opened_legal (refl, refl) refl refl
+    let one = write_legal (fresh 10 Checked) fourth_opened 5 0x02 0x55 fourth_opened_legal (refl, refl) refl refl
     (inr (refl, inl refl)) in
-    let two = write_legal (fresh 10) unlocked 5 0x08 0xAB one (refl, refl) refl refl (inl refl) in
-    let three = write_legal (fresh 10) lost 5 0x08 0xAB (two.0, two.1) (refl, refl) refl refl (inl refl) in
-    let four = write_legal (fresh 10) fourth_written 5 0x02 0xFF three (refl, refl) refl refl (inr (refl, inr refl)) in
-    let five = read_legal (fresh 10) locked 5 0x02 0xFF four (5, refl) refl in (
-      read_legal (fresh 10) lock_read 5 0x08 0xAB five (5, refl) refl,
+    let two = write_legal (fresh 10 Checked) unlocked 5 0x08 0xAB one (refl, refl) refl refl (inl refl) in
+    let three = write_legal (fresh 10 Checked) lost 5 0x08 0xAB (two.0, two.1) (refl, refl) refl refl (inl refl) in
+    let four = write_legal (fresh 10 Checked) fourth_written 5 0x02 0xFF three (refl, refl) refl refl
+    (inr (refl, inr refl)) in
+    let five = read_legal (fresh 10 Checked) locked 5 0x02 0xFF four (5, refl) refl in (
+      read_legal (fresh 10 Checked) lock_read 5 0x08 0xAB five (5, refl) refl,
       record {
         whole = ((((tt, tt, refl), refl, tt), tt, tt), omega arith);
         due = tt;
@@ -172,14 +175,14 @@ fourth_ended_legal =
       },
     )
 
-fourth_ended_planned : ByPlan (fresh 10) fourth_ended
+fourth_ended_planned : ByPlan (fresh 10 Checked) fourth_ended
 fourth_ended_planned =
-    let look = read_length fourth_order.updates in
-    let write = unlock fourth_order.updates in
+    let look = read_length Checked fourth_order.updates in
+    let write = unlock Checked fourth_order.updates in
     let looked = told_in (read_at 5 0x00 0x10 fourth_begun) in
     let length : Keeps 5 look looked = (((((((tt, refl), refl), refl), refl), refl), refl), refl) in
-    let opened : ByPlan (fresh 10) fourth_opened = (
-      frames_planned (fresh 10) fourth_begun 5 look (record {
+    let opened : ByPlan (fresh 10 Checked) fourth_opened = (
+      frames_planned (fresh 10 Checked) fourth_begun 5 look (record {
         planned = (((tt, tt), tt), tt);
         untold = refl;
         asks = λ told ask wants. wants;
@@ -197,7 +200,7 @@ fourth_ended_planned =
     let k4 : Keeps 5 write (told_in locked) = (((((((k3, refl), refl), refl), refl), refl), refl), refl) in
     let k5 : Keeps 5 write (told_in lock_read) = (((((((k4, refl), refl), refl), refl), refl), refl), refl) in
     let keeps : Keeps 5 write told = (((((((k5, refl), refl), refl), refl), refl), refl), refl) in (
-      frames_planned (fresh 10) fourth_opened 5 write (record {
+      frames_planned (fresh 10 Checked) fourth_opened 5 write (record {
         planned = opened;
         untold = refl;
         asks = λ told ask wants. wants;
@@ -205,7 +208,7 @@ fourth_ended_planned =
       (verdicts.Done, wants_so 5 write told (asks.Ended verdicts.Done) keeps refl, (tt, refl)),
     )
 
-pub ends_done : MeetsAll (fresh 10) done_bus fourth_order small_bank codes.Done 1 fourth_ended
+pub ends_done : MeetsAll (fresh 10 Checked) done_bus fourth_order small_bank codes.Done 1 fourth_ended
 ends_done = record {
   legal = (fourth_ended_legal, (refl, (refl, refl)));
   planned = (fourth_ended_planned, tt);
@@ -271,7 +274,7 @@ sixth_ended_legal =
 sixth_ended_planned : ByPlan left_open sixth_ended
 sixth_ended_planned =
     let plan = close verdicts.Closed verdicts.NotClosed in
-    let look = read_length sixth_order.updates in
+    let look = read_length Checked sixth_order.updates in
     let told = told_in (read_at 5 0x02 0xFF (write_at 5 0x02 0xFF sixth_closing)) in
     let looked = told_in (read_at 6 0x00 0x10 sixth_begun) in
     let k1 : Keeps 5 plan (told_in sixth_closing) = ((((tt, refl), refl), refl), refl) in

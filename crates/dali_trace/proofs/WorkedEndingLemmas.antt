@@ -13,6 +13,7 @@ use Rattle.dali_trace.proofs.WorkedLemmas.{enable_legal, read_legal, write_legal
 use Rattle.dali_trace.proofs.WorkedLemmas.{read_stands, behind_read, reads_behind, reads_stand, begun_legal}
 use Rattle.dali_trace.proofs.WorkedLemmas.{measured_legal, opened_legal, unlocked_legal, ended_legal}
 use Rattle.dali_trace.proofs.WorkedLeftLemmas.{second_taken_legal}
+use Rattle.dali_write.specs.declared.pace.Pace.TheVariants.{Checked}
 
 pub short_legal : Legal empty short_ended
 short_legal = (
@@ -79,19 +80,24 @@ tried_legal =
 
 pub opened_anew_legal : Legal empty opened_anew
 opened_anew_legal = (
-  read_legal empty (Stopped ∷ measured) 5 0x00 0x77 (measured_legal, tt) (5, refl) refl,
+  read_legal empty (Stopped Checked ∷ measured) 5 0x00 0x77 (measured_legal, tt) (5, refl) refl,
   record {
     whole = (((tt, tt, refl), refl, tt), omega arith);
     due = tt;
-    grounds =
-        (0x77, read_stands (Stopped ∷ measured) 5 0x00 0x77, omega arith, λ needed. absurd (omega (arith, needed)));
+    grounds = (
+      0x77,
+      read_stands (Stopped Checked ∷ measured) 5 0x00 0x77,
+      omega arith,
+      λ needed. absurd
+          (omega (arith, needed)),
+    );
   },
 )
 
 written_anew_legal : Legal empty written_anew
 written_anew_legal =
-    let p0 : List Happening = write_at 5 0x02 0x55 (Stopped ∷ unlocked) in
-    let one = write_legal empty (Stopped ∷ unlocked) 5 0x02 0x55 (unlocked_legal, tt) (refl, refl) refl refl
+    let p0 : List Happening = write_at 5 0x02 0x55 (Stopped Checked ∷ unlocked) in
+    let one = write_legal empty (Stopped Checked ∷ unlocked) 5 0x02 0x55 (unlocked_legal, tt) (refl, refl) refl refl
     (inr (refl, inl refl)) in
     let two = writes_legal empty first_order first_order.updates p0 (refl, (refl, (refl, (refl, (refl, (refl, tt))))))
     refl one (λ unit is. (is, ap Some (sym is))) in

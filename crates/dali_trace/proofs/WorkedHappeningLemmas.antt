@@ -12,6 +12,7 @@ use Rattle.dali_trace.specs.Quiet.{NoneTaken, NoneSent}
 use Rattle.dali_trace.specs.Next.{IsSameBut}
 use Rattle.dali_trace.specs.Replies.{reply_number, reply_text}
 use Rattle.dali_trace.specs.Worked.{first_order, begun}
+use Rattle.dali_write.specs.declared.pace.Pace.TheVariants.{Checked}
 
 -- Frames
 
@@ -19,7 +20,7 @@ abbrev one_frame : List Happening
 one_frame = Sent (Dtr0 3) None ∷ []
 
 -- none is sent where all else happens
-pub none_sent : NoneSent (Powered 5 ∷ Kept (Closed 5) ∷ Stopped ∷ begun)
+pub none_sent : NoneSent (Powered 5 ∷ Kept (Closed 5) ∷ Stopped Checked ∷ begun)
 none_sent = refl
 
 pub not_none_sent : NoneSent one_frame → ⊥
@@ -32,7 +33,7 @@ not_none_sent_with_an_answer none = cc
 pub sent_behind_a_record : NoneSent (Kept (Opened 5) ∷ one_frame) → ⊥
 sent_behind_a_record none = cc
 
-pub sent_behind_a_stop : NoneSent (Stopped ∷ one_frame) → ⊥
+pub sent_behind_a_stop : NoneSent (Stopped Checked ∷ one_frame) → ⊥
 sent_behind_a_stop none = cc
 
 pub sent_behind_a_loss_of_power : NoneSent (Powered 5 ∷ one_frame) → ⊥
@@ -55,7 +56,7 @@ none_taken_by_another_reply = tt
 pub none_taken_by_an_unanswered_order : NoneTaken (Asked first_order 7 ∷ [])
 none_taken_by_an_unanswered_order = tt
 
-pub none_taken_by_a_stop : NoneTaken (Stopped ∷ [])
+pub none_taken_by_a_stop : NoneTaken (Stopped Checked ∷ [])
 none_taken_by_a_stop = tt
 
 pub none_taken_by_all_else : NoneTaken (Powered 5 ∷ Kept (Closed 5) ∷ one_frame)
@@ -64,7 +65,7 @@ none_taken_by_all_else = tt
 pub not_none_taken : NoneTaken (Answered 1 replies.Taken ∷ []) → ⊥
 not_none_taken none = none
 
-pub taken_behind_a_stop : NoneTaken (Stopped ∷ begun) → ⊥
+pub taken_behind_a_stop : NoneTaken (Stopped Checked ∷ begun) → ⊥
 taken_behind_a_stop none = none
 
 pub taken_behind_a_refused_order : NoneTaken (Answered 1 replies.Busy ∷ Asked first_order 7 ∷ begun) → ⊥

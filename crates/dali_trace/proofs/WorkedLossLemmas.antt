@@ -23,6 +23,8 @@ use Rattle.dali_gear.specs.UnitState.{BankState}
 use Rattle.std.specs.Prelude.{reverse}
 use Rattle.dali_trace.specs.WorkedLosses.{losing, refusing, clear, one_since, start_taken, of_format, fixed_beside}
 use Rattle.dali_trace.specs.WorkedLosses.{fixed_there, SparesSeven}
+use Rattle.dali_write.specs.declared.pace.Pace.TheVariants.{Checked}
+use Rattle.dali_write.specs.declared.pace.Pace.{Pace}
 
 -- A frame that is lost to the order's unit, to the left one, or to both of them, is one loss; one that is lost to
 -- another is none. What was lost before the start isn't counted.
@@ -32,36 +34,37 @@ lost_to_both = refl
 pub lost_to_the_left : losses_since 5 (Some 7) (one_since start_taken) (losing 0x80 ∷ clear ∷ losing 0xA0 ∷ []) ≡ 1
 lost_to_the_left = refl
 
-pub lost_to_its_unit : losses_since 5 (Some 7) (one_since Stopped) (losing 0x20 ∷ clear ∷ losing 0xA0 ∷ []) ≡ 1
+pub lost_to_its_unit : losses_since 5 (Some 7) (one_since (Stopped Checked)) (losing 0x20 ∷ clear ∷ losing 0xA0 ∷ []) ≡
+    1
 lost_to_its_unit = refl
 
-pub lost_to_another : losses_since 5 (Some 7) (one_since Stopped) (losing 0x40 ∷ clear ∷ losing 0xA0 ∷ []) ≡ 0
+pub lost_to_another : losses_since 5 (Some 7) (one_since (Stopped Checked)) (losing 0x40 ∷ clear ∷ losing 0xA0 ∷ []) ≡ 0
 lost_to_another = refl
 
 -- nor is what was refused before it
 pub unrefused_since : UnrefusedSince (one_since start_taken) (clear ∷ clear ∷ refusing ∷ [])
 unrefused_since = (refl, tt)
 
-pub unrefused_since_a_stop : UnrefusedSince (one_since Stopped) (clear ∷ clear ∷ refusing ∷ [])
+pub unrefused_since_a_stop : UnrefusedSince (one_since (Stopped Checked)) (clear ∷ clear ∷ refusing ∷ [])
 unrefused_since_a_stop = (refl, tt)
 
-pub refused_since : UnrefusedSince (one_since Stopped) (refusing ∷ clear ∷ clear ∷ []) → ⊥
+pub refused_since : UnrefusedSince (one_since (Stopped Checked)) (refusing ∷ clear ∷ clear ∷ []) → ⊥
 refused_since kind = let never : true ≡ false = kind.0 in cc
 
 -- no loss of power before it counts; since then one of its unit or of the left one does, and one of another doesn't
 pub keeps_power_since : KeepsPowerSince 5 (Some 6) (one_since start_taken ++ Powered 5 ∷ Powered 6 ∷ [])
 keeps_power_since = tt
 
-pub keeps_power_since_a_stop : KeepsPowerSince 5 (Some 6) (one_since Stopped ++ Powered 5 ∷ Powered 6 ∷ [])
+pub keeps_power_since_a_stop : KeepsPowerSince 5 (Some 6) (one_since (Stopped Checked) ++ Powered 5 ∷ Powered 6 ∷ [])
 keeps_power_since_a_stop = tt
 
-pub its_unit_powered : KeepsPowerSince 5 None (Sent (Dtr1 1) None ∷ Powered 5 ∷ one_since Stopped) → ⊥
+pub its_unit_powered : KeepsPowerSince 5 None (Sent (Dtr1 1) None ∷ Powered 5 ∷ one_since (Stopped Checked)) → ⊥
 its_unit_powered kept = kept.0.0 refl
 
-pub left_powered : KeepsPowerSince 5 (Some 6) (Sent (Dtr1 1) None ∷ Powered 6 ∷ one_since Stopped) → ⊥
+pub left_powered : KeepsPowerSince 5 (Some 6) (Sent (Dtr1 1) None ∷ Powered 6 ∷ one_since (Stopped Checked)) → ⊥
 left_powered kept = kept.0.1 refl
 
-pub another_powered : KeepsPowerSince 5 (Some 6) (Sent (Dtr1 1) None ∷ Powered 7 ∷ one_since Stopped)
+pub another_powered : KeepsPowerSince 5 (Some 6) (Sent (Dtr1 1) None ∷ Powered 7 ∷ one_since (Stopped Checked))
 another_powered = ((λ same. cc, λ same. cc), tt)
 
 -- the state at the start
@@ -111,24 +114,25 @@ pub spared_before : (start : Start) (next : Happening) (past : List Happening) (
     → IsSpared start (next ∷ past) last (state ∷ states) × AtEachState (IsSpared start) past state states
 spared_before start next past last state states each = each
 
-pub leads_spared : (limit : ℕ) (all : List Event) (first : SimState) (past : List Happening) (last : SimState)
-    (leads : LeadsSpared limit all first past last)
+pub leads_spared : (limit : ℕ) (pace : Pace) (all : List Event) (first : SimState) (past : List Happening)
+    (last : SimState) (leads : LeadsSpared limit pace all first past last)
     → NoneEnabled (world_of first.units) → IsLockedAbove (world_of first.units)
     → IsChain (MovesBy SimStep) first past last leads.states
-    × AtEachState (IsSpared (fresh limit)) past last leads.states
-leads_spared limit all first past last leads none locked = (leads.chain, leads.spared none locked)
+    × AtEachState (IsSpared (fresh limit pace)) past last leads.states
+leads_spared limit pace all first past last leads none locked = (leads.chain, leads.spared none locked)
 
 -- an order that is given steps enough is said as it is to end, if little befalls it
-pub leads_said : (limit : ℕ) (all newer middle older : List Event) (first : SimState) (past : List Happening)
-    (last : SimState) (leads : LeadsSpared limit all first past last)
+pub leads_said : (limit : ℕ) (pace : Pace) (all newer middle older : List Event) (first : SimState)
+    (past : List Happening)
+    (last : SimState) (leads : LeadsSpared limit pace all first past last)
     → NoneEnabled (world_of first.units) → IsLockedAbove (world_of first.units)
     → reverse all ≡ newer ++ (middle ++ older)
-    → (cut : IsCut (fresh limit) newer middle older past)
-    × ((order : Contents) (bank : BankState) → HasStepsEnough (fresh limit) cut.before middle order
-    → (so : IsSaidAsDue (fresh limit) order cut.before cut.behind leads.states)
-    × (LosesLittle (fresh limit) order bank (so.said.since ++ cut.before) so.state so.older
+    → (cut : IsCut (fresh limit pace) newer middle older past)
+    × ((order : Contents) (bank : BankState) → HasStepsEnough (fresh limit pace) cut.before middle order
+    → (so : IsSaidAsDue (fresh limit pace) order cut.before cut.behind leads.states)
+    × (LosesLittle (fresh limit pace) order bank (so.said.since ++ cut.before) so.state so.older
     → so.said.reply ≡ replies.Kept (due_code bank.bytes order.updates)))
-leads_said limit all newer middle older first past last leads none locked same =
+leads_said limit pace all newer middle older first past last leads none locked same =
     let says = leads.said none locked newer middle older same in (
       says.0,
       λ order bank enough. let so = says.1 order enough in (so, λ little. (so.due bank little).reply_is),

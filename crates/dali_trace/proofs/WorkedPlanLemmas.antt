@@ -16,7 +16,7 @@ use Rattle.dali_write.proofs.NextLemmas.{first_wanted, next_wanted}
 use Rattle.dali_write.proofs.DeterminedLemmas.{plan_state_after, ask_from, ask_is}
 use Rattle.dali_trace.specs.declared.happening.Happening.{Happening}
 use Rattle.dali_trace.specs.declared.happening.Happening.TheVariants.{Sent}
-use Rattle.dali_trace.specs.Trace.{Start, records_of, standing_at}
+use Rattle.dali_trace.specs.Trace.{pace_at, Start, records_of, standing_at}
 use Rattle.dali_trace.specs.Legal.{Legal}
 use Rattle.dali_trace.specs.Grounds.{EndsIn}
 use Rattle.dali_trace.specs.ByPlan.{told_in, Asks, ByPlan}
@@ -29,6 +29,7 @@ use Rattle.dali_trace.specs.WorkedPlans.{silent_where_short, left_at_once, block
 use Rattle.dali_trace.specs.WorkedPlans.{closed_anew}
 use Rattle.dali_trace.proofs.WorkedLemmas.{read_legal, begun_legal, opened_legal}
 use Rattle.dali_trace.proofs.WorkedLeftLemmas.{second_taken_legal, blocked_legal}
+use Rattle.dali_write.specs.declared.pace.Pace.TheVariants.{Checked}
 
 -- each of the frames is the one that was wanted after those before it
 abbrev pub Keeps : ℕ → Plan → List Exchange → Type 0
@@ -82,18 +83,24 @@ told_sent : (told : List Exchange) (past : List Happening) → told_in past ≡ 
 told_sent [] past none = none
 told_sent (x ∷ told) past none = ap (λ (t : List Exchange). x ∷ t) (told_sent told past none)
 
+pace_sent : (start : Start) (told : List Exchange) (past : List Happening)
+    → pace_at start (sent told past) ≡ pace_at start past
+pace_sent start [] past = refl
+pace_sent start (x ∷ told) past = pace_sent start told past
+
 -- where a session of the plan is about to begin
 pub record Onset (start : Start) (past : List Happening) (unit : ℕ) (plan : Plan) : Type 0 where
   pub planned : ByPlan start past
   pub untold : told_in past ≡ []
-  pub asks : (told : List Exchange) (ask : Ask) → Wants unit plan told ask → Asks (standing_at start past) told ask
+  pub asks : (told : List Exchange) (ask : Ask) → Wants unit plan told ask
+      → Asks (pace_at start past) (standing_at start past) told ask
 
 pub frames_planned : (start : Start) (past : List Happening) (unit : ℕ) (plan : Plan) → Onset start past unit plan
     → (told : List Exchange) → Keeps unit plan told → ByPlan start (sent told past)
 frames_planned start past unit plan onset [] keeps = onset.planned
 frames_planned start past unit plan onset (x ∷ told) keeps = (
   frames_planned start past unit plan onset told keeps.0,
-  rw (records_sent start told past, told_sent told past onset.untold)
+  rw (pace_sent start told past, records_sent start told past, told_sent told past onset.untold)
       (onset.asks told (asks.Send x.frame) (wants_so unit plan told (asks.Send x.frame) keeps.0 keeps.1)),
 )
 
@@ -105,29 +112,31 @@ told_on (x ∷ told) before past are = ap (λ (t : List Exchange). x ∷ t) (tol
 
 pub frames_go_on : (start : Start) (past : List Happening) (unit : ℕ) (plan : Plan) (before : List Exchange)
     → ByPlan start past → told_in past ≡ before
-    → ((told : List Exchange) (ask : Ask) → Wants unit plan told ask → Asks (standing_at start past) told ask)
+    → ((told : List Exchange) (ask : Ask) → Wants unit plan told ask
+    → Asks (pace_at start past) (standing_at start past) told ask)
     → (told : List Exchange) → Keeps unit plan (told ++ before) → ByPlan start (sent told past)
 frames_go_on start past unit plan before planned are asks_so [] keeps = planned
 frames_go_on start past unit plan before planned are asks_so (x ∷ told) keeps = (
   frames_go_on start past unit plan before planned are asks_so told keeps.0,
-  rw (records_sent start told past, told_on told before past are)
+  rw (pace_sent start told past, records_sent start told past, told_on told before past are)
       (asks_so (told ++ before) (asks.Send x.frame) (wants_so unit plan (told ++ before) (asks.Send x.frame) keeps.0
       keeps.1)),
 )
 
 -- the first order, once it is begun
-looks : Onset empty begun 5 (read_length first_order.updates)
+looks : Onset empty begun 5 (read_length Checked first_order.updates)
 looks = record { planned = (((tt, tt), tt), tt); untold = refl; asks = λ told ask wants. wants }
 
-looks_on : (told : List Exchange) → Keeps 5 (read_length first_order.updates) told → ByPlan empty (sent told begun)
-looks_on told keeps = frames_planned empty begun 5 (read_length first_order.updates) looks told keeps
+looks_on : (told : List Exchange) → Keeps 5 (read_length Checked first_order.updates) told
+    → ByPlan empty (sent told begun)
+looks_on told keeps = frames_planned empty begun 5 (read_length Checked first_order.updates) looks told keeps
 
 pub first_planned : ByPlan empty first_frame
 first_planned = looks_on (told_in first_frame) (tt, refl)
 
 pub not_another_first : ByPlan empty another_first_frame → ⊥
 not_another_first planned =
-    let e = ask_is 5 (read_length first_order.updates) (told_in begun) (asks.Send (Dtr0 0)) planned.1 in cc
+    let e = ask_is 5 (read_length Checked first_order.updates) (told_in begun) (asks.Send (Dtr0 0)) planned.1 in cc
 
 pub another_first_legal : Legal empty another_first_frame
 another_first_legal = (begun_legal, (5, refl))
@@ -137,7 +146,8 @@ next_try_planned = looks_on (told_in next_try) (((tt, refl), refl), refl)
 
 pub not_past_a_miss : ByPlan empty frame_past_a_miss → ⊥
 not_past_a_miss planned =
-    let e = ask_is 5 (read_length first_order.updates) (told_in (read_try begun)) (asks.Send (Dtr0 0)) planned.1 in cc
+    let e = ask_is 5 (read_length Checked first_order.updates) (told_in (read_try begun)) (asks.Send (Dtr0 0)) planned.1
+    in cc
 
 read_try_legal : Legal empty (read_try begun)
 read_try_legal = ((begun_legal, (5, refl)), refl)
@@ -150,18 +160,19 @@ next_frame_planned = looks_on (told_in next_frame) (((tt, refl), refl), refl)
 
 pub not_without_a_miss : ByPlan empty try_without_a_miss → ⊥
 not_without_a_miss planned =
-    let e = ask_is 5 (read_length first_order.updates) (told_in half_tried) (asks.Send (Dtr1 1)) planned.1 in cc
+    let e = ask_is 5 (read_length Checked first_order.updates) (told_in half_tried) (asks.Send (Dtr1 1)) planned.1 in cc
 
 pub without_a_miss_legal : Legal empty try_without_a_miss
 without_a_miss_legal = (((begun_legal, (5, refl)), refl), (5, refl))
 
 -- after a stop
 pub begun_anew_planned : ByPlan empty begun_anew
-begun_anew_planned = ((first_planned, tt), wants_so 5 (read_length first_order.updates) [] (asks.Send (Dtr1 1)) tt refl)
+begun_anew_planned =
+    ((first_planned, tt), wants_so 5 (read_length Checked first_order.updates) [] (asks.Send (Dtr1 1)) tt refl)
 
 pub not_through_a_stop : ByPlan empty try_through_a_stop → ⊥
 not_through_a_stop planned =
-    let e = ask_is 5 (read_length first_order.updates) [] (asks.Send (AskDtr1 5)) planned.1 in cc
+    let e = ask_is 5 (read_length Checked first_order.updates) [] (asks.Send (AskDtr1 5)) planned.1 in cc
 
 pub through_a_stop_legal : Legal empty try_through_a_stop
 through_a_stop_legal = (((begun_legal, (5, refl)), tt), refl)
@@ -169,21 +180,24 @@ through_a_stop_legal = (((begun_legal, (5, refl)), tt), refl)
 -- once the unit is opened
 opened_planned : ByPlan empty opened
 opened_planned =
-    let keeps : Keeps 5 (read_length first_order.updates) (told_in measured) =
+    let keeps : Keeps 5 (read_length Checked first_order.updates) (told_in measured) =
     (((((((tt, refl), refl), refl), refl), refl), refl), refl) in (
       looks_on (told_in measured) keeps,
       (
         verdicts.MayOpen,
-        wants_so 5 (read_length first_order.updates) (told_in measured) (asks.Ended verdicts.MayOpen) keeps refl,
+        wants_so 5 (read_length Checked first_order.updates) (told_in measured) (asks.Ended verdicts.MayOpen) keeps
+            refl,
         (refl, refl),
       ),
     )
 
 pub enabled_first_planned : ByPlan empty enabled_first
-enabled_first_planned = (opened_planned, wants_so 5 (unlock first_order.updates) [] (asks.Send (Enable 5)) tt refl)
+enabled_first_planned =
+    (opened_planned, wants_so 5 (unlock Checked first_order.updates) [] (asks.Send (Enable 5)) tt refl)
 
 pub not_read_once_opened : ByPlan empty read_once_opened → ⊥
-not_read_once_opened planned = let e = ask_is 5 (unlock first_order.updates) [] (asks.Send (Dtr1 1)) planned.1 in cc
+not_read_once_opened planned = let e = ask_is 5 (unlock Checked first_order.updates) [] (asks.Send (Dtr1 1)) planned.1
+    in cc
 
 pub read_once_opened_legal : Legal empty read_once_opened
 read_once_opened_legal = (opened_legal, (5, refl))
@@ -192,19 +206,19 @@ read_once_opened_legal = (opened_legal, (5, refl))
 pub short_planned : ByPlan empty short_ended
 short_planned =
     let told = told_in (read_at 5 0x00 0x07 begun) in
-    let keeps : Keeps 5 (read_length first_order.updates) told =
+    let keeps : Keeps 5 (read_length Checked first_order.updates) told =
     (((((((tt, refl), refl), refl), refl), refl), refl), refl) in (
       looks_on told keeps,
       (
         verdicts.Short,
-        wants_so 5 (read_length first_order.updates) told (asks.Ended verdicts.Short) keeps refl,
+        wants_so 5 (read_length Checked first_order.updates) told (asks.Ended verdicts.Short) keeps refl,
         (tt, refl),
       ),
     )
 
 pub not_silent_where_short : ByPlan empty silent_where_short → ⊥
 not_silent_where_short planned =
-    by planned.1.0 planned.1.2 (ask_is 5 (read_length first_order.updates) (told_in (read_at 5 0x00 0x07 begun))
+    by planned.1.0 planned.1.2 (ask_is 5 (read_length Checked first_order.updates) (told_in (read_at 5 0x00 0x07 begun))
     (asks.Ended planned.1.0) planned.1.1)
   where
     by : (verdict : Verdict) → EndsIn (standings.Began first_order) verdict (Ended codes.Silent)
@@ -220,11 +234,11 @@ silent_where_short_legal = (
 pub silent_after_eight_planned : ByPlan empty silent_after_eight
 silent_after_eight_planned =
     let told = told_in (eight_times read_try begun) in
-    let keeps = keeps_all 5 (read_length first_order.updates) told refl in (
+    let keeps = keeps_all 5 (read_length Checked first_order.updates) told refl in (
       looks_on told keeps,
       (
         verdicts.Silent,
-        wants_so 5 (read_length first_order.updates) told (asks.Ended verdicts.Silent) keeps refl,
+        wants_so 5 (read_length Checked first_order.updates) told (asks.Ended verdicts.Silent) keeps refl,
         (tt, refl),
       ),
     )
@@ -232,13 +246,14 @@ silent_after_eight_planned =
 pub not_silent_after_seven : ByPlan empty silent_after_seven → ⊥
 not_silent_after_seven planned =
     let e =
-    ask_is 5 (read_length first_order.updates) (told_in (seven_times read_try begun)) (asks.Ended planned.1.0)
+    ask_is 5 (read_length Checked first_order.updates) (told_in (seven_times read_try begun)) (asks.Ended planned.1.0)
     planned.1.1 in
     cc
 
 pub not_silent_at_once : ByPlan empty silent_ended → ⊥
 not_silent_at_once planned =
-    let e = ask_is 5 (read_length first_order.updates) (told_in begun) (asks.Ended planned.1.0) planned.1.1 in cc
+    let e = ask_is 5 (read_length Checked first_order.updates) (told_in begun) (asks.Ended planned.1.0) planned.1.1 in
+    cc
 
 pub silent_after_seven_legal : Legal empty silent_after_seven
 silent_after_seven_legal =
@@ -251,7 +266,8 @@ silent_after_seven_legal =
 
 -- how one ends that was opened
 pub not_left_at_once : ByPlan empty left_at_once → ⊥
-not_left_at_once planned = let e = ask_is 5 (unlock first_order.updates) [] (asks.Ended planned.1.0) planned.1.1 in cc
+not_left_at_once planned = let e = ask_is 5 (unlock Checked first_order.updates) [] (asks.Ended planned.1.0) planned.1.1
+    in cc
 
 pub left_at_once_legal : Legal empty left_at_once
 left_at_once_legal =

@@ -17,6 +17,7 @@ use Rattle.dali_trace.specs.Work.{stood_at, order_at_hand}
 use Rattle.dali_trace.specs.Steps.{steps_in, NoneStops, IsSaid, PartsSince, IsSaidInTime, SaysInTime}
 use Rattle.dali_trace.specs.Worked.{empty, first_order, second_order, taken, begun, said}
 use Rattle.dali_trace.specs.WorkedPlans.{at_work, repeated, another_said, said_behind_a_stop, said_again}
+use Rattle.dali_write.specs.declared.pace.Pace.TheVariants.{Checked}
 
 -- so many steps
 count_steps : (n : ℕ) → steps_in (replicate n Step) ≡ n
@@ -142,11 +143,11 @@ not_by_another is_said =
 
 pub not_behind_a_stop : IsSaid empty first_order begun said_behind_a_stop → ⊥
 not_behind_a_stop is_said =
-    by (two_added is_said.later is_said.since begun (Answered 1 is_said.reply) Stopped
+    by (two_added is_said.later is_said.since begun (Answered 1 is_said.reply) (Stopped Checked)
     (Answered 1 (replies.Kept codes.Done)) is_said.parts)
   where
-    by : ((is_said.since ≡ Stopped ∷ []) × (Answered 1 (replies.Kept codes.Done) ≡ Answered 1 is_said.reply))
-        ⊎ (Stopped ≡ Answered 1 is_said.reply)
+    by : ((is_said.since ≡ Stopped Checked ∷ []) × (Answered 1 (replies.Kept codes.Done) ≡ Answered 1 is_said.reply))
+        ⊎ (Stopped Checked ≡ Answered 1 is_said.reply)
         → ⊥
     by (inl at) =
         let another : standings.Began first_order ≡ standings.Idle =

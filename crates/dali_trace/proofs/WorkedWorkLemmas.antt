@@ -13,7 +13,7 @@ use Rattle.dali_write.specs.Requests.{read_requests}
 use Rattle.dali_write.specs.Plans.{Plan, unlock}
 use Rattle.dali_write.specs.Reads.{IsPassive, EndsInRead, HasRead}
 use Rattle.dali_write.specs.Tries.{Succeeds, Wants}
-use Rattle.dali_write.specs.Doubts.{EndsUnlooked, read_backs, FoundAnother}
+use Rattle.dali_write.specs.Doubts.{EndsUnlooked, FoundAnother}
 use Rattle.dali_write.specs.Misses.{misses_in, IsLong}
 use Rattle.dali_write.specs.declared.ask.Ask.{Ask}
 use Rattle.dali_write.specs.declared.ask.Ask.TheVariants as asks
@@ -24,15 +24,22 @@ use Rattle.dali_write.proofs.WorkedAccessLemmas.{found_doubts}
 use Rattle.dali_trace.specs.declared.happening.Reply.TheVariants as replies
 use Rattle.dali_trace.specs.declared.happening.Happening.{Happening}
 use Rattle.dali_trace.specs.declared.happening.Happening.TheVariants.{Answered, Kept, Stopped}
-use Rattle.dali_trace.specs.Trace.{Start, sent_since_taken}
+use Rattle.dali_trace.specs.Trace.{pace_at, Start, sent_since_taken}
 use Rattle.dali_trace.specs.Work.{stood_at, kept_since, frames_from, order_at_hand, IsWithinLimit, IsSaidSo, IsWorked}
 use Rattle.dali_trace.specs.Worked.{empty, left_open, first_order, second_order, taken, begun, opened, unlocked}
 use Rattle.dali_trace.specs.Worked.{short_ended, ended, said, left_said, second_taken, unreached, taken_again}
 use Rattle.dali_trace.specs.WorkedPlans.{first_frame, begun_anew, said_again, second_taken_behind, frames_more}
 use Rattle.dali_trace.specs.WorkedPlans.{tries_more, reads_more, records_more, begun_said, opened_said, blocked_said}
 use Rattle.dali_write.proofs.EndLemmas.{ends_reading}
-use Rattle.dali_write.proofs.BlockOneLemmas.{one_tells}
 use Rattle.dali_trace.proofs.RefusedLemmas.{none_read, has_none}
+use Rattle.dali_write.specs.declared.pace.Pace.{Pace}
+use Rattle.dali_write.specs.declared.pace.Pace.TheVariants.{Checked, Short as ShortPace}
+use Rattle.dali_write.specs.Plans.{rows_of, most_of, read_backs}
+use Rattle.dali_write.specs.Requests.{block_requests, each_try, block}
+use Rattle.dali_write.specs.Blocks.{IsBlockRead}
+use Rattle.dali_write.proofs.BlockOneLemmas.{access_count}
+use Rattle.dali_write.proofs.RowLemmas.{rows_some}
+use Rattle.std.proofs.Common.{slice_get, get_or}
 
 -- so many frames were sent, and one record kept
 frames_hand : (n : ℕ) → order_at_hand empty (frames_more n begun) ≡ Some first_order
@@ -100,21 +107,20 @@ frames_done : (n : ℕ)
 frames_done zero = refl
 frames_done (suc n) = frames_done n
 
+frames_pace : (n : ℕ) → pace_at empty (frames_more n begun) ≡ Checked
+frames_pace zero = refl
+frames_pace (suc n) = frames_pace n
+
 pub done_after : (n : ℕ) → IsSaidSo empty (opened_said codes.Done (frames_more n begun)) → n ≡ 112
 done_after n (order, number, hand, earned) =
     let both : Some first_order ≡ Some order = sym (frames_done n) ∙ hand in
     let same : order ≡ first_order = cc in
-    let long : IsLong (frames_from (stood_at empty (frames_more n begun)) order.updates)
-    (sent_since_taken (frames_more n begun)) =
+    let sent = sent_since_taken (frames_more n begun) in
+    let long : IsLong (pace_at empty (frames_more n begun))
+    (frames_from (pace_at empty (frames_more n begun)) (stood_at empty (frames_more n begun)) order.updates) sent =
     earned in
-    let first =
-    subst (λ (o : Contents).
-    IsLong (frames_from (stood_at empty (frames_more n begun)) o.updates) (sent_since_taken (frames_more n begun)))
-    same long in
-    let idle =
-    subst
-    (λ (stands : Standing). IsLong (frames_from stands first_order.updates) (sent_since_taken (frames_more n begun)))
-    (frames_stood n) first in
+    let idle : IsLong Checked (frames_from Checked standings.Idle first_order.updates) sent =
+    rw (frames_pace n, frames_stood n, same) at long in
     let least = idle.0 in
     let most = idle.1 in
     let count = frames_length n in
@@ -123,14 +129,18 @@ done_after n (order, number, hand, earned) =
 
 done_after_112 : IsSaidSo empty (opened_said codes.Done (frames_more 112 begun))
 done_after_112 =
-    let long : IsLong 112 (sent_since_taken (frames_more 112 begun)) =
+    let past = frames_more 112 begun in
+    let long : IsLong Checked 112 (sent_since_taken past) =
     let count = frames_length 112 in (omega arith, omega arith) in (
       first_order,
       refl,
       frames_done 112,
-      subst (λ (stands : Standing).
-          IsLong (frames_from stands first_order.updates) (sent_since_taken (frames_more 112 begun)))
-          (sym (frames_stood 112)) long,
+      subst (λ (pace : Pace).
+          IsLong pace (frames_from pace (stood_at empty past) first_order.updates) (sent_since_taken past))
+          (sym (frames_pace 112))
+          (subst (λ (stands : Standing).
+          IsLong Checked (frames_from Checked stands first_order.updates) (sent_since_taken past))
+          (sym (frames_stood 112)) long),
     )
 
 pub done_so : (n : ℕ) → n ≡ 112 → IsSaidSo empty (opened_said codes.Done (frames_more n begun))
@@ -152,14 +162,16 @@ tries_missed : (n : ℕ) → misses_in (sent_since_taken (tries_more n begun)) �
 tries_missed zero = refl
 tries_missed (suc n) = let rest = tries_missed n in omega arith
 
-unlooked_misses : (unit : ℕ) (told : List Exchange) → EndsUnlooked unit told → 8 ≤ misses_in told
-unlooked_misses unit told (inl failed) = failure_misses unit _ told failed
-unlooked_misses unit told (inr (inl failed)) = failure_misses unit _ told failed
-unlooked_misses unit told (inr (inr failed)) = failure_misses unit _ told failed
+unlooked_misses : (pace : Pace) (unit : ℕ) (told : List Exchange) → EndsUnlooked pace unit told → 8 ≤ misses_in told
+unlooked_misses Checked unit told (inl failed) = failure_misses unit _ told failed
+unlooked_misses Checked unit told (inr (inl failed)) = failure_misses unit _ told failed
+unlooked_misses Checked unit told (inr (inr failed)) = failure_misses unit _ told failed
+unlooked_misses ShortPace unit told (inl failed) = failure_misses unit _ told failed
+unlooked_misses ShortPace unit told (inr failed) = failure_misses unit _ told failed
 
 pub silent_after : (n : ℕ) → IsSaidSo empty (begun_said codes.Silent (tries_more n begun)) → 8 ≤ n
 silent_after n (order, number, hand, earned) =
-    let many = unlooked_misses order.unit (sent_since_taken (tries_more n begun)) earned in
+    let many = unlooked_misses _ order.unit (sent_since_taken (tries_more n begun)) earned in
     let count = tries_missed n in omega arith
 
 pub left_after : (n : ℕ) → IsSaidSo empty (opened_said codes.DoubtOpen (tries_more n begun)) → 8 ≤ n
@@ -196,20 +208,37 @@ has_earlier unit (x ∷ newer) older (inl (location, byte, (tried, rest, same, r
     )
 has_earlier unit (x ∷ newer) older (inr has) = inr (has_earlier unit newer older has)
 
-found_read : (unit : ℕ) (plan : Plan) (expected : List (ℕ × ℕ)) (told : List Exchange)
-    → FoundAnother unit plan expected told → HasRead unit told
-found_read unit plan expected told found = by found.answered
+found_read : (unit most : ℕ) (plan : Plan) (updates : List (ℕ × ℕ)) (told : List Exchange)
+    → FoundAnother unit plan (rows_of most updates) told → HasRead unit told
+found_read unit most plan updates told found = by found.answered
   where
-    by : Succeeds (read_requests unit found.location) (Some (found.found ∷ [])) found.read → HasRead unit told
-    by (tried, missed, misses, same, try, outcome, few, are) =
+    first : (bytes : List ℕ) → 1 ≤ length bytes → slice_get bytes 0 ≡ Some (get_or bytes 0 0)
+    first [] some = absurd (omega arith)
+    first (byte ∷ bytes) some = refl
+
+    by : Succeeds (each_try (block_requests unit (block found.location (length found.bytes)))) (Some found.found)
+        found.read
+        → HasRead unit told
+    by done =
+        let this = block found.location (length found.bytes) in
+        let (tried, missed, misses, same, try, outcome, few, are) = done in
         let parts : found.read ++ found.older ≡ tried ++ (missed ++ found.older) =
         ap (λ (t : List Exchange). t ++ found.older) same ∙ append_assoc tried missed found.older in
-        let here = ends_has unit found.location found.found (found.read ++ found.older) (
+        let some = rows_some most updates (found.location, found.bytes) found.is_expected in
+        let count = access_count unit this found.found found.read (inl done) in
+        let read : IsBlockRead unit this found.found tried = (try, let is = outcome in cc) in
+        let here = ends_has unit found.location (get_or found.found 0 0) (found.read ++ found.older) (
           tried,
           missed ++ found.older,
           parts,
-          one_tells unit found.location found.found tried
-              (try, let is = outcome in cc),
+          record {
+            block = this;
+            bytes = found.found;
+            read = read;
+            index = 0;
+            place = refl;
+            there = first found.found (omega arith);
+          },
         ) in
         subst (λ (t : List Exchange). HasRead unit t) (sym found.parts)
         (has_later unit found.newer (found.read ++ found.older) here)
@@ -223,7 +252,7 @@ doubt_after n (order, number, hand, inl failed) =
     let many = failed_misses order.unit (sent_since_taken (tries_more n begun)) failed in
     let count = tries_missed n in omega arith
 doubt_after n (order, number, hand, inr (told, older, parts, found)) =
-    absurd (by (found_read order.unit (unlock order.updates) (read_backs order.updates) told found))
+    absurd (by (found_read order.unit _ _ (read_backs order.updates) told found))
   where
     by : HasRead order.unit told → ⊥
     by has =
@@ -239,7 +268,7 @@ reads_met (suc n) = let rest = reads_met n in omega arith
 
 pub not_silent_after_reads : (n : ℕ) → IsSaidSo empty (begun_said codes.Silent (reads_more n begun)) → ⊥
 not_silent_after_reads n (order, number, hand, earned) =
-    let many = unlooked_misses order.unit (sent_since_taken (reads_more n begun)) earned in
+    let many = unlooked_misses _ order.unit (sent_since_taken (reads_more n begun)) earned in
     let count = reads_met n in omega arith
 
 pub not_left_after_reads : (n : ℕ) → IsSaidSo empty (opened_said codes.DoubtOpen (reads_more n begun)) → ⊥
@@ -261,18 +290,18 @@ front_passive [] older passive = tt
 front_passive (x ∷ told) older passive = (passive.0, front_passive told older passive.1)
 
 -- an opened session begins with a frame that enables its unit
-enables_first : (unit : ℕ) (updates : List (ℕ × ℕ)) (told : List Exchange) (ask : Ask)
-    → Wants unit (unlock updates) told ask → AllPassive told → told ≡ []
-enables_first unit updates [] ask wants passive = refl
-enables_first unit updates (x ∷ []) ask wants passive =
+enables_first : (unit : ℕ) (pace : Pace) (updates : List (ℕ × ℕ)) (told : List Exchange) (ask : Ask)
+    → Wants unit (unlock pace updates) told ask → AllPassive told → told ≡ []
+enables_first unit pace updates [] ask wants passive = refl
+enables_first unit pace updates (x ∷ []) ask wants passive =
     let first =
-    ask_is unit (unlock updates) [] (asks.Send x.frame) (frame_wanted [] x unit (unlock updates) ask wants) in
+    ask_is unit (unlock pace updates) [] (asks.Send x.frame) (frame_wanted [] x unit (unlock pace updates) ask wants) in
     let enables : Enable unit ≡ x.frame = cc in
     absurd (subst IsPassive (sym enables) passive.0)
-enables_first unit updates (x ∷ y ∷ told) ask wants passive =
+enables_first unit pace updates (x ∷ y ∷ told) ask wants passive =
     let none =
-    enables_first unit updates (y ∷ told) (asks.Send x.frame)
-    (frame_wanted (y ∷ told) x unit (unlock updates) ask wants) passive.1 in
+    enables_first unit pace updates (y ∷ told) (asks.Send x.frame)
+    (frame_wanted (y ∷ told) x unit (unlock pace updates) ask wants) passive.1 in
     cc
 
 pub not_doubt_after_reads : (n : ℕ) → IsSaidSo empty (opened_said codes.Doubt (reads_more n begun)) → ⊥
@@ -280,13 +309,15 @@ not_doubt_after_reads n (order, number, hand, inl failed) =
     let many = failed_misses order.unit (sent_since_taken (reads_more n begun)) failed in
     let count = reads_met n in omega arith
 not_doubt_after_reads n (order, number, hand, inr (told, older, parts, found)) =
-    let wants = found_doubts order.unit (unlock order.updates) (read_backs order.updates) told found in
+    let pace = pace_at empty (reads_more n begun) in
+    let wants = found_doubts order.unit (unlock pace order.updates) _ told found in
     let none =
-    enables_first order.unit order.updates told (asks.Ended verdicts.Doubt) wants
+    enables_first order.unit pace order.updates told (asks.Ended verdicts.Doubt) wants
     (front_passive told older (subst AllPassive parts (reads_passive n))) in
     let doubt =
-    ask_is order.unit (unlock order.updates) [] (asks.Ended verdicts.Doubt)
-    (subst (λ (t : List Exchange). Wants order.unit (unlock order.updates) t (asks.Ended verdicts.Doubt)) none wants) in
+    ask_is order.unit (unlock pace order.updates) [] (asks.Ended verdicts.Doubt)
+    (subst (λ (t : List Exchange). Wants order.unit (unlock pace order.updates) t (asks.Ended verdicts.Doubt)) none
+    wants) in
     cc
 
 -- what counts: the frames and records since an order was taken or the program stopped, and where the records stood then
@@ -315,11 +346,17 @@ pub stood_left : stood_at empty (second_taken_behind left_said) ≡ standings.Le
 stood_left = refl
 
 -- the frames of the first order, from where it starts
-pub frames_of_begun : frames_from (standings.Began first_order) first_order.updates ≡ 112
+pub frames_of_begun : frames_from Checked (standings.Began first_order) first_order.updates ≡ 112
 frames_of_begun = refl
 
-pub frames_of_opened : frames_from (standings.Opened first_order) first_order.updates ≡ 105
+pub frames_of_opened : frames_from Checked (standings.Opened first_order) first_order.updates ≡ 105
 frames_of_opened = refl
+
+pub few_frames_of_begun : frames_from ShortPace (standings.Began first_order) first_order.updates ≡ 62
+few_frames_of_begun = refl
+
+pub few_frames_of_opened : frames_from ShortPace (standings.Opened first_order) first_order.updates ≡ 55
+few_frames_of_opened = refl
 
 -- the order at hand
 pub waiting_at_hand : order_at_hand left_open unreached ≡ Some second_order
@@ -334,7 +371,7 @@ ended_at_hand = refl
 pub none_once_said : order_at_hand empty said ≡ None
 none_once_said = refl
 
-pub none_behind_a_stop : order_at_hand left_open (Stopped ∷ second_taken) ≡ None
+pub none_behind_a_stop : order_at_hand left_open (Stopped Checked ∷ second_taken) ≡ None
 none_behind_a_stop = refl
 
 -- what holds at each moment, held at those before

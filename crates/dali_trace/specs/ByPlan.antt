@@ -19,30 +19,32 @@ use Rattle.dali_trace.specs.declared.happening.Reply.TheVariants as replies
 use Rattle.dali_trace.specs.declared.happening.Happening.{Happening}
 use Rattle.dali_trace.specs.declared.happening.Happening.TheVariants.{Answered, Sent, Kept}
 use Rattle.dali_trace.specs.Cut.{since, is_turn, frames_in}
-use Rattle.dali_trace.specs.Trace.{Start, standing_at}
+use Rattle.dali_trace.specs.Trace.{pace_at, Start, standing_at}
 use Rattle.dali_trace.specs.Grounds.{EndsIn}
+use Rattle.dali_write.specs.declared.pace.Pace.{Pace}
 
 -- the frames of the session at hand: those since an order was taken, a record was kept or a stop, whichever is latest
 abbrev pub told_in : List Happening → List Exchange
 told_in past = frames_in (since is_turn past)
 
--- where the records stand so, the session at hand asks this after these frames: a fresh one of the order that was
--- begun, an opened one of the order that was opened, one that closes the left unit
-abbrev pub Asks : Standing → List Exchange → Ask → Type 0
-Asks standings.Idle told ask = ⊥
-Asks (standings.Began order) told ask = Wants order.unit (read_length order.updates) told ask
-Asks (standings.Opened order) told ask = Wants order.unit (unlock order.updates) told ask
-Asks (standings.Left unit) told ask = Wants unit (close verdicts.Closed verdicts.NotClosed) told ask
+-- where the records stand so, the session at hand asks this after these frames, by one of both plans: a fresh one of
+-- the order that was begun, an opened one of the order that was opened, one that closes the left unit
+abbrev pub Asks : Pace → Standing → List Exchange → Ask → Type 0
+Asks pace standings.Idle told ask = ⊥
+Asks pace (standings.Began order) told ask = Wants order.unit (read_length pace order.updates) told ask
+Asks pace (standings.Opened order) told ask = Wants order.unit (unlock pace order.updates) told ask
+Asks pace (standings.Left unit) told ask = Wants unit (close verdicts.Closed verdicts.NotClosed) told ask
 
 -- the happening is what the plan asks for. An order is begun, and an end is said, without any frame
 abbrev pub IsPlanned : Start → List Happening → Happening → Type 0
-IsPlanned start past (Sent frame answer) = Asks (standing_at start past) (told_in past) (asks.Send frame)
+IsPlanned start past (Sent frame answer) =
+    Asks (pace_at start past) (standing_at start past) (told_in past) (asks.Send frame)
 IsPlanned start past (Kept (Began order moment)) = ⊤
 IsPlanned start past (Kept entry) =
-    (verdict : Verdict) × Asks (standing_at start past) (told_in past) (asks.Ended verdict)
+    (verdict : Verdict) × Asks (pace_at start past) (standing_at start past) (told_in past) (asks.Ended verdict)
     × EndsIn (standing_at start past) verdict entry
 IsPlanned start past (Answered id (replies.Blocked unit)) =
-    Asks (standing_at start past) (told_in past) (asks.Ended verdicts.NotClosed)
+    Asks (pace_at start past) (standing_at start past) (told_in past) (asks.Ended verdicts.NotClosed)
 IsPlanned start past other = ⊤
 
 -- and so is each of the trace

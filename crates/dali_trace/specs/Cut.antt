@@ -20,7 +20,7 @@ up_to ends (next ∷ past) = if ends next then next ∷ past else up_to ends pas
 -- where a look back ends: at a stop; at a start of an order, which is a stop or where an order is taken; at a turn,
 -- which is a start or where a record is kept
 abbrev pub is_stop : Happening → Bool
-is_stop Stopped = true
+is_stop (Stopped pace) = true
 is_stop other = false
 
 abbrev pub is_start : Happening → Bool

@@ -15,9 +15,10 @@ use Rattle.dali_trace.specs.declared.happening.Event.TheVariants.{Submit, Step, 
 use Rattle.dali_trace.specs.declared.happening.Reply.{Reply}
 use Rattle.dali_trace.specs.declared.happening.Happening.{Happening}
 use Rattle.dali_trace.specs.declared.happening.Happening.TheVariants.{Asked, Answered, Sent, Kept, Stopped, Powered}
-use Rattle.dali_trace.specs.Trace.{Start, standing_at, waiting, waiting_since, is_busy}
+use Rattle.dali_trace.specs.Trace.{pace_at, Start, standing_at, waiting, waiting_since, is_busy}
 use Rattle.dali_trace.specs.Grounds.{EndsIn}
 use Rattle.dali_trace.specs.ByPlan.{told_in, Asks}
+use Rattle.dali_write.specs.declared.pace.Pace.{Pace}
 
 -- what a step may add: a saying, a frame or a record
 abbrev pub IsWork : Happening → Type 0
@@ -28,16 +29,16 @@ IsWork other = ⊥
 
 -- where the records stand so, this order waits since that moment and the session at hand was told these, this record
 -- is to be kept next: the order is begun, or the session has ended, and it is the one that follows its end
-abbrev pub NextRecord : Standing → Option Contents → ℕ → List Exchange → Record → Type 0
-NextRecord standings.Idle (Some order) since told entry = entry ≡ Began order since
-NextRecord standings.Idle None since told entry = ⊥
-NextRecord (standings.Left unit) None since told entry = ⊥
-NextRecord stands waits since told entry =
-    (verdict : Verdict) × Asks stands told (asks.Ended verdict) × EndsIn stands verdict entry
+abbrev pub NextRecord : Pace → Standing → Option Contents → ℕ → List Exchange → Record → Type 0
+NextRecord pace standings.Idle (Some order) since told entry = entry ≡ Began order since
+NextRecord pace standings.Idle None since told entry = ⊥
+NextRecord pace (standings.Left unit) None since told entry = ⊥
+NextRecord pace stands waits since told entry =
+    (verdict : Verdict) × Asks pace stands told (asks.Ended verdict) × EndsIn stands verdict entry
 
 abbrev pub IsKeptNext : Start → List Happening → Record → Type 0
 IsKeptNext start past entry =
-    NextRecord (standing_at start past) (waiting past) (waiting_since past) (told_in past) entry
+    NextRecord (pace_at start past) (standing_at start past) (waiting past) (waiting_since past) (told_in past) entry
 
 -- The part of one event, from the trace before it to the trace after it. A Submit adds the order and its reply. A
 -- Step adds one piece of work where the trace is busy, else nothing. A Stop adds Stopped, and before it the record
@@ -49,10 +50,10 @@ Part start Step before after =
     ((is_busy start before ≡ true) × ((work : Happening) × IsWork work × (after ≡ work ∷ before)))
     ⊎ ((is_busy start before ≡ false) × (after ≡ before))
 Part start (Stop bytes) before after =
-    ((after ≡ Stopped ∷ before) × ((entry : Record) → IsKeptNext start before entry
+    ((after ≡ Stopped (pace_at start before) ∷ before) × ((entry : Record) → IsKeptNext start before entry
     → bytes < length (spelling Two entry)))
     ⊎ ((entry : Record) × IsKeptNext start before entry × (length (spelling Two entry) ≤ bytes)
-    × (after ≡ Stopped ∷ Kept entry ∷ before))
+    × (after ≡ Stopped (pace_at start before) ∷ Kept entry ∷ before))
 Part start (Power address) before after = after ≡ Powered address ∷ before
 
 -- the trace is the parts of these events

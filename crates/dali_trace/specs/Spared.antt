@@ -28,6 +28,7 @@ use Rattle.dali_trace.specs.Moves.{MovesBy}
 use Rattle.dali_trace.specs.Runs.{fresh, IsRun}
 use Rattle.dali_trace.specs.Work.{stood_at, order_at_hand}
 use Rattle.dali_trace.specs.Steps.{IsSaid, IsCut, HasStepsEnough}
+use Rattle.dali_write.specs.declared.pace.Pace.{Pace}
 
 -- the frame is a loss to the unit, or to the one that was left
 abbrev pub is_lost_to : ℕ → Option ℕ → SimState → Frame → Bool
@@ -125,19 +126,20 @@ SaysAsDue start newer middle older trace states =
 -- A chain of the simulated bus leads along the trace. Where no unit was enabled at first and the lock bytes of the
 -- banks from 2 up were FFh, what is said along it is so, and each order that is given steps enough is said as it is
 -- due.
-pub record LeadsSpared (limit : ℕ) (all : List Event) (first : SimState) (past : List Happening) (last : SimState) :
-    Type 0 where
+pub record LeadsSpared (limit : ℕ) (pace : Pace) (all : List Event) (first : SimState) (past : List Happening)
+    (last : SimState) : Type 0 where
   pub states : List SimState
   pub chain : IsChain (MovesBy SimStep) first past last states
   pub spared : NoneEnabled (world_of first.units) → IsLockedAbove (world_of first.units)
-      → AtEachState (IsSpared (fresh limit)) past last states
+      → AtEachState (IsSpared (fresh limit pace)) past last states
   pub said : NoneEnabled (world_of first.units) → IsLockedAbove (world_of first.units)
       → (newer middle older : List Event) → reverse all ≡ newer ++ (middle ++ older)
-      → SaysAsDue (fresh limit) newer middle older past states
+      → SaysAsDue (fresh limit pace) newer middle older past states
 
 -- What a run of these events over the simulated bus is: all that a run over any bus is, and what is said along it of
 -- orders that little befalls.
-pub record IsSimRun (limit : ℕ) (all : List Event) (first : SimState) (trace : List Happening) (journal : List ℕ)
+pub record IsSimRun (limit : ℕ) (pace : Pace) (all : List Event) (first : SimState) (trace : List Happening)
+    (journal : List ℕ)
     (last : SimState) : Type 0 where
-  pub run : IsRun (λ state. world_of state.units) SimStep limit all first trace journal last
-  pub spared : LeadsSpared limit all first (reverse trace) last
+  pub run : IsRun (λ state. world_of state.units) SimStep limit pace all first trace journal last
+  pub spared : LeadsSpared limit pace all first (reverse trace) last

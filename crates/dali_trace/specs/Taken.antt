@@ -20,7 +20,7 @@ abbrev pub taken_or_waiting : List Happening → List Contents
 taken_or_waiting [] = []
 taken_or_waiting (Answered id replies.Taken ∷ Asked order moment ∷ past) = order ∷ taken_or_waiting past
 taken_or_waiting (Answered id (replies.Blocked unit) ∷ past) = without (waiting past) (taken_or_waiting past)
-taken_or_waiting (Stopped ∷ past) = without (waiting past) (taken_or_waiting past)
+taken_or_waiting (Stopped pace ∷ past) = without (waiting past) (taken_or_waiting past)
 taken_or_waiting (other ∷ past) = taken_or_waiting past
 
 -- the taken orders: nor the one that waits now

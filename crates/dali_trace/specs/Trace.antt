@@ -13,11 +13,20 @@ use Rattle.dali_trace.specs.declared.happening.Reply.TheVariants as replies
 use Rattle.dali_trace.specs.declared.happening.Happening.{Happening}
 use Rattle.dali_trace.specs.declared.happening.Happening.TheVariants.{Asked, Answered, Kept, Stopped, Powered}
 use Rattle.dali_trace.specs.Cut.{since, is_stop, is_start, frames_in, kept_in}
+use Rattle.dali_write.specs.declared.pace.Pace.{Pace}
 
--- what a trace starts from: the records of a journal, the newest first, and the most orders that it may hold
+-- what a trace starts from: the records of a journal, the newest first, the most orders that it may hold, and the plan
+-- that sessions keep to
 pub record Start : Type 0 where
   pub records : List Record
   pub limit : ℕ
+  pub pace : Pace
+
+-- the plan that sessions keep to by now: that of the start, until the program begins anew by another
+abbrev pub pace_at : Start → List Happening → Pace
+pace_at start [] = start.pace
+pace_at start (Stopped pace ∷ past) = pace
+pace_at start (other ∷ past) = pace_at start past
 
 -- the records so far: those of the start, and those that were kept
 abbrev pub records_of : Start → List Happening → List Record
@@ -63,7 +72,7 @@ abbrev pub next_course : Course → Happening → Course
 next_course before (Answered id reply) = Quiet
 next_course before (Kept (Began order moment)) = Working
 next_course before (Kept (Ended code)) = JustEnded
-next_course before Stopped = Quiet
+next_course before (Stopped pace) = Quiet
 next_course before other = before
 
 -- the course of a trace; an answer straight after an order is its reply

@@ -13,12 +13,15 @@ use Rattle.dali_write.specs.Plans.{greatest, unlock}
 use Rattle.dali_write.specs.Frames.{read_frames, write_frames}
 use Rattle.dali_write.specs.Counts.{done_frames, closing_limit, fresh_limit, opened_limit}
 use Rattle.dali_write.specs.Misses.{IsLong}
-use Rattle.dali_write.specs.Doubts.{HasFailed, EndsUnread, EndsUnlooked, read_backs, FoundAnother}
+use Rattle.dali_write.specs.Doubts.{HasFailed, EndsUnread, EndsUnlooked, FoundAnother}
 use Rattle.dali_trace.specs.declared.happening.Reply.TheVariants as replies
 use Rattle.dali_trace.specs.declared.happening.Happening.{Happening}
 use Rattle.dali_trace.specs.declared.happening.Happening.TheVariants.{Asked, Answered}
 use Rattle.dali_trace.specs.Cut.{since, up_to, is_start, kept_in}
-use Rattle.dali_trace.specs.Trace.{Start, records_of, standing_at, sent_since_taken, waiting, has_ended}
+use Rattle.dali_trace.specs.Trace.{pace_at, Start, records_of, standing_at, sent_since_taken, waiting, has_ended}
+use Rattle.dali_write.specs.declared.pace.Pace.{Pace}
+use Rattle.dali_write.specs.Plans.{rows_of, most_of, read_backs}
+use Rattle.dali_write.specs.Frames.{format_frames}
 
 -- where the records stood at the last start
 abbrev pub stood_at : Start → List Happening → Standing
@@ -33,32 +36,33 @@ abbrev pub work_limit : ℕ → ℕ
 work_limit updates = closing_limit + fresh_limit + opened_limit updates
 
 -- the frames that look whether bank 1 suits the updates, where no try misses
-abbrev pub look_frames : List (ℕ × ℕ) → ℕ
-look_frames updates = if nat_lt (greatest updates) 0x13 then read_frames else 3 * read_frames
+abbrev pub look_frames : Pace → List (ℕ × ℕ) → ℕ
+look_frames pace updates =
+    if nat_lt (greatest updates) 0x13 then read_frames else read_frames + format_frames pace
 
 -- the frames of an order that is done, from its start on, where no try misses
-abbrev pub frames_from : Standing → List (ℕ × ℕ) → ℕ
-frames_from (standings.Left unit) updates =
-    done_frames (length updates) + look_frames updates + (write_frames + read_frames)
-frames_from (standings.Opened order) updates = done_frames (length updates)
-frames_from other updates = done_frames (length updates) + look_frames updates
+abbrev pub frames_from : Pace → Standing → List (ℕ × ℕ) → ℕ
+frames_from pace (standings.Left unit) updates =
+    done_frames pace updates + look_frames pace updates + (write_frames + read_frames)
+frames_from pace (standings.Opened order) updates = done_frames pace updates
+frames_from pace other updates = done_frames pace updates + look_frames pace updates
 
--- a checked read of the lock byte or of an update's location found another byte than must be there
-abbrev pub FindsAnother : Contents → List Exchange → Type 0
-FindsAnother order sent =
+-- a read of the lock byte or of updates' locations, of a row of them, found other bytes than must be there
+abbrev pub FindsAnother : Pace → Contents → List Exchange → Type 0
+FindsAnother pace order sent =
     (told : List Exchange) × (older : List Exchange) × (sent ≡ told ++ older)
-    × FoundAnother order.unit (unlock order.updates) (read_backs order.updates) told
+    × FoundAnother order.unit (unlock pace order.updates) (rows_of (most_of pace) (read_backs order.updates)) told
 
 -- What earns an order its code, among the frames from its start on. Done: exactly so many, and for each miss at most
 -- those of a try more. Silent: the last access, which read the length or the content format, failed. DoubtOpen: the
 -- last access, which read the lock byte, failed. Doubt: an access failed, or another byte was found.
 -- (What Done, Short, Format and Doubt besides rest on, checked reads, is a rule of legal traces.)
-abbrev pub IsEarned : Standing → Contents → Code → List Exchange → Type 0
-IsEarned first order codes.Done sent = IsLong (frames_from first order.updates) sent
-IsEarned first order codes.Silent sent = EndsUnlooked order.unit sent
-IsEarned first order codes.Doubt sent = HasFailed order.unit sent ⊎ FindsAnother order sent
-IsEarned first order codes.DoubtOpen sent = EndsUnread order.unit 0x02 sent
-IsEarned first order other sent = ⊤
+abbrev pub IsEarned : Pace → Standing → Contents → Code → List Exchange → Type 0
+IsEarned pace first order codes.Done sent = IsLong pace (frames_from pace first order.updates) sent
+IsEarned pace first order codes.Silent sent = EndsUnlooked pace order.unit sent
+IsEarned pace first order codes.Doubt sent = HasFailed order.unit sent ⊎ FindsAnother pace order sent
+IsEarned pace first order codes.DoubtOpen sent = EndsUnread order.unit 0x02 sent
+IsEarned pace first order other sent = ⊤
 
 -- the order at hand: the one at work, the one that waits, or the one that has ended and isn't said yet
 abbrev pub order_at : Standing → Option Contents → Bool → List (Contents × Progress) → Option Contents
@@ -84,7 +88,7 @@ abbrev pub IsSaidSo : Start → List Happening → Type 0
 IsSaidSo start (Answered id reply ∷ Asked order moment ∷ past) = ⊤
 IsSaidSo start (Answered id (replies.Kept code) ∷ past) =
     (order : Contents) × (order.id ≡ id) × (order_at_hand start past ≡ Some order)
-    × IsEarned (stood_at start past) order code (sent_since_taken past)
+    × IsEarned (pace_at start past) (stood_at start past) order code (sent_since_taken past)
 IsSaidSo start (Answered id (replies.Blocked unit) ∷ past) = EndsUnread unit 0x02 (sent_since_taken past)
 IsSaidSo start other = ⊤
 

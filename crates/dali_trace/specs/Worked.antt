@@ -14,6 +14,7 @@ use Rattle.dali_trace.specs.declared.happening.Happening.TheVariants.{Asked, Ans
 use Rattle.dali_trace.specs.Trace.{Start}
 use Rattle.dali_trace.specs.Legal.{Legal}
 use Rattle.dali_trace.specs.Moments.{Along}
+use Rattle.dali_write.specs.declared.pace.Pace.TheVariants.{Checked}
 
 -- four frames more, by which the unit is made sure to have selected the location of bank 1
 abbrev pub select_at : ℕ → ℕ → List Happening → List Happening
@@ -55,7 +56,7 @@ first_order =
 
 -- an empty journal of at most ten orders
 abbrev pub empty : Start
-empty = record { records = []; limit = 10 }
+empty = record { records = []; limit = 10; pace = Checked }
 
 -- the trace, piece by piece
 abbrev pub asked : List Happening
@@ -237,11 +238,11 @@ number_used_again = Answered 1 replies.IdReused ∷ Asked first_elsewhere 8 ∷ 
 
 -- a journal that may hold one order, and holds one
 abbrev pub one_of_one : Start
-one_of_one = record { records = Ended DoubtOpen ∷ Opened 5 ∷ Began first_order 7 ∷ []; limit = 1 }
+one_of_one = record { records = Ended DoubtOpen ∷ Opened 5 ∷ Began first_order 7 ∷ []; limit = 1; pace = Checked }
 
 -- the same where it is done
 abbrev pub one_done_of_one : Start
-one_done_of_one = record { records = Ended Done ∷ Opened 5 ∷ Began first_order 7 ∷ []; limit = 1 }
+one_done_of_one = record { records = Ended Done ∷ Opened 5 ∷ Began first_order 7 ∷ []; limit = 1; pace = Checked }
 
 abbrev pub full : List Happening
 full = Answered 2 replies.Full ∷ Asked second_order 9 ∷ []
@@ -279,11 +280,12 @@ tried_again = write_at 5 0x02 0x55 (read_try (enable_twice 5 opened))
 
 -- before Opened is kept: the unit is read again
 abbrev pub opened_anew : List Happening
-opened_anew = Kept (Opened 5) ∷ read_at 5 0x00 0x77 (Stopped ∷ measured)
+opened_anew = Kept (Opened 5) ∷ read_at 5 0x00 0x77 (Stopped Checked ∷ measured)
 
 -- after the unlock: all is all_written again
 abbrev pub written_anew : List Happening
-written_anew = write_at 5 0x02 0xFF (write_all 5 first_order.updates (write_at 5 0x02 0x55 (Stopped ∷ unlocked)))
+written_anew = write_at 5 0x02 0xFF
+    (write_all 5 first_order.updates (write_at 5 0x02 0x55 (Stopped Checked ∷ unlocked)))
 
 abbrev pub done_anew : List Happening
 done_anew =
@@ -292,27 +294,27 @@ done_anew =
 
 -- before Done is said: nothing is said any more, the order's repeat is answered, and another order is taken
 abbrev pub repeated_after_a_stop : List Happening
-repeated_after_a_stop = Answered 1 (replies.Kept Done) ∷ Asked first_order 7 ∷ Stopped ∷ ended
+repeated_after_a_stop = Answered 1 (replies.Kept Done) ∷ Asked first_order 7 ∷ Stopped Checked ∷ ended
 
 abbrev pub taken_after_a_stop : List Happening
-taken_after_a_stop = Answered 2 replies.Taken ∷ Asked second_order 9 ∷ Stopped ∷ ended
+taken_after_a_stop = Answered 2 replies.Taken ∷ Asked second_order 9 ∷ Stopped Checked ∷ ended
 
 -- what may not happen after them: Opened by the read from before the stop, a write by the frames from before it, a
 -- saying
 abbrev pub opened_after_a_stop : List Happening
-opened_after_a_stop = Kept (Opened 5) ∷ Stopped ∷ measured
+opened_after_a_stop = Kept (Opened 5) ∷ Stopped Checked ∷ measured
 
 abbrev pub written_after_a_stop : List Happening
-written_after_a_stop = Sent (Write 0x55) (Some 0x55) ∷ Stopped ∷ select_at 5 0x02 (enable_twice 5 opened)
+written_after_a_stop = Sent (Write 0x55) (Some 0x55) ∷ Stopped Checked ∷ select_at 5 0x02 (enable_twice 5 opened)
 
 abbrev pub said_after_a_stop : List Happening
-said_after_a_stop = Answered 1 (replies.Kept Done) ∷ Stopped ∷ ended
+said_after_a_stop = Answered 1 (replies.Kept Done) ∷ Stopped Checked ∷ ended
 
 -- A second order that finds unit 5 left open
 
 -- the first order ended with its unit left open
 abbrev pub left_open : Start
-left_open = record { records = Ended DoubtOpen ∷ Opened 5 ∷ Began first_order 7 ∷ []; limit = 10 }
+left_open = record { records = Ended DoubtOpen ∷ Opened 5 ∷ Began first_order 7 ∷ []; limit = 10; pace = Checked }
 
 abbrev pub second_taken : List Happening
 second_taken = Answered 2 replies.Taken ∷ Asked second_order 9 ∷ []
@@ -361,7 +363,7 @@ closed_by_an_old_read = Kept (Closed 5) ∷ Answered 2 replies.Taken ∷ Asked s
 
 -- forgotten by a stop, and taken anew
 abbrev pub taken_anew : List Happening
-taken_anew = Answered 2 replies.Taken ∷ Asked second_order 9 ∷ Stopped ∷ second_taken
+taken_anew = Answered 2 replies.Taken ∷ Asked second_order 9 ∷ Stopped Checked ∷ second_taken
 
 -- a byte other than FFh to a left unit
 abbrev pub left_unit_unlocked : List Happening
@@ -369,4 +371,4 @@ left_unit_unlocked = write_at 5 0x02 0x55 second_taken
 
 -- forgotten by a stop
 abbrev pub begun_after_a_stop : List Happening
-begun_after_a_stop = Kept (Began first_order 7) ∷ Stopped ∷ taken
+begun_after_a_stop = Kept (Began first_order 7) ∷ Stopped Checked ∷ taken

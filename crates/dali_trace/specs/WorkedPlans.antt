@@ -11,6 +11,7 @@ use Rattle.dali_trace.specs.declared.happening.Happening.TheVariants.{Asked, Ans
 use Rattle.dali_trace.specs.Trace.{Start}
 use Rattle.dali_trace.specs.Worked.{read_at, read_try, eight_times, first_order, second_order, begun, opened, said}
 use Rattle.dali_trace.specs.Worked.{second_taken, unreached, taken_again}
+use Rattle.dali_write.specs.declared.pace.Pace.TheVariants.{Checked}
 
 -- the first frame of a checked read, and another one
 abbrev pub first_frame : List Happening
@@ -38,10 +39,10 @@ try_without_a_miss = Sent (Dtr1 1) None ∷ half_tried
 
 -- after a stop: the session begins anew, or its try goes on
 abbrev pub begun_anew : List Happening
-begun_anew = Sent (Dtr1 1) None ∷ Stopped ∷ first_frame
+begun_anew = Sent (Dtr1 1) None ∷ Stopped Checked ∷ first_frame
 
 abbrev pub try_through_a_stop : List Happening
-try_through_a_stop = Sent (AskDtr1 5) (Some 1) ∷ Stopped ∷ first_frame
+try_through_a_stop = Sent (AskDtr1 5) (Some 1) ∷ Stopped Checked ∷ first_frame
 
 -- once the unit is opened: it is enabled, or read as before
 abbrev pub enabled_first : List Happening
@@ -114,7 +115,7 @@ second_taken_behind past = Answered 2 replies.Taken ∷ Asked second_order 9 ∷
 
 -- a journal in which the first order was begun
 abbrev pub at_work : Start
-at_work = record { records = Began first_order 7 ∷ []; limit = 10 }
+at_work = record { records = Began first_order 7 ∷ []; limit = 10; pace = Checked }
 
 -- What doesn't say the order that is begun: a reply to a repeat of it, a saying of another number, one behind a stop,
 -- and one where no order is at hand.
@@ -125,7 +126,7 @@ abbrev pub another_said : List Happening
 another_said = Answered 2 (replies.Kept Done) ∷ begun
 
 abbrev pub said_behind_a_stop : List Happening
-said_behind_a_stop = Answered 1 (replies.Kept Done) ∷ Stopped ∷ begun
+said_behind_a_stop = Answered 1 (replies.Kept Done) ∷ Stopped Checked ∷ begun
 
 abbrev pub said_again : List Happening
 said_again = Answered 1 (replies.Kept Done) ∷ said

@@ -3,6 +3,7 @@ use arrayvec::ArrayString;
 use dali_bank::Order;
 use dali_frame::Frame;
 use dali_journal::{Code, Record};
+use dali_write::Pace;
 use std::fmt;
 
 /// The answer to an order, given at once, or what is said of an order that was taken (profile).
@@ -94,8 +95,8 @@ pub enum Happening {
     Sent(Frame, Option<u8>),
     /// The record was kept in the journal.
     Kept(Record),
-    /// The program was stopped, and began anew from its journal.
-    Stopped,
+    /// The program was stopped, and began anew from its journal, by this plan.
+    Stopped(Pace),
     /// The unit at this address lost its power and got it back. Where there is none, as over 63,
     /// nothing changed.
     Powered(u8),

@@ -60,12 +60,13 @@ missed_sent P requests (x ∷ tried) all is = (
 )
 
 -- of so many tries that missed
-pub misses_sent : (P : Frame → Type 0) (requests : List Request) (misses : ℕ) (told : List Exchange)
-    → Asks P requests → Misses requests misses told → Sent P told
+pub misses_sent : (P : Frame → Type 0) (requests : ℕ → List Request) (misses : ℕ) (told : List Exchange)
+    → ((misses : ℕ) → Asks P (requests misses)) → Misses requests misses told → Sent P told
 misses_sent P requests zero told all is = subst (λ (t : List Exchange). Sent P t) (sym is) tt
 misses_sent P requests (suc misses) told all is =
     subst (λ (t : List Exchange). Sent P t) (sym is.2)
-    (sent_both P is.0 is.1 (missed_sent P requests is.0 all is.3) (misses_sent P requests misses is.1 all is.4))
+    (sent_both P is.0 is.1 (missed_sent P (requests misses) is.0 (all misses) is.3)
+    (misses_sent P requests misses is.1 all is.4))
 
 -- so many reads, and what is behind them
 reads_ask : (P : Frame → Type 0) (unit count : ℕ) (back : List Request) → P (Read unit) → Asks P back
@@ -113,11 +114,13 @@ sent_quiet address [] sent = tt
 sent_quiet address (x ∷ told) sent = (passive_quiet x.frame sent.0 address, sent_quiet address told sent.1)
 
 -- of a whole access
-pub access_sent : (P : Frame → Type 0) (requests : List Request) (outcome : Option (List ℕ)) (told : List Exchange)
-    → Asks P requests → Succeeds requests outcome told ⊎ Fails requests outcome told → Sent P told
+pub access_sent : (P : Frame → Type 0) (requests : ℕ → List Request) (outcome : Option (List ℕ))
+    (told : List Exchange)
+    → ((misses : ℕ) → Asks P (requests misses)) → Succeeds requests outcome told ⊎ Fails requests outcome told
+    → Sent P told
 access_sent P requests outcome told all (inl done) =
     subst (λ (t : List Exchange). Sent P t) (sym done.3)
-    (sent_both P done.0 done.1 (trying_sent P requests done.0 [] all done.4)
+    (sent_both P done.0 done.1 (trying_sent P (requests done.2) done.0 [] (all done.2) done.4)
     (misses_sent P requests done.2 done.1 all done.7))
 access_sent P requests outcome told all (inr failed) = misses_sent P requests most_tries told all failed.1
 
@@ -125,11 +128,13 @@ access_sent P requests outcome told all (inr failed) = misses_sent P requests mo
 abbrev pub PlanAsks : (Frame → Type 0) → ℕ → Plan → Type 0
 PlanAsks P unit (Finish verdict) = ⊤
 PlanAsks P unit (Make access after) =
-    Asks P (access_requests unit access) × ((outcome : Option (List ℕ)) → PlanAsks P unit (after outcome))
+    ((misses : ℕ) → Asks P (access_requests unit access misses))
+    × ((outcome : Option (List ℕ)) → PlanAsks P unit (after outcome))
 
-at_hand_asks : (P : Frame → Type 0) (unit : ℕ) (plan : Plan) → PlanAsks P unit plan → Asks P (plan_requests unit plan)
-at_hand_asks P unit (Finish verdict) all = tt
-at_hand_asks P unit (Make access after) all = all.0
+at_hand_asks : (P : Frame → Type 0) (unit : ℕ) (plan : Plan) → PlanAsks P unit plan
+    → (misses : ℕ) → Asks P (plan_requests unit plan misses)
+at_hand_asks P unit (Finish verdict) all misses = tt
+at_hand_asks P unit (Make access after) all misses = all.0 misses
 
 accesses_sent : (P : Frame → Type 0) (unit : ℕ) (plan : Plan) (outcomes : List (Option (List ℕ)))
     (told : List Exchange)
@@ -158,7 +163,8 @@ wants_sent P unit plan told ask all wants =
     let requests = plan_requests unit wants.now in
     let asks = at_hand_asks P unit wants.now (subst (λ (p : Plan). PlanAsks P unit p) s.now_is before.1) in
     subst (λ (t : List Exchange). Sent P t) (sym s.parts)
-    (sent_both P s.tried (s.missed ++ s.ended) (trying_sent P requests s.tried wants.left asks s.try)
+    (sent_both P s.tried (s.missed ++ s.ended)
+    (trying_sent P (requests wants.misses) s.tried wants.left (asks wants.misses) s.try)
     (sent_both P s.missed s.ended (misses_sent P requests wants.misses s.missed asks s.misses_are) before.0))
 
 pub wanted_asked : (P : Frame → Type 0) (unit : ℕ) (plan : Plan) (told : List Exchange) (frame : Frame)
@@ -167,12 +173,13 @@ wanted_asked P unit plan told frame all wants =
     let s = wants.stands in
     let before = accesses_sent P unit plan wants.outcomes s.ended all s.accesses in
     let asks = at_hand_asks P unit wants.now (subst (λ (p : Plan). PlanAsks P unit p) s.now_is before.1) in
-    by wants.now wants.left asks s.try (ask_shown wants.now wants.left s.going ∙ wants.ask_is)
+    by wants.now wants.left (asks wants.misses) s.try (ask_shown wants.now wants.left s.going ∙ wants.ask_is)
   where
-    by : (now : Plan) (left : List Request) → Asks P (plan_requests unit now)
-        → Trying (plan_requests unit now) wants.stands.tried left → shown_ask now left ≡ Send frame → P frame
+    by : (now : Plan) (left : List Request) → Asks P (plan_requests unit now wants.misses)
+        → Trying (plan_requests unit now wants.misses) wants.stands.tried left → shown_ask now left ≡ Send frame
+        → P frame
     by (Finish verdict) left asks try is = cc
     by (Make access after) [] asks try is = cc
     by (Make access after) (next ∷ left) asks try is =
         let same : next.frame ≡ frame = cc in
-        subst P same (next_asked P (access_requests unit access) wants.stands.tried next left asks try)
+        subst P same (next_asked P (access_requests unit access wants.misses) wants.stands.tried next left asks try)

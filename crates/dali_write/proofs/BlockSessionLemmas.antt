@@ -23,11 +23,13 @@ use Rattle.dali_write.proofs.AskLemmas.{shown_ask, ask_shown}
 use Rattle.dali_write.proofs.RoomLemmas.{once}
 use Rattle.dali_write.proofs.ToldLemmas.{told_wants}
 use Rattle.dali_write.proofs.WalkLemmas.{ended_told}
+use Rattle.dali_write.specs.Requests.{each_try}
 
 -- one access with its outcome
 record One (unit : ℕ) (block : Block) (verdict : Verdict) (bytes : List ℕ) (told : List Exchange) : Type 0 where
   outcome : Option (List ℕ)
-  ends : Succeeds (block_requests unit block) outcome told ⊎ Fails (block_requests unit block) outcome told
+  ends : Succeeds (each_try (block_requests unit block)) outcome told
+      ⊎ Fails (each_try (block_requests unit block)) outcome told
   bytes_are : bytes ≡ read_by outcome
   so : next_plan (read_block block) outcome ≡ Finish verdict
 
@@ -63,7 +65,7 @@ told_one : (told : List Exchange) (s : Session) (unit : ℕ) (block : Block) (ve
 unfolding Told
 told_one told s unit block verdict was (here, reading) ended =
     let now = plan_at s.task s.stage in
-    let left = drop s.number (plan_requests s.unit now) in
+    let left = drop s.number (plan_requests s.unit now s.misses) in
     ended_one unit block verdict told now s.misses left s.tried.items s.bytes.items
     (subst (λ (task : Task). StandsWith task unit told now s.misses left s.tried.items s.bytes.items) reading
     (subst (λ (u : ℕ). StandsWith s.task u told now s.misses left s.tried.items s.bytes.items) here was))
@@ -78,27 +80,30 @@ block_wants told s unit block was (here, reading) =
 
 pub block_read : (told : List Exchange) (s : Session) (unit : ℕ) (block : Block) → Told told s
     → IsReadingBlock unit block s → aim_of s ≡ Ended Read
-    → Succeeds (block_requests unit block) (Some s.bytes.items) told
+    → Succeeds (each_try (block_requests unit block)) (Some s.bytes.items) told
 block_read told s unit block was reads ended =
     let o = told_one told s unit block Read was reads ended in by o.outcome o.ends o.bytes_are o.so
   where
     by : (outcome : Option (List ℕ))
-        → Succeeds (block_requests unit block) outcome told ⊎ Fails (block_requests unit block) outcome told
+        → Succeeds (each_try (block_requests unit block)) outcome told
+        ⊎ Fails (each_try (block_requests unit block)) outcome told
         → s.bytes.items ≡ read_by outcome → next_plan (read_block block) outcome ≡ Finish Read
-        → Succeeds (block_requests unit block) (Some s.bytes.items) told
+        → Succeeds (each_try (block_requests unit block)) (Some s.bytes.items) told
     by None ends are so = cc
     by (Some bytes) (inl done) are so = rw are done
     by (Some bytes) (inr failed) are so = let never = failed.0 in cc
 
 pub block_silent : (told : List Exchange) (s : Session) (unit : ℕ) (block : Block) (verdict : Verdict) → Told told s
     → IsReadingBlock unit block s → aim_of s ≡ Ended verdict → verdict ≢ Read
-    → Misses (block_requests unit block) most_tries told
+    → Misses (each_try (block_requests unit block)) most_tries told
 block_silent told s unit block verdict was reads ended other =
     let o = told_one told s unit block verdict was reads ended in by o.outcome o.ends o.so
   where
     by : (outcome : Option (List ℕ))
-        → Succeeds (block_requests unit block) outcome told ⊎ Fails (block_requests unit block) outcome told
-        → next_plan (read_block block) outcome ≡ Finish verdict → Misses (block_requests unit block) most_tries told
+        → Succeeds (each_try (block_requests unit block)) outcome told
+        ⊎ Fails (each_try (block_requests unit block)) outcome told
+        → next_plan (read_block block) outcome ≡ Finish verdict
+        → Misses (each_try (block_requests unit block)) most_tries told
     by None (inl done) so = let never = done.5 in cc
     by None (inr failed) so = failed.1
     by (Some bytes) ends so = let same : Read ≡ verdict = cc in absurd (other (sym same))
@@ -115,7 +120,7 @@ wants_amid unit block told frame w = by w.outcomes w.now w.left w.stands
     by outcomes (Finish verdict) left s is = cc
     by outcomes (Make access after) [] s is = cc
     by [] (Make access after) (next ∷ left) s is =
-        let requests : access_requests unit access ≡ block_requests unit block =
+        let requests : access_requests unit access ≡ each_try (block_requests unit block) =
         ap (λ (p : Plan). plan_requests unit p) (sym s.now_is) in
         record {
           tried = s.tried;

@@ -5,7 +5,7 @@ use Rattle.std.proofs.lemmas.Nat.{mul-le}
 use Rattle.dali_write.specs.Exchanges.{Exchange}
 use Rattle.dali_write.specs.declared.request.Request.{Request}
 use Rattle.dali_write.specs.declared.access.Access.{Access}
-use Rattle.dali_write.specs.declared.access.Access.TheVariants.{ReadFrom, WriteTo}
+use Rattle.dali_write.specs.declared.access.Access.TheVariants.{ReadFrom, WriteTo, WriteOn}
 use Rattle.dali_write.specs.declared.ask.Verdict.{Verdict}
 use Rattle.dali_write.specs.declared.stage.Task.{Task}
 use Rattle.dali_write.specs.declared.stage.Task.TheVariants.{Fresh, Opened, Closing, Reading, ReadingBlock}
@@ -14,7 +14,13 @@ use Rattle.dali_write.specs.declared.block.Block.{Block}
 use Rattle.dali_write.specs.Requests.{block_requests, access_requests}
 use Rattle.dali_write.specs.Frames.{read_frames, write_frames}
 use Rattle.dali_write.specs.Plans.{Plan, Finish, Make, next_plan, plan_after, read_format}
-use Rattle.dali_write.specs.Plans.{read_length, close, give_up, expect, read_back, read_lock, write_on, unlock, read_on}
+use Rattle.dali_write.specs.Plans.{read_length, close, give_up, expect, read_back, write_on, unlock, read_on}
+use Rattle.dali_write.specs.Plans.{read_backs, read_all_back, row_before, rows_of, most_of, write_next}
+use Rattle.dali_bus.specs.Hears.{up}
+use Rattle.std.specs.Str.{bytes_eq}
+use Rattle.dali_write.specs.Requests.{block}
+use Rattle.std.proofs.Common.{Bool, true, false, ◌==◌, ◌&&◌}
+use Rattle.std.specs.Prelude.{nat_lt, if◌then◌else◌}
 use Rattle.dali_write.specs.Plans.{read_block}
 use Rattle.dali_write.specs.Tries.{most_tries, Trying, Missed, Misses, Succeeds, Fails, AccessEnds, AccessesEnd}
 use Rattle.dali_write.specs.Tries.{plan_requests}
@@ -25,6 +31,9 @@ use Rattle.dali_write.specs.Told.{Told}
 use Rattle.dali_write.proofs.ShapeLemmas.{trying_length}
 use Rattle.dali_write.proofs.BlockShapeLemmas.{block_frames_are}
 use Rattle.dali_write.proofs.PlanLemmas.{either_all, if_all}
+use Rattle.dali_write.specs.Requests.{each_try}
+use Rattle.dali_write.specs.declared.pace.Pace.{Pace}
+use Rattle.dali_write.specs.declared.pace.Pace.TheVariants.{Checked, Short}
 
 pub missed_length : (requests : List Request) (tried : List Exchange) → Missed requests tried
     → length tried ≤ length requests
@@ -34,16 +43,19 @@ missed_length requests (x ∷ tried) missed = grind (arith, trying_length)
 suc_times : (n k : ℕ) → (suc n) * k ≡ k + n * k
 suc_times n k = omega arith
 
-pub misses_length : (requests : List Request) (misses : ℕ) (told : List Exchange) → Misses requests misses told
-    → length told ≤ misses * length requests
-misses_length requests zero told is = let none = ap (λ (t : List Exchange). length t) is in omega arith
-misses_length requests (suc misses) told is =
+-- where a try behind misses is the longest
+pub misses_length : (requests : ℕ → List Request) (misses : ℕ) (told : List Exchange)
+    → ((n : ℕ) → length (requests n) ≤ length (requests 1)) → Misses requests misses told
+    → length told ≤ misses * length (requests 1)
+misses_length requests zero told most is = let none = ap (λ (t : List Exchange). length t) is in omega arith
+misses_length requests (suc misses) told most is =
     grind (
       arith,
-      missed_length requests is.0 is.3,
-      misses_length requests misses is.1 is.4,
+      missed_length (requests misses) is.0 is.3,
+      most misses,
+      misses_length requests misses is.1 most is.4,
       length-append is.0 is.1,
-      suc_times misses (length requests),
+      suc_times misses (length (requests 1)),
     )
 
 -- an access takes no more than its most tries of its requests
@@ -51,29 +63,45 @@ pub times_most : (misses requests few more : ℕ) → misses < most_tries → mo
     → few + more ≤ most_tries * requests
 times_most misses requests few more below older newer = grind (arith, mul-le)
 
-limit_requests : (unit : ℕ) (access : Access) → access_limit access ≡ most_tries * length (access_requests unit access)
+limit_requests : (unit : ℕ) (access : Access)
+    → access_limit access ≡ most_tries * length (access_requests unit access 1)
 limit_requests unit (ReadFrom block) = omega (arith, block_frames_are 0 block, block_frames_are unit block)
 limit_requests unit (WriteTo location byte) = refl
+limit_requests unit (WriteOn location byte) = refl
+
+-- no try has more frames than one behind a miss
+pub longest : (unit : ℕ) (access : Access) (misses : ℕ)
+    → length (access_requests unit access misses) ≤ length (access_requests unit access 1)
+longest unit (ReadFrom block) misses = omega arith
+longest unit (WriteTo location byte) misses = omega arith
+longest unit (WriteOn location byte) zero = omega arith
+longest unit (WriteOn location byte) (suc misses) = omega arith
 
 access_length : (unit : ℕ) (access : Access) (outcome : Option (List ℕ)) (told : List Exchange)
     → Succeeds (access_requests unit access) outcome told ⊎ Fails (access_requests unit access) outcome told
     → length told ≤ access_limit access
 access_length unit access outcome told (inl done) =
-    let requests = length (access_requests unit access) in
+    let requests = length (access_requests unit access 1) in
     let newer : length done.0 ≤ requests =
-    let all = trying_length (access_requests unit access) done.0 [] done.4 in omega arith in
-    let older = misses_length (access_requests unit access) done.2 done.1 done.7 in
+    let all = trying_length (access_requests unit access done.2) done.0 [] done.4 in
+    omega (arith, longest unit access done.2) in
+    let older = misses_length (access_requests unit access) done.2 done.1 (longest unit access) done.7 in
     let both = ap (λ (t : List Exchange). length t) done.3 in
     let joined = length-append done.0 done.1 in
     let limit = limit_requests unit access in
     let most = times_most done.2 requests (length done.0) (length done.1) done.6 older newer in
     omega arith
 access_length unit access outcome told (inr failed) =
-    grind (arith, misses_length (access_requests unit access) most_tries told failed.1, limit_requests unit access)
+    grind (
+      arith,
+      misses_length (access_requests unit access) most_tries told (longest unit access) failed.1,
+      limit_requests unit access,
+    )
 
 -- a read of a block takes no more
 pub block_length : (unit : ℕ) (block : Block) (outcome : Option (List ℕ)) (told : List Exchange)
-    → Succeeds (block_requests unit block) outcome told ⊎ Fails (block_requests unit block) outcome told
+    → Succeeds (each_try (block_requests unit block)) outcome told
+    ⊎ Fails (each_try (block_requests unit block)) outcome told
     → length told ≤ most_tries * (block.count + 6)
 block_length unit block outcome told ends =
     omega (arith, block_frames_are 0 block, access_length unit (ReadFrom block) outcome told ends)
@@ -96,15 +124,17 @@ accesses_take unit plan (outcome ∷ outcomes) told limit ends takes =
 
 at_hand_takes : (unit : ℕ) (now : Plan) (misses : ℕ) (missed tried : List Exchange) (left : List Request) (rest : ℕ)
     → misses < most_tries
-    → Misses (plan_requests unit now) misses missed → Trying (plan_requests unit now) tried left → TakesAtMost rest now
+    → Misses (plan_requests unit now) misses missed → Trying (plan_requests unit now misses) tried left
+    → TakesAtMost rest now
     → length tried + length missed ≤ rest
 at_hand_takes unit (Finish verdict) misses missed tried left rest few are try takes =
-    grind (arith, trying_length [] tried left try, misses_length [] misses missed are)
+    grind (arith, trying_length [] tried left try, misses_length (each_try []) misses missed (λ n. omega arith) are)
 at_hand_takes unit (Make access after) misses missed tried left rest few are try takes =
-    let requests = length (access_requests unit access) in
+    let requests = length (access_requests unit access 1) in
     let newer : length tried ≤ requests =
-    let all = trying_length (access_requests unit access) tried left try in omega arith in
-    let older = misses_length (access_requests unit access) misses missed are in
+    let all = trying_length (access_requests unit access misses) tried left try in
+    omega (arith, longest unit access misses) in
+    let older = misses_length (access_requests unit access) misses missed (longest unit access) are in
     let limit = limit_requests unit access in
     let most = times_most misses requests (length tried) (length missed) few older newer in
     let le = takes.0 in
@@ -127,52 +157,90 @@ most_write = most_tries * write_frames
 abbrev most_close : ℕ
 most_close = most_write + most_read
 
+next_limit : (pace : Pace) (location byte : ℕ) → access_limit (write_next pace location byte) ≡ most_write
+next_limit Checked location byte = refl
+next_limit Short location byte = refl
+
 pub close_takes : (limit : ℕ) (answered unanswered : Verdict) → most_close ≤ limit
     → TakesAtMost limit (close answered unanswered)
 close_takes limit answered unanswered le = grind (arith, either_all)
 
-expect_takes : (limit location byte : ℕ) (after : Plan) → most_read + most_close ≤ limit
-    → TakesAtMost (limit - most_read) after
-    → TakesAtMost limit (expect location byte after)
-expect_takes limit location byte after le takes = grind (arith, close_takes, either_all, if_all)
+-- the most frames of a row of so many, which are no more than those of the reads one by one
+abbrev most_row : List ℕ → ℕ
+most_row bytes = most_tries * (length bytes + 6)
 
-read_back_takes : (limit : ℕ) (updates : List (ℕ × ℕ)) → length updates * most_read + most_close ≤ limit
-    → TakesAtMost limit (read_back updates)
+expect_takes : (limit location : ℕ) (bytes : List ℕ) (after : Plan) → most_row bytes + most_close ≤ limit
+    → TakesAtMost (limit - most_row bytes) after
+    → TakesAtMost limit (expect location bytes after)
+expect_takes limit location bytes after le takes =
+    let frames = block_frames_are 0 (block location (length bytes)) in
+    let same : access_limit (ReadFrom (block location (length bytes))) ≡ most_row bytes = omega arith in (
+      omega arith,
+      rw same
+          (either_all (TakesAtMost (limit - most_row bytes)) give_up _
+          (close_takes (limit - most_row bytes) _ _ (omega arith))
+          (λ read. if_all (TakesAtMost (limit - most_row bytes)) (bytes_eq read bytes) after give_up takes
+          (close_takes (limit - most_row bytes) _ _ (omega arith)))),
+    )
+
+-- all tries of reading these rows
+abbrev most_rows : List (ℕ × List ℕ) → ℕ
+most_rows [] = 0
+most_rows (row ∷ rows) = most_row row.1 + most_rows rows
+
+read_back_takes : (limit : ℕ) (rows : List (ℕ × List ℕ)) → most_rows rows + most_close ≤ limit
+    → TakesAtMost limit (read_back rows)
 read_back_takes limit [] le = tt
-read_back_takes limit (update ∷ updates) le =
-    expect_takes limit update.0 update.1 (read_back updates) (omega arith)
-    (read_back_takes (limit - most_read) updates (omega arith))
+read_back_takes limit (row ∷ rows) le =
+    expect_takes limit row.0 row.1 (read_back rows) (omega arith)
+    (read_back_takes (limit - most_row row.1) rows (omega arith))
 
-read_lock_takes : (limit : ℕ) (updates : List (ℕ × ℕ)) → (length updates + 1) * most_read + most_close ≤ limit
-    → TakesAtMost limit (read_lock updates)
-read_lock_takes limit updates le = grind (arith, expect_takes, read_back_takes)
+row_before_few : (most : ℕ) (update : ℕ × ℕ) (some : List (ℕ × List ℕ))
+    → most_rows (row_before most update some) ≤ most_read + most_rows some
+row_before_few most update [] = omega arith
+row_before_few most update (row ∷ more) = by ((row.0 == up update.0) && nat_lt (length row.1) most)
+  where
+    by : (b : Bool)
+        → most_rows (if b then (update.0, update.1 ∷ row.1) ∷ more else (update.0, update.1 ∷ []) ∷ row ∷ more)
+        ≤ most_read + most_rows (row ∷ more)
+    by true = omega arith
+    by false = omega arith
 
-write_on_takes : (limit : ℕ) (updates left : List (ℕ × ℕ))
+rows_few : (most : ℕ) (updates : List (ℕ × ℕ)) → most_rows (rows_of most updates) ≤ length updates * most_read
+rows_few most [] = omega arith
+rows_few most (update ∷ updates) =
+    omega (arith, rows_few most updates, row_before_few most update (rows_of most updates))
+
+write_on_takes : (limit : ℕ) (pace : Pace) (updates left : List (ℕ × ℕ))
     → (length left + 1) * most_write + (length updates + 1) * most_read + most_close ≤ limit
-    → TakesAtMost limit (write_on updates left)
-write_on_takes limit updates [] le = (
-  omega arith,
-  either_all (TakesAtMost (limit - most_write)) give_up (λ byte. read_lock updates)
-      (close_takes (limit - most_write) _ _ (omega arith))
-      (λ byte. read_lock_takes (limit - most_write) updates (omega arith)),
-)
-write_on_takes limit updates (update ∷ left) le = (
-  omega arith,
-  either_all (TakesAtMost (limit - most_write)) give_up (λ byte. write_on updates left)
-      (close_takes (limit - most_write) _ _ (omega arith))
-      (λ byte. write_on_takes (limit - most_write) updates left (omega arith)),
-)
+    → TakesAtMost limit (write_on pace updates left)
+write_on_takes limit pace updates [] le =
+    rw (next_limit pace 2 0xFF) (
+      omega arith,
+      either_all (TakesAtMost (limit - most_write)) give_up (λ bytes. read_all_back pace updates)
+          (close_takes (limit - most_write) _ _ (omega arith))
+          (λ bytes. read_back_takes (limit - most_write) (rows_of (most_of pace) (read_backs updates))
+          (omega (arith, rows_few (most_of pace) (read_backs updates)))),
+    )
+write_on_takes limit pace updates (update ∷ left) le =
+    rw (next_limit pace update.0 update.1) (
+      omega arith,
+      either_all (TakesAtMost (limit - most_write)) give_up (λ bytes. write_on pace updates left)
+          (close_takes (limit - most_write) _ _ (omega arith))
+          (λ bytes. write_on_takes (limit - most_write) pace updates left (omega arith)),
+    )
 
-pub unlock_takes : (limit : ℕ) (updates : List (ℕ × ℕ))
+pub unlock_takes : (limit : ℕ) (pace : Pace) (updates : List (ℕ × ℕ))
     → (length updates + 2) * most_write + (length updates + 1) * most_read + most_close ≤ limit
-    → TakesAtMost limit (unlock updates)
-unlock_takes limit updates le = grind (arith, either_all, close_takes, write_on_takes)
+    → TakesAtMost limit (unlock pace updates)
+unlock_takes limit pace updates le = grind (arith, either_all, close_takes, write_on_takes)
 
-read_format_takes : TakesAtMost (2 * most_read) read_format
-read_format_takes = grind (arith, either_all)
+read_format_takes : (pace : Pace) → TakesAtMost (2 * most_read) (read_format pace)
+read_format_takes Checked = grind (arith, either_all)
+read_format_takes Short = grind (arith, either_all)
 
-pub read_length_takes : (updates : List (ℕ × ℕ)) → TakesAtMost (3 * most_read) (read_length updates)
-read_length_takes updates = grind (arith, either_all, if_all, read_format_takes)
+pub read_length_takes : (pace : Pace) (updates : List (ℕ × ℕ)) → TakesAtMost (3 * most_read) (read_length pace updates)
+read_length_takes pace updates = grind (arith, either_all, if_all, read_format_takes)
 
 read_on_takes : (limit location left : ℕ) → left * most_read ≤ limit → TakesAtMost limit (read_on location left)
 read_on_takes limit location zero le = tt
@@ -186,8 +254,8 @@ pub block_takes : (block : Block) → TakesAtMost (access_limit (ReadFrom block)
 block_takes block = (omega arith, either_all (TakesAtMost _) _ _ tt (λ bytes. tt))
 
 plan_takes : (task : Task) → TakesAtMost (frame_limit task) (plan_of task)
-plan_takes (Fresh order) = read_length_takes order.updates
-plan_takes (Opened order) = unlock_takes (frame_limit (Opened order)) order.updates (omega arith)
+plan_takes (Fresh order pace) = read_length_takes pace order.updates
+plan_takes (Opened order pace) = unlock_takes (frame_limit (Opened order pace)) pace order.updates (omega arith)
 plan_takes Closing = close_takes most_close _ _ (omega arith)
 plan_takes Reading = grind (arith, either_all, read_on_takes)
 plan_takes (ReadingBlock block) = block_takes block

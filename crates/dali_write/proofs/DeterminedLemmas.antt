@@ -7,7 +7,7 @@ use Rattle.dali_write.specs.declared.request.Request.{Request}
 use Rattle.dali_write.specs.declared.request.Wish.{Wish}
 use Rattle.dali_write.specs.declared.request.Wish.TheVariants.{Nothing, Exactly, Anything}
 use Rattle.dali_write.specs.declared.access.Access.{Access}
-use Rattle.dali_write.specs.declared.access.Access.TheVariants.{ReadFrom, WriteTo}
+use Rattle.dali_write.specs.declared.access.Access.TheVariants.{ReadFrom, WriteTo, WriteOn}
 use Rattle.dali_write.specs.declared.ask.Ask.{Ask}
 use Rattle.dali_write.specs.declared.ask.Ask.TheVariants.{Send}
 use Rattle.dali_write.specs.Requests.{Meets, request, access_requests, read_answer}
@@ -28,7 +28,7 @@ pub record PlanState : Type 0 where
 
 -- before the first frame of a try
 abbrev pub begins : ℕ → Plan → ℕ → PlanState
-begins unit now misses = record { now = now; misses = misses; left = plan_requests unit now; bytes = [] }
+begins unit now misses = record { now = now; misses = misses; left = plan_requests unit now misses; bytes = [] }
 
 -- whether the answer is as wished
 abbrev pub is_met : Wish → Option ℕ → Bool
@@ -75,9 +75,11 @@ misses_is Anything None misses = refl
 misses_is Anything (Some other) misses = absurd (misses refl)
 
 -- an access has a frame
-some_requests : (unit : ℕ) (access : Access) → [] ≡ access_requests unit access → ⊥
-some_requests unit (ReadFrom location) none = cc
-some_requests unit (WriteTo location bytes) none = cc
+some_requests : (unit : ℕ) (access : Access) (misses : ℕ) → [] ≡ access_requests unit access misses → ⊥
+some_requests unit (ReadFrom location) misses none = cc
+some_requests unit (WriteTo location byte) misses none = cc
+some_requests unit (WriteOn location byte) zero none = cc
+some_requests unit (WriteOn location byte) (suc misses) none = cc
 
 -- The newest exchange was of the frame that was wanted, and it led from where the session stood.
 record Peeled (unit : ℕ) (plan : Plan) (told : List Exchange) (state : PlanState) : Type 0 where
@@ -108,7 +110,7 @@ peeled : (unit : ℕ) (plan : Plan) (told ended missed tried : List Exchange) (n
     (wish : Wish) (left : List Request) (state : PlanState)
     → told ≡ (x ∷ tried) ++ (missed ++ ended) → Reaches unit plan now ended → misses < 8
     → Misses (plan_requests unit now) misses missed
-    → Trying (plan_requests unit now) tried (request x.frame wish ∷ left)
+    → Trying (plan_requests unit now misses) tried (request x.frame wish ∷ left)
     → moved unit x now misses (request x.frame wish ∷ left) (bytes_of tried) ≡ state
     → Peeled unit plan told state
 peeled unit plan told ended missed tried (Finish verdict) misses x wish left state parts reaches few are try leads =
@@ -124,7 +126,7 @@ regroup told newer older ended first parts is = grind (arith, append_assoc first
 -- the newest exchange is the miss of a try
 peel_miss : (unit : ℕ) (plan : Plan) (told newer older ended : List Exchange) (now : Plan) (misses : ℕ)
     → told ≡ newer ++ (older ++ ended) → Reaches unit plan now ended → misses < 8
-    → Misses (plan_requests unit now) misses older → Missed (plan_requests unit now) newer
+    → Misses (plan_requests unit now) misses older → Missed (plan_requests unit now misses) newer
     → Peeled unit plan told (missed_then unit now misses)
 peel_miss unit plan told [] older ended now misses parts reaches few are missed = absurd missed
 peel_miss unit plan told (x ∷ tried) older ended now misses parts reaches few are missed =
@@ -140,7 +142,7 @@ peel_end : (unit : ℕ) (plan : Plan) (told newer older ended : List Exchange) (
     (misses : ℕ)
     → told ≡ newer ++ (older ++ ended) → Reaches unit plan (Make access after) ended → misses < 8
     → Misses (access_requests unit access) misses older
-    → Trying (access_requests unit access) newer []
+    → Trying (access_requests unit access misses) newer []
     → Peeled unit plan told (begins unit (after (Some (bytes_of newer))) 0)
 peel_end unit plan told [] older ended access after misses parts reaches few are try = grind (arith, some_requests)
 peel_end unit plan told (x ∷ tried) older ended access after misses parts reaches few are try =
@@ -189,7 +191,7 @@ peel_misses unit plan told missed ended now (suc misses) parts reaches few are =
 goes_right : (unit : ℕ) (now : Plan) (misses : ℕ) (left : List Request) (bytes : List ℕ) (tried : List Exchange)
     (next : Request)
     → IsGoing now left
-    → Trying (plan_requests unit now) tried (next ∷ left)
+    → Trying (plan_requests unit now misses) tried (next ∷ left)
     → met_then unit now misses left bytes ≡ record { now = now; misses = misses; left = left; bytes = bytes }
 goes_right unit (Finish verdict) misses left bytes tried next going try = absurd (none_left tried next left try)
 goes_right unit (Make access after) misses [] bytes tried next going try = cc
@@ -200,7 +202,7 @@ peel_try : (unit : ℕ) (plan : Plan) (told ended missed tried : List Exchange) 
     (left : List Request) (bytes : List ℕ)
     → told ≡ tried ++ (missed ++ ended) → Reaches unit plan now ended → misses < 8
     → Misses (plan_requests unit now) misses missed
-    → Trying (plan_requests unit now) tried left → bytes_of tried ≡ bytes → IsGoing now left
+    → Trying (plan_requests unit now misses) tried left → bytes_of tried ≡ bytes → IsGoing now left
     → Peels unit plan told (record { now = now; misses = misses; left = left; bytes = bytes })
 peel_try unit plan told ended missed [] now misses left bytes parts reaches few are try is going =
     rw (try, sym is) (peel_misses unit plan told missed ended now misses parts reaches few are)

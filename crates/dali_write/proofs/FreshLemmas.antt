@@ -18,6 +18,9 @@ use Rattle.dali_write.proofs.AskedLemmas.{IsCalm, PlanAsks, block_calm, calm_pas
 use Rattle.dali_write.proofs.PlanLemmas.{either_all, if_all}
 use Rattle.dali_write.proofs.RunLemmas.{Leads}
 use Rattle.dali_write.proofs.VerdictLemmas.{passive_keeps}
+use Rattle.dali_write.specs.declared.pace.Pace.{Pace}
+use Rattle.dali_write.specs.declared.pace.Pace.TheVariants.{Checked, Short as ShortPace}
+use Rattle.dali_write.specs.Plans.{judge_format}
 
 abbrev pub Calm : ℕ → Plan → Type 0
 Calm unit plan = PlanAsks (IsCalm unit) unit plan
@@ -25,16 +28,21 @@ Calm unit plan = PlanAsks (IsCalm unit) unit plan
 read_calm : (unit location : ℕ) (failed : Plan) (found : ℕ → Plan) → Calm unit failed
     → ((byte : ℕ) → Calm unit (found byte)) → Calm unit (read_at location failed found)
 read_calm unit location failed found one two =
-    (block_calm unit (block location 1), either_all (Calm unit) failed _ one (λ bytes. two _))
+    (λ misses. block_calm unit (block location 1), either_all (Calm unit) failed _ one (λ bytes. two _))
 
-pub length_calm : (unit : ℕ) (updates : List (ℕ × ℕ)) → Calm unit (read_length updates)
-length_calm unit updates =
-    read_calm unit 0 (Finish Silent) (judge_length updates) tt
+format_calm : (unit : ℕ) (pace : Pace) → Calm unit (read_format pace)
+format_calm unit Checked =
+    read_calm unit 0x11 (Finish Silent) read_format_low tt
+    (λ high. read_calm unit 0x12 (Finish Silent) (judge_format high) tt (λ low. tt))
+format_calm unit ShortPace =
+    (λ misses. block_calm unit (block 0x11 2), either_all (Calm unit) (Finish Silent) _ tt (λ read. tt))
+
+pub length_calm : (unit : ℕ) (pace : Pace) (updates : List (ℕ × ℕ)) → Calm unit (read_length pace updates)
+length_calm unit pace updates =
+    read_calm unit 0 (Finish Silent) (judge_length pace updates) tt
     (λ last. if_all (Calm unit) (nat_lt last (greatest updates)) (Finish Short) _ tt
-    (if_all (Calm unit) (nat_lt (greatest updates) 0x13) (Finish MayOpen) read_format tt
-    (read_calm unit 0x11 (Finish Silent) read_format_low tt
-    (λ high. read_calm unit 0x12 (Finish Silent)
-    (λ low. Finish (if (high == 0) && (low == 3) then MayOpen else Format)) tt (λ low. tt)))))
+    (if_all (Calm unit) (nat_lt (greatest updates) 0x13) (Finish MayOpen) (read_format pace) tt
+    (format_calm unit pace)))
 
 on_calm : (unit location left : ℕ) → Calm unit (read_on location left)
 on_calm unit location zero = tt
@@ -48,7 +56,7 @@ all_calm unit = read_calm unit 0 (Finish Silent) (λ last. read_on 1 (min last 0
 
 pub one_calm : (unit : ℕ) (block : Block) → Calm unit (read_block block)
 one_calm unit block =
-    (block_calm unit block, either_all (Calm unit) (Finish Silent) (λ bytes. Finish Read) tt (λ bytes. tt))
+    (λ misses. block_calm unit block, either_all (Calm unit) (Finish Silent) (λ bytes. Finish Read) tt (λ bytes. tt))
 
 -- so they change no memory
 pub calm_quiet : {loses : ℕ → Type 0} (unit : ℕ) (plan : Plan) (told : List Exchange) (ask : Ask) (first last : World)

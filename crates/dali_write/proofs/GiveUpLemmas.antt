@@ -1,5 +1,5 @@
 -- A session gives up only where its last access failed.
-use Rattle.std.proofs.Common.{◌≡◌, ◌⊎◌, inl, inr, refl, sym, ap, subst, ◌∙◌, ℕ, zero, suc, min, Bool, true, false, ◌==◌}
+use Rattle.std.proofs.Common.{length, ◌≡◌, ◌⊎◌, inl, inr, refl, sym, ap, subst, ◌∙◌, ℕ, zero, suc, min, Bool, true, false, ◌==◌}
 use Rattle.std.specs.Prelude.{⊤}
 use Rattle.std.proofs.Common.{◌&&◌, nat_lt, if◌then◌else◌, List, [], ◌∷◌, ◌++◌, append_assoc, append-nil, Option, Some}
 use Rattle.std.proofs.Common.{None, get_or}
@@ -18,6 +18,10 @@ use Rattle.dali_write.specs.Doubts.{EndsInFailure, HasFailed, EndsUnread, EndsUn
 use Rattle.dali_write.specs.Walks.{Walk}
 use Rattle.dali_write.proofs.WalkLemmas.{ended_walk}
 use Rattle.dali_write.proofs.PlanLemmas.{if_all}
+use Rattle.dali_write.specs.declared.pace.Pace.{Pace}
+use Rattle.dali_write.specs.declared.pace.Pace.TheVariants.{Checked, Short as ShortPace}
+use Rattle.dali_write.specs.Plans.{rows_of, most_of, read_backs, write_next}
+use Rattle.std.specs.Str.{bytes_eq}
 
 -- an access without an outcome failed: it missed in each of its tries
 pub all_missed : (unit : ℕ) (access : Access) (after : Option (List ℕ) → Plan) (told : List Exchange)
@@ -85,38 +89,56 @@ abbrev IsRead : ℕ → Access → Type 0
 IsRead location access = access ≡ ReadFrom (block location 1)
 
 -- a read of the length or of the content format
-abbrev IsLook : Access → Type 0
-IsLook access = IsRead 0x00 access ⊎ IsRead 0x11 access ⊎ IsRead 0x12 access
+abbrev IsLook : Pace → Access → Type 0
+IsLook Checked access = IsRead 0x00 access ⊎ IsRead 0x11 access ⊎ IsRead 0x12 access
+IsLook ShortPace access = IsRead 0x00 access ⊎ (access ≡ ReadFrom (block 0x11 2))
 
-one_look : (unit : ℕ) (told : List Exchange) → FailedOf IsLook unit told → EndsUnlooked unit told
-one_look unit told (access, inl is, f) = inl (subst (λ (s : Access). EndsInFailure unit s told) is f)
-one_look unit told (access, inr (inl is), f) = inr (inl (subst (λ (s : Access). EndsInFailure unit s told) is f))
-one_look unit told (access, inr (inr is), f) = inr (inr (subst (λ (s : Access). EndsInFailure unit s told) is f))
+one_look : (pace : Pace) (unit : ℕ) (told : List Exchange) → FailedOf (IsLook pace) unit told
+    → EndsUnlooked pace unit told
+one_look Checked unit told (access, inl is, f) = inl (subst (λ (s : Access). EndsInFailure unit s told) is f)
+one_look Checked unit told (access, inr (inl is), f) =
+    inr (inl (subst (λ (s : Access). EndsInFailure unit s told) is f))
+one_look Checked unit told (access, inr (inr is), f) =
+    inr (inr (subst (λ (s : Access). EndsInFailure unit s told) is f))
+one_look ShortPace unit told (access, inl is, f) = inl (subst (λ (s : Access). EndsInFailure unit s told) is f)
+one_look ShortPace unit told (access, inr is, f) = inr (subst (λ (s : Access). EndsInFailure unit s told) is f)
 
-suits_not_silent : (b : Bool) → Late IsLook Silent None (Finish (if b then MayOpen else Format))
-suits_not_silent true = λ e. cc
-suits_not_silent false = λ e. cc
+-- a judged plan is not silent
+suits_not_silent : (P : Access → Type 0) (b : Bool) → Late P Silent None (Finish (if b then MayOpen else Format))
+suits_not_silent P true = λ e. cc
+suits_not_silent P false = λ e. cc
 
-format_late : Late IsLook Silent None read_format
-format_late = (
+format_late : (pace : Pace) → Late (IsLook pace) Silent None (read_format pace)
+format_late Checked = (
   λ e. inr (inl refl),
-  λ high.
-      (λ e. inr (inr refl), λ low. suits_not_silent ((get_or high 0 0 == 0) && (get_or low 0 0 == 3))),
+  λ high. (
+    λ e. inr (inr refl),
+    λ low. suits_not_silent (IsLook Checked) ((get_or high 0 0 == 0) && (get_or low 0 0 == 3)),
+  ),
+)
+format_late ShortPace = (
+  λ e. inr refl,
+  λ read. suits_not_silent (IsLook ShortPace) ((get_or read 0 0 == 0) && (get_or read 1 0 == 3)),
 )
 
-length_late : (updates : List (ℕ × ℕ)) → Late IsLook Silent None (read_length updates)
-length_late updates = (
-  λ e. inl refl,
+length_looked : (pace : Pace) → IsLook pace (ReadFrom (block 0x00 1))
+length_looked Checked = inl refl
+length_looked ShortPace = inl refl
+
+length_late : (pace : Pace) (updates : List (ℕ × ℕ)) → Late (IsLook pace) Silent None (read_length pace updates)
+length_late pace updates = (
+  λ e. length_looked pace,
   λ last.
-      if_all (Late IsLook Silent None) (nat_lt (get_or last 0 0) (greatest updates)) (Finish Short) _ (λ e. cc)
-      (if_all (Late IsLook Silent None) (nat_lt (greatest updates) 0x13) (Finish MayOpen) read_format
-      (λ e. cc) format_late),
+      if_all (Late (IsLook pace) Silent None) (nat_lt (get_or last 0 0) (greatest updates)) (Finish Short) _ (λ e. cc)
+      (if_all (Late (IsLook pace) Silent None) (nat_lt (greatest updates) 0x13) (Finish MayOpen) (read_format pace)
+      (λ e. cc) (format_late pace)),
 )
 
-pub fresh_late : (told : List Exchange) (unit : ℕ) (updates : List (ℕ × ℕ))
-    → Wants unit (read_length updates) told (Ended Silent) → EndsUnlooked unit told
-fresh_late told unit updates wants =
-    one_look unit told (late IsLook unit (read_length updates) told Silent (length_late updates) wants)
+pub fresh_late : (told : List Exchange) (unit : ℕ) (pace : Pace) (updates : List (ℕ × ℕ))
+    → Wants unit (read_length pace updates) told (Ended Silent) → EndsUnlooked pace unit told
+fresh_late told unit pace updates wants =
+    one_look pace unit told
+    (late (IsLook pace) unit (read_length pace updates) told Silent (length_late pace updates) wants)
 
 abbrev LateDoubt : Option Access → Plan → Type 0
 LateDoubt = Late (IsRead 0x02) DoubtOpen
@@ -124,29 +146,31 @@ LateDoubt = Late (IsRead 0x02) DoubtOpen
 give_up_late : (failed : Option Access) → LateDoubt failed give_up
 give_up_late failed = ((λ e. refl, λ read e. cc), λ written. (λ e. refl, λ read e. cc))
 
-expect_late : (failed : Option Access) (location byte : ℕ) (after : Plan) → LateDoubt None after
-    → LateDoubt failed (expect location byte after)
-expect_late failed location byte after is = (
-  give_up_late (Some (ReadFrom (block location 1))),
-  λ found. if_all (LateDoubt None) (get_or found 0 0 == byte) after give_up is (give_up_late None),
+expect_late : (location : ℕ) (bytes : List ℕ) (after : Plan) → LateDoubt None after
+    → LateDoubt None (expect location bytes after)
+expect_late location bytes after is = (
+  give_up_late (Some (ReadFrom (block location (length bytes)))),
+  λ read. if_all (LateDoubt None) (bytes_eq read bytes) after give_up is (give_up_late None),
 )
 
-read_back_late : (updates : List (ℕ × ℕ)) → LateDoubt None (read_back updates)
+read_back_late : (rows : List (ℕ × List ℕ)) → LateDoubt None (read_back rows)
 read_back_late [] = λ e. cc
-read_back_late (update ∷ updates) = expect_late None update.0 update.1 (read_back updates) (read_back_late updates)
+read_back_late (row ∷ rows) = expect_late row.0 row.1 (read_back rows) (read_back_late rows)
 
-write_on_late : (updates left : List (ℕ × ℕ)) → LateDoubt None (write_on updates left)
-write_on_late updates [] =
-    (give_up_late (Some (WriteTo 2 0xFF)), λ byte. expect_late None 2 0xFF (read_back updates) (read_back_late updates))
-write_on_late updates (update ∷ left) =
-    (give_up_late (Some (WriteTo update.0 update.1)), λ byte. write_on_late updates left)
+write_on_late : (pace : Pace) (updates left : List (ℕ × ℕ)) → LateDoubt None (write_on pace updates left)
+write_on_late pace updates [] = (
+  give_up_late (Some (write_next pace 2 0xFF)),
+  λ bytes. read_back_late (rows_of (most_of pace) (read_backs updates)),
+)
+write_on_late pace updates (update ∷ left) =
+    (give_up_late (Some (write_next pace update.0 update.1)), λ bytes. write_on_late pace updates left)
 
-pub opened_late : (told : List Exchange) (unit : ℕ) (updates : List (ℕ × ℕ))
-    → Wants unit (unlock updates) told (Ended DoubtOpen) → EndsUnread unit 0x02 told
-opened_late told unit updates wants =
+pub opened_late : (told : List Exchange) (unit : ℕ) (pace : Pace) (updates : List (ℕ × ℕ))
+    → Wants unit (unlock pace updates) told (Ended DoubtOpen) → EndsUnread unit 0x02 told
+opened_late told unit pace updates wants =
     only (ReadFrom (block 0x02 1)) unit told
-    (late (IsRead 0x02) unit (unlock updates) told DoubtOpen
-    (give_up_late (Some (WriteTo 2 0x55)), λ byte. write_on_late updates updates) wants)
+    (late (IsRead 0x02) unit (unlock pace updates) told DoubtOpen
+    (give_up_late (Some (WriteTo 2 0x55)), λ bytes. write_on_late pace updates updates) wants)
 
 pub closing_late : (told : List Exchange) (unit : ℕ) → Wants unit (close Closed NotClosed) told (Ended NotClosed)
     → EndsUnread unit 0x02 told
@@ -187,11 +211,16 @@ pub unread_joined : (unit location : ℕ) (sent told older : List Exchange) → 
 unread_joined unit location sent told older parts f = failure_joined unit
     (ReadFrom (block location 1)) sent told older parts f
 
-pub unlooked_joined : (unit : ℕ) (sent told older : List Exchange) → sent ≡ told ++ older → EndsUnlooked unit told
-    → EndsUnlooked unit sent
-unlooked_joined unit sent told older parts (inl f) = inl (unread_joined unit 0x00 sent told older parts f)
-unlooked_joined unit sent told older parts (inr (inl f)) = inr (inl (unread_joined unit 0x11 sent told older parts f))
-unlooked_joined unit sent told older parts (inr (inr f)) = inr (inr (unread_joined unit 0x12 sent told older parts f))
+pub unlooked_joined : (pace : Pace) (unit : ℕ) (sent told older : List Exchange) → sent ≡ told ++ older
+    → EndsUnlooked pace unit told → EndsUnlooked pace unit sent
+unlooked_joined Checked unit sent told older parts (inl f) = inl (unread_joined unit 0x00 sent told older parts f)
+unlooked_joined Checked unit sent told older parts (inr (inl f)) =
+    inr (inl (unread_joined unit 0x11 sent told older parts f))
+unlooked_joined Checked unit sent told older parts (inr (inr f)) =
+    inr (inr (unread_joined unit 0x12 sent told older parts f))
+unlooked_joined ShortPace unit sent told older parts (inl f) = inl (unread_joined unit 0x00 sent told older parts f)
+unlooked_joined ShortPace unit sent told older parts (inr f) =
+    inr (failure_joined unit (ReadFrom (block 0x11 2)) sent told older parts f)
 
 pub failed_joined : (unit : ℕ) (sent told older : List Exchange) → sent ≡ told ++ older → HasFailed unit told
     → HasFailed unit sent

@@ -1,5 +1,5 @@
 -- The frames that a session wants are guarded.
-use Rattle.std.proofs.Common.{◌≡◌, refl, ap, ◌∙◌, inl, inr, ℕ, List, [], ◌∷◌, ◌++◌}
+use Rattle.std.proofs.Common.{zero, suc, ◌≡◌, refl, ap, ◌∙◌, inl, inr, ℕ, List, [], ◌∷◌, ◌++◌}
 use Rattle.std.proofs.Common.{append_assoc, Option, Some, arith}
 use Rattle.std.specs.Prelude.{⊤, slice_get}
 use Rattle.dali_frame.specs.declared.forward.Frame.{Frame}
@@ -9,7 +9,7 @@ use Rattle.dali_write.specs.Exchanges.{Exchange}
 use Rattle.dali_write.specs.declared.request.Request.{Request}
 use Rattle.dali_write.specs.declared.request.Wish.{Wish}
 use Rattle.dali_write.specs.declared.request.Wish.TheVariants.{Exactly}
-use Rattle.dali_write.specs.declared.access.Access.TheVariants.{ReadFrom, WriteTo}
+use Rattle.dali_write.specs.declared.access.Access.TheVariants.{ReadFrom, WriteTo, WriteOn}
 use Rattle.dali_write.specs.declared.ask.Ask.TheVariants.{Send}
 use Rattle.dali_write.specs.declared.ask.Verdict.{Verdict}
 use Rattle.dali_write.specs.declared.ask.Verdict.TheVariants.{Doubt, DoubtOpen, Closed, NotClosed}
@@ -24,6 +24,11 @@ use Rattle.dali_write.specs.Guards.{IsGuarded}
 use Rattle.dali_write.proofs.ShapeLemmas.{trying_length, none_left}
 use Rattle.dali_write.proofs.AskedLemmas.{IsCalm, block_calm, next_asked}
 use Rattle.dali_write.proofs.PlanLemmas.{either_all, if_all}
+use Rattle.dali_write.specs.declared.pace.Pace.{Pace}
+use Rattle.dali_write.specs.declared.pace.Pace.TheVariants.{Checked, Short}
+use Rattle.dali_write.specs.Plans.{rows_of, most_of, read_backs, read_all_back, write_next}
+use Rattle.dali_write.specs.Requests.{put_requests}
+use Rattle.std.specs.Str.{bytes_eq}
 
 -- the request at a number
 abbrev pub request_at : ℕ → List Request → Option Request
@@ -53,6 +58,11 @@ pub four_of : (unit location byte : ℕ) (l1 l2 l3 l4 l5 l6 next : Request) (lef
     → l3 ∷ l4 ∷ l5 ∷ l6 ∷ [] ≡ select_requests unit location
 four_of unit location byte l1 l2 l3 l4 l5 l6 next left is = grind arith
 
+first_four : (unit location byte : ℕ) (l1 l2 l3 l4 next : Request) (left : List Request)
+    → l1 ∷ l2 ∷ l3 ∷ l4 ∷ next ∷ left ≡ put_requests unit location byte
+    → l1 ∷ l2 ∷ l3 ∷ l4 ∷ [] ≡ select_requests unit location
+first_four unit location byte l1 l2 l3 l4 next left is = grind arith
+
 -- the frames of a checked write
 write_guarded : (writes : List (ℕ × ℕ)) (unit location byte : ℕ) → Has writes location byte
     → GuardedRequests writes unit (write_requests unit location byte)
@@ -78,12 +88,42 @@ write_guarded writes unit location byte has (x6 ∷ x5 ∷ x4 ∷ x3 ∷ x2 ∷ 
 write_guarded writes unit location byte has (x7 ∷ x6 ∷ x5 ∷ x4 ∷ x3 ∷ x2 ∷ x1 ∷ rest) next left try =
     grind (arith, trying_length)
 
+-- the frames of a write at a unit that is enabled
+put_guarded : (writes : List (ℕ × ℕ)) (unit location byte : ℕ) → Has writes location byte
+    → GuardedRequests writes unit (put_requests unit location byte)
+put_guarded writes unit location byte has [] next left try = grind (arith, guarded_as)
+put_guarded writes unit location byte has (x1 ∷ []) next left try = grind (arith, guarded_as)
+put_guarded writes unit location byte has (x2 ∷ x1 ∷ []) next left try = grind (arith, guarded_as)
+put_guarded writes unit location byte has (x3 ∷ x2 ∷ x1 ∷ []) next left try = grind (arith, guarded_as)
+put_guarded writes unit location byte has (x4 ∷ x3 ∷ x2 ∷ x1 ∷ []) next left try =
+    let e = try.2.2.2.2 in
+    let four : Trying (select_requests unit location) (x4 ∷ x3 ∷ x2 ∷ x1 ∷ []) [] = (
+      try.0,
+      try.1,
+      (
+        try.2.0,
+        try.2.1,
+        (try.2.2.0, try.2.2.1, (try.2.2.2.0, try.2.2.2.1, first_four unit location byte _ _ _ _ next left e)),
+      ),
+    ) in
+    guarded_as writes unit (x4 ∷ x3 ∷ x2 ∷ x1 ∷ []) next (Write byte) (Exactly byte) (ap (request_at 4) e)
+    (location, has, (x4 ∷ x3 ∷ x2 ∷ x1 ∷ [], [], refl, four))
+put_guarded writes unit location byte has (x5 ∷ x4 ∷ x3 ∷ x2 ∷ x1 ∷ rest) next left try = grind (arith, trying_length)
+
 -- each write of the plan is one of these
 abbrev pub OnlyWrites : List (ℕ × ℕ) → Plan → Type 0
 OnlyWrites writes (Finish verdict) = ⊤
 OnlyWrites writes (Make (ReadFrom location) after) = (outcome : Option (List ℕ)) → OnlyWrites writes (after outcome)
 OnlyWrites writes (Make (WriteTo location byte) after) =
     Has writes location byte × ((outcome : Option (List ℕ)) → OnlyWrites writes (after outcome))
+OnlyWrites writes (Make (WriteOn location byte) after) =
+    Has writes location byte × ((outcome : Option (List ℕ)) → OnlyWrites writes (after outcome))
+
+next_writes : (writes : List (ℕ × ℕ)) (pace : Pace) (location byte : ℕ) (after : Option (List ℕ) → Plan)
+    → Has writes location byte → ((outcome : Option (List ℕ)) → OnlyWrites writes (after outcome))
+    → OnlyWrites writes (Make (write_next pace location byte) after)
+next_writes writes Checked location byte after has only = (has, only)
+next_writes writes Short location byte after has only = (has, only)
 
 -- after an outcome the plan makes only these writes, too
 pub goes_on_writes : (writes : List (ℕ × ℕ)) (plan : Plan) (outcome : Option (List ℕ)) → OnlyWrites writes plan
@@ -91,13 +131,19 @@ pub goes_on_writes : (writes : List (ℕ × ℕ)) (plan : Plan) (outcome : Optio
 goes_on_writes writes (Finish verdict) outcome only = tt
 goes_on_writes writes (Make (ReadFrom location) after) outcome only = only outcome
 goes_on_writes writes (Make (WriteTo location byte) after) outcome only = only.1 outcome
+goes_on_writes writes (Make (WriteOn location byte) after) outcome only = only.1 outcome
 
 -- the frames of the access at hand
 pub plan_guarded : (writes : List (ℕ × ℕ)) (unit : ℕ) (plan : Plan) → OnlyWrites writes plan
-    → GuardedRequests writes unit (plan_requests unit plan)
-plan_guarded writes unit (Finish verdict) only = λ tried next left try. absurd (none_left tried next left try)
-plan_guarded writes unit (Make (ReadFrom block) after) only = read_guarded writes unit block
-plan_guarded writes unit (Make (WriteTo location byte) after) only = write_guarded writes unit location byte only.0
+    → (misses : ℕ) → GuardedRequests writes unit (plan_requests unit plan misses)
+plan_guarded writes unit (Finish verdict) only misses =
+    λ tried next left try. absurd (none_left tried next left try)
+plan_guarded writes unit (Make (ReadFrom block) after) only misses = read_guarded writes unit block
+plan_guarded writes unit (Make (WriteTo location byte) after) only misses =
+    write_guarded writes unit location byte only.0
+plan_guarded writes unit (Make (WriteOn location byte) after) only zero = put_guarded writes unit location byte only.0
+plan_guarded writes unit (Make (WriteOn location byte) after) only (suc misses) =
+    write_guarded writes unit location byte only.0
 
 -- older exchanges take no guard away
 pub older_guarded : (writes : List (ℕ × ℕ)) (unit : ℕ) (tried older : List Exchange) (frame : Frame)
@@ -127,14 +173,16 @@ left_writes writes plan (outcome ∷ outcomes) only =
     goes_on_writes writes (plan_after plan outcomes) outcome (left_writes writes plan outcomes only)
 
 -- the frame that is asked for is the next one of the try
-asked_guarded : (writes : List (ℕ × ℕ)) (unit : ℕ) (now : Plan) (tried : List Exchange) (left : List Request)
+asked_guarded : (writes : List (ℕ × ℕ)) (unit : ℕ) (now : Plan) (misses : ℕ) (tried : List Exchange)
+    (left : List Request)
     (frame : Frame)
     → OnlyWrites writes now
-    → Trying (plan_requests unit now) tried left → shown_ask now left ≡ Send frame → IsGuarded writes unit tried frame
-asked_guarded writes unit (Finish verdict) tried left frame only try is = cc
-asked_guarded writes unit (Make access after) tried [] frame only try is = cc
-asked_guarded writes unit (Make access after) tried (next ∷ left) frame only try is =
-    grind (arith, plan_guarded writes unit (Make access after) only tried next left try)
+    → Trying (plan_requests unit now misses) tried left → shown_ask now left ≡ Send frame
+    → IsGuarded writes unit tried frame
+asked_guarded writes unit (Finish verdict) misses tried left frame only try is = cc
+asked_guarded writes unit (Make access after) misses tried [] frame only try is = cc
+asked_guarded writes unit (Make access after) misses tried (next ∷ left) frame only try is =
+    grind (arith, plan_guarded writes unit (Make access after) only misses tried next left try)
 
 -- at every frame that a session wants whose plan makes only these writes
 wants_guarded : (writes : List (ℕ × ℕ)) (unit : ℕ) (plan : Plan) (told : List Exchange) (frame : Frame)
@@ -148,43 +196,47 @@ pub close_writes : (writes : List (ℕ × ℕ)) (answered unanswered : Verdict) 
     → OnlyWrites writes (close answered unanswered)
 close_writes writes answered unanswered has = grind (arith, either_all)
 
--- a plan that reads a byte back
-expect_writes : (writes : List (ℕ × ℕ)) (location byte : ℕ) (after : Plan) → Has writes 2 0xFF → OnlyWrites writes after
-    → OnlyWrites writes (expect location byte after)
-expect_writes writes location byte after has only = grind (arith, close_writes, either_all, if_all)
-
-read_back_writes : (writes updates : List (ℕ × ℕ)) → Has writes 2 0xFF → OnlyWrites writes (read_back updates)
+-- a plan that reads rows back
+read_back_writes : (writes : List (ℕ × ℕ)) (rows : List (ℕ × List ℕ)) → Has writes 2 0xFF
+    → OnlyWrites writes (read_back rows)
 read_back_writes writes [] has = tt
-read_back_writes writes (update ∷ updates) has =
-    expect_writes writes update.0 update.1 (read_back updates) has (read_back_writes writes updates has)
+read_back_writes writes (row ∷ rows) has =
+    either_all (OnlyWrites writes) give_up _ (close_writes writes Doubt DoubtOpen has)
+    (λ read. if_all (OnlyWrites writes) (bytes_eq read row.1) (read_back rows) give_up
+    (read_back_writes writes rows has)
+    (close_writes writes Doubt DoubtOpen has))
 
 -- the updates that are left are among the writes
-write_on_writes : (writes updates left : List (ℕ × ℕ)) → Has writes 2 0xFF
+write_on_writes : (writes : List (ℕ × ℕ)) (pace : Pace) (updates left : List (ℕ × ℕ)) → Has writes 2 0xFF
     → ((location byte : ℕ) → Has left location byte → Has writes location byte)
-    → OnlyWrites writes (write_on updates left)
-write_on_writes writes updates [] has among = grind (arith, either_all, close_writes, expect_writes, read_back_writes)
-write_on_writes writes updates (update ∷ left) has among = (
-  among update.0 update.1 (inl (refl, refl)),
-  either_all (OnlyWrites writes) give_up (λ byte. write_on updates left) (close_writes writes Doubt DoubtOpen has)
-      (λ byte. write_on_writes writes updates left has (λ location b in_left. among location b (inr in_left))),
-)
+    → OnlyWrites writes (write_on pace updates left)
+write_on_writes writes pace updates [] has among =
+    next_writes writes pace 2 0xFF _ has
+    (either_all (OnlyWrites writes) give_up (λ bytes. read_all_back pace updates)
+    (close_writes writes Doubt DoubtOpen has)
+    (λ bytes. read_back_writes writes (rows_of (most_of pace) (read_backs updates)) has))
+write_on_writes writes pace updates (update ∷ left) has among =
+    next_writes writes pace update.0 update.1 _ (among update.0 update.1 (inl (refl, refl)))
+    (either_all (OnlyWrites writes) give_up (λ bytes. write_on pace updates left)
+    (close_writes writes Doubt DoubtOpen has)
+    (λ bytes. write_on_writes writes pace updates left has (λ location b in_left. among location b (inr in_left))))
 
 -- the plan of an opened session
-pub unlock_writes : (updates : List (ℕ × ℕ)) → OnlyWrites (writes_of updates) (unlock updates)
-unlock_writes updates =
+pub unlock_writes : (pace : Pace) (updates : List (ℕ × ℕ)) → OnlyWrites (writes_of updates) (unlock pace updates)
+unlock_writes pace updates =
     let has : Has (writes_of updates) 2 0xFF = inr (inl (refl, refl)) in (
       inl (refl, refl),
-      either_all (OnlyWrites (writes_of updates)) give_up (λ byte. write_on updates updates)
+      either_all (OnlyWrites (writes_of updates)) give_up (λ bytes. write_on pace updates updates)
           (close_writes (writes_of updates) Doubt DoubtOpen has)
-          (λ byte.
-          write_on_writes (writes_of updates) updates updates has (λ location b in_updates. inr (inr in_updates))),
+          (λ bytes.
+          write_on_writes (writes_of updates) pace updates updates has (λ location b in_updates. inr (inr in_updates))),
     )
 
-pub opened_guarded : (told : List Exchange) (unit : ℕ) (updates : List (ℕ × ℕ)) (frame : Frame)
-    → Wants unit (unlock updates) told (Send frame)
+pub opened_guarded : (told : List Exchange) (unit : ℕ) (pace : Pace) (updates : List (ℕ × ℕ)) (frame : Frame)
+    → Wants unit (unlock pace updates) told (Send frame)
     → IsGuarded (writes_of updates) unit told frame
-opened_guarded told unit updates frame wants =
-    wants_guarded (writes_of updates) unit (unlock updates) told frame (unlock_writes updates) wants
+opened_guarded told unit pace updates frame wants =
+    wants_guarded (writes_of updates) unit (unlock pace updates) told frame (unlock_writes pace updates) wants
 
 pub closing_guarded : (told : List Exchange) (unit : ℕ) (frame : Frame)
     → Wants unit (close Closed NotClosed) told (Send frame) → IsGuarded ((2, 0xFF) ∷ []) unit told frame

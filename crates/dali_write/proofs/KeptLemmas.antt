@@ -18,7 +18,7 @@ use Rattle.dali_gear.proofs.BankLemmas.{IsQuiet, bank_stays}
 use Rattle.dali_write.specs.declared.request.Request.{Request}
 use Rattle.dali_write.specs.declared.request.Wish.TheVariants.{Nothing, Exactly}
 use Rattle.dali_write.specs.declared.access.Access.{Access}
-use Rattle.dali_write.specs.declared.access.Access.TheVariants.{ReadFrom, WriteTo}
+use Rattle.dali_write.specs.declared.access.Access.TheVariants.{ReadFrom, WriteTo, WriteOn}
 use Rattle.dali_write.specs.Requests.{Meets, request, block_requests, access_requests}
 use Rattle.dali_write.specs.Tries.{Trying, Missed, Misses, Succeeds}
 use Rattle.dali_write.specs.Losses.{IsAlone}
@@ -28,6 +28,8 @@ use Rattle.dali_write.proofs.AskedLemmas.{Asks, block_asks}
 use Rattle.dali_write.proofs.LossLemmas.{AllFor, all_for}
 use Rattle.dali_write.proofs.RunLemmas.{Leads, Stays, losses_along, UnrefusedAlong}
 use Rattle.dali_gear.specs.SimState.{SimStep}
+use Rattle.dali_write.specs.Requests.{put_requests, write_requests}
+use Rattle.std.proofs.lemmas.Bool.{and_parts}
 
 -- the unit hears the frame or not
 abbrev hears : Bool → Bool → UnitState → Frame → UnitState
@@ -65,11 +67,17 @@ quiet_first keep end (next ∷ requests) left unit quiet kept rest = λ lost ref
 abbrev pub Keeps : (BankState → Type 0) → Access → Type 0
 Keeps keep (ReadFrom block) = ⊤
 Keeps keep (WriteTo location byte) = (bank : BankState) → keep bank → keep (with_byte bank location byte)
+Keeps keep (WriteOn location byte) = (bank : BankState) → keep bank → keep (with_byte bank location byte)
 
--- what the unit has after the access: its byte in bank 1, where it wrote one
+-- the byte stands in bank 1, and the unit is enabled
+abbrev pub HasPut : ℕ → ℕ → UnitState → Type 0
+HasPut location byte unit = (slice_get unit.bank1.bytes location ≡ Some byte) × (unit.enabled ≡ true)
+
+-- what the unit has after the access: its byte, where it wrote one
 abbrev pub Ends : Access → UnitState → Type 0
 Ends (ReadFrom block) unit = ⊤
-Ends (WriteTo location byte) unit = slice_get unit.bank1.bytes location ≡ Some byte
+Ends (WriteTo location byte) unit = HasPut location byte unit
+Ends (WriteOn location byte) unit = HasPut location byte unit
 
 -- a byte that was set
 get_set : (xs : List ℕ) (i x : ℕ) → i < length xs → slice_get (slice_set xs i x) i ≡ Some x
@@ -98,13 +106,13 @@ told_if false told byte e = cc
 -- a write that was stored has its byte there
 has_written : (location byte : ℕ) (refuses : Bool) (unit : UnitState) → unit.dtr1 ≡ 1 → unit.dtr0 ≡ location
     → stores refuses unit ≡ true
-    → Ends (WriteTo location byte) (after_write refuses unit byte)
-has_written location byte refuses unit bank here done = grind (arith, get_set, ltb-true)
+    → HasPut location byte (after_write refuses unit byte)
+has_written location byte refuses unit bank here done = (grind (arith, get_set, ltb-true), grind (arith, and_parts))
 
 -- the requests of a checked write, from the last one back
 safe_write : (keep : BankState → Type 0) (location byte : ℕ) → Keeps keep (WriteTo location byte)
     → (unit : UnitState) → unit.dtr1 ≡ 1 → unit.dtr0 ≡ location → keep unit.bank1
-    → Safe keep (Ends (WriteTo location byte)) (request (Write byte) (Exactly byte) ∷ []) unit
+    → Safe keep (HasPut location byte) (request (Write byte) (Exactly byte) ∷ []) unit
 safe_write keep location byte stored unit bank here kept true refuses answer back = grind arith
 safe_write keep location byte stored unit bank here kept false refuses answer back =
     let now : UnitState = record unit { half_pair = false } in (
@@ -115,7 +123,7 @@ safe_write keep location byte stored unit bank here kept false refuses answer ba
 
 safe_ask0 : (keep : BankState → Type 0) (at location byte : ℕ) → Keeps keep (WriteTo location byte)
     → (unit : UnitState) → unit.dtr1 ≡ 1 → keep unit.bank1
-    → Safe keep (Ends (WriteTo location byte))
+    → Safe keep (HasPut location byte)
     (request (AskDtr0 at) (Exactly location) ∷ request (Write byte) (Exactly byte) ∷ []) unit
 safe_ask0 keep at location byte stored unit bank kept true refuses answer back = grind arith
 safe_ask0 keep at location byte stored unit bank kept false refuses answer back = (
@@ -126,7 +134,7 @@ safe_ask0 keep at location byte stored unit bank kept false refuses answer back 
 
 safe_dtr0 : (keep : BankState → Type 0) (at location byte : ℕ) → Keeps keep (WriteTo location byte)
     → (unit : UnitState) → unit.dtr1 ≡ 1 → keep unit.bank1
-    → Safe keep (Ends (WriteTo location byte))
+    → Safe keep (HasPut location byte)
     (request (Dtr0 location) Nothing ∷ request (AskDtr0 at) (Exactly location) ∷ request (Write byte) (Exactly byte)
     ∷ []) unit
 safe_dtr0 keep at location byte stored unit bank kept true refuses answer back =
@@ -138,7 +146,7 @@ safe_dtr0 keep at location byte stored unit bank kept false refuses answer back 
 
 safe_ask1 : (keep : BankState → Type 0) (at location byte : ℕ) → Keeps keep (WriteTo location byte)
     → (unit : UnitState) → keep unit.bank1
-    → Safe keep (Ends (WriteTo location byte))
+    → Safe keep (HasPut location byte)
     (request (AskDtr1 at) (Exactly 1) ∷ request (Dtr0 location) Nothing ∷ request (AskDtr0 at) (Exactly location)
     ∷ request (Write byte) (Exactly byte) ∷ [])
     unit
@@ -149,22 +157,31 @@ safe_ask1 keep at location byte stored unit kept false refuses answer back = (
       (told_if (at == unit.address) unit.dtr1 1 (back 1 meets)).1 kept,
 )
 
-safe_access : (keep : BankState → Type 0) (at : ℕ) (access : Access) (unit : UnitState) → Keeps keep access
-    → keep unit.bank1
-    → Safe keep (Ends access) (access_requests at access) unit
-safe_access keep at (ReadFrom block) unit keeps kept =
+safe_put : (keep : BankState → Type 0) (at location byte : ℕ) (unit : UnitState)
+    → Keeps keep (WriteTo location byte) → keep unit.bank1
+    → Safe keep (HasPut location byte) (put_requests at location byte) unit
+safe_put keep at location byte unit keeps kept =
+    quiet_first keep (HasPut location byte) (request (Dtr1 1) Nothing ∷ [])
+    (request (AskDtr1 at) (Exactly 1) ∷ request (Dtr0 location) Nothing ∷ request (AskDtr0 at) (Exactly location)
+    ∷ request (Write byte) (Exactly byte) ∷ [])
+    unit (tt, tt) kept (safe_ask1 keep at location byte keeps)
+
+safe_full : (keep : BankState → Type 0) (at location byte : ℕ) (unit : UnitState)
+    → Keeps keep (WriteTo location byte) → keep unit.bank1
+    → Safe keep (HasPut location byte) (write_requests at location byte) unit
+safe_full keep at location byte unit keeps kept =
+    quiet_first keep (HasPut location byte) (request (Enable at) Nothing ∷ request (Enable at) Nothing ∷ [])
+    (put_requests at location byte) unit (tt, (tt, tt)) kept
+    (λ new still. safe_put keep at location byte new keeps still)
+
+safe_access : (keep : BankState → Type 0) (at : ℕ) (access : Access) (misses : ℕ) (unit : UnitState)
+    → Keeps keep access → keep unit.bank1 → Safe keep (Ends access) (access_requests at access misses) unit
+safe_access keep at (ReadFrom block) misses unit keeps kept =
     grind (arith, append-nil (block_requests at block), quiet_first, block_asks IsQuiet)
-safe_access keep at (WriteTo location byte) unit keeps kept =
-    grind (
-      arith,
-      quiet_first keep (Ends (WriteTo location byte)) (request (Enable at) Nothing ∷ request (Enable at)
-          Nothing ∷ request (Dtr1 1) Nothing ∷ []) (request (AskDtr1 at) (Exactly 1) ∷ request (Dtr0 location) Nothing ∷
-          request (AskDtr0 at) (Exactly location) ∷ request (Write byte) (Exactly byte) ∷ []) unit (
-            tt,
-            (tt, (tt, tt)),
-          ) kept
-          (safe_ask1 keep at location byte keeps),
-    )
+safe_access keep at (WriteTo location byte) misses unit keeps kept = safe_full keep at location byte unit keeps kept
+safe_access keep at (WriteOn location byte) zero unit keeps kept = safe_put keep at location byte unit keeps kept
+safe_access keep at (WriteOn location byte) (suc misses) unit keeps kept =
+    safe_full keep at location byte unit keeps kept
 
 -- the unit after a part of a try
 record After (keep : BankState → Type 0) (end : UnitState → Type 0) (at : ℕ) (left : List Request) (last : SimState)
@@ -219,17 +236,18 @@ after_trying loses keep end at requests left unit (x ∷ told) first last run ke
 
 -- a try that missed
 after_missed : (loses : ℕ → Type 0) (keep : BankState → Type 0) (at : ℕ) (access : Access) (unit : UnitState)
-    (told : List Exchange) (first last : SimState)
+    (misses : ℕ) (told : List Exchange) (first last : SimState)
     → Leads SimStep loses told first last → (loses at → ⊥)
-    → IsAlone at unit first.units → keep unit.bank1 → Keeps keep access → Missed (access_requests at access) told
+    → IsAlone at unit first.units → keep unit.bank1 → Keeps keep access
+    → Missed (access_requests at access misses) told
     → (now : UnitState) × IsAlone at now last.units × keep now.bank1
-after_missed loses keep at access unit [] first last run keeps_power alone kept keeps missed = absurd missed
-after_missed loses keep at access unit (x ∷ told) first last run keeps_power alone kept keeps missed =
+after_missed loses keep at access unit misses [] first last run keeps_power alone kept keeps missed = absurd missed
+after_missed loses keep at access unit misses (x ∷ told) first last run keeps_power alone kept keeps missed =
     let before =
-    after_trying loses keep (Ends access) at (access_requests at access) (request x.frame missed.0 ∷ missed.1) unit told
-    first run.0 run.2 keeps_power
+    after_trying loses keep (Ends access) at (access_requests at access misses) (request x.frame missed.0 ∷ missed.1)
+    unit told first run.0 run.2 keeps_power
     alone kept
-    (safe_access keep at access unit keeps kept) (all_for at access) missed.3 in
+    (safe_access keep at access misses unit keeps kept) (all_for at access misses) missed.3 in
     let more = one_more keep (Ends access) at (request x.frame missed.0) missed.1 run.0 x.answer run.1 run.3 before in
     (more.0, drifts_alone loses at more.0 run.1 last keeps_power run.4 more.1, more.2)
 
@@ -281,7 +299,8 @@ after_misses loses keep at access unit (suc misses) told first last run keeps_po
     let two = parts loses at told are.0 are.1 first last run are.2 in
     let older =
     after_misses loses keep at access unit misses are.1 first two.mid two.before keeps_power alone kept keeps are.4 in
-    after_missed loses keep at access older.0 are.0 two.mid last two.after keeps_power older.1 older.2 keeps are.3
+    after_missed loses keep at access older.0 misses are.0 two.mid last two.after keeps_power older.1 older.2 keeps
+    are.3
 
 -- an access that succeeded
 pub after_success : (loses : ℕ → Type 0) (keep : BankState → Type 0) (at : ℕ) (access : Access) (unit : UnitState)
@@ -295,8 +314,8 @@ after_success loses keep at access unit outcome told first last run keeps_power 
     let older =
     after_misses loses keep at access unit done.2 done.1 first two.mid two.before keeps_power alone kept keeps done.7 in
     let all =
-    after_trying loses keep (Ends access) at (access_requests at access) [] older.0 done.0 two.mid last two.after
+    after_trying loses keep (Ends access) at (access_requests at access done.2) [] older.0 done.0 two.mid last two.after
     keeps_power older.1
     older.2
-    (safe_access keep at access older.0 keeps older.2) (all_for at access) done.4 in
+    (safe_access keep at access done.2 older.0 keeps older.2) (all_for at access done.2) done.4 in
     (all.now, all.alone, all.kept, all.safe)

@@ -8,13 +8,17 @@ use Rattle.dali_write.specs.declared.ask.Verdict.{Verdict}
 use Rattle.dali_write.specs.declared.ask.Verdict.TheVariants.{MayOpen, Short, Format, Silent, Doubt, DoubtOpen, Closed}
 use Rattle.dali_write.specs.declared.ask.Verdict.TheVariants.{NotClosed}
 use Rattle.dali_write.specs.Plans.{Plan, Finish, Make, next_plan, plan_after, greatest, read_format}
-use Rattle.dali_write.specs.Plans.{read_length, close, give_up, expect, read_back, read_lock, write_on}
+use Rattle.dali_write.specs.Plans.{read_length, close, give_up, read_back, write_on}
 use Rattle.dali_write.specs.Plans.{unlock, read_on, read_all, read_block}
 use Rattle.dali_write.specs.declared.block.Block.{Block}
 use Rattle.dali_write.specs.Tries.{IsGoing, Wants}
 use Rattle.dali_write.proofs.AskLemmas.{shown_ask, ask_shown}
 use Rattle.dali_write.specs.Verdicts.{EndsFresh, EndsOpened, EndsClosing, EndsReading}
 use Rattle.dali_write.proofs.PlanLemmas.{either_all, if_all}
+use Rattle.dali_write.specs.declared.pace.Pace.{Pace}
+use Rattle.dali_write.specs.declared.pace.Pace.TheVariants.{Checked, Short as ShortPace}
+use Rattle.dali_write.specs.Plans.{rows_of, most_of, read_backs, read_all_back}
+use Rattle.std.specs.Str.{bytes_eq}
 
 -- wherever the plan ends, it ends so
 abbrev EndsSo : (Verdict → Type 0) → Plan → Type 0
@@ -50,51 +54,57 @@ close_ends : (P : Verdict → Type 0) (answered unanswered : Verdict) → P answ
 close_ends P answered unanswered a u =
     λ outcome. either_all (EndsSo P) (Finish unanswered) (λ byte. Finish answered) u (λ byte. a)
 
-expect_ends : (location byte : ℕ) (after : Plan) → EndsSo EndsOpened after
-    → EndsSo EndsOpened (expect location byte after)
-expect_ends location byte after ends =
+read_back_ends : (rows : List (ℕ × List ℕ)) → EndsSo EndsOpened (read_back rows)
+read_back_ends [] = tt
+read_back_ends (row ∷ rows) =
     let gives = close_ends EndsOpened Doubt DoubtOpen tt tt in
     either_all (EndsSo EndsOpened) give_up _ gives
-    (λ bytes. if_all (EndsSo EndsOpened) (get_or bytes 0 0 == byte) after give_up ends gives)
+    (λ read. if_all (EndsSo EndsOpened) (bytes_eq read row.1) (read_back rows) give_up (read_back_ends rows) gives)
 
-read_back_ends : (updates : List (ℕ × ℕ)) → EndsSo EndsOpened (read_back updates)
-read_back_ends [] = tt
-read_back_ends (update ∷ updates) = expect_ends update.0 update.1 (read_back updates) (read_back_ends updates)
+write_on_ends : (pace : Pace) (updates left : List (ℕ × ℕ)) → EndsSo EndsOpened (write_on pace updates left)
+write_on_ends pace updates [] =
+    either_all (EndsSo EndsOpened) give_up (λ bytes. read_all_back pace updates)
+    (close_ends EndsOpened Doubt DoubtOpen tt tt)
+    (λ bytes. read_back_ends (rows_of (most_of pace) (read_backs updates)))
+write_on_ends pace updates (update ∷ left) =
+    either_all (EndsSo EndsOpened) give_up (λ bytes. write_on pace updates left)
+    (close_ends EndsOpened Doubt DoubtOpen tt tt)
+    (λ bytes. write_on_ends pace updates left)
 
-write_on_ends : (updates left : List (ℕ × ℕ)) → EndsSo EndsOpened (write_on updates left)
-write_on_ends updates [] =
-    either_all (EndsSo EndsOpened) give_up (λ byte. read_lock updates) (close_ends EndsOpened Doubt DoubtOpen tt tt)
-    (λ byte. expect_ends 2 0xFF (read_back updates) (read_back_ends updates))
-write_on_ends updates (update ∷ left) =
-    either_all (EndsSo EndsOpened) give_up (λ byte. write_on updates left) (close_ends EndsOpened Doubt DoubtOpen tt tt)
-    (λ byte. write_on_ends updates left)
+unlock_ends : (pace : Pace) (updates : List (ℕ × ℕ)) → EndsSo EndsOpened (unlock pace updates)
+unlock_ends pace updates =
+    either_all (EndsSo EndsOpened) give_up (λ bytes. write_on pace updates updates)
+    (close_ends EndsOpened Doubt DoubtOpen tt tt) (λ bytes. write_on_ends pace updates updates)
 
-unlock_ends : (updates : List (ℕ × ℕ)) → EndsSo EndsOpened (unlock updates)
-unlock_ends updates =
-    either_all (EndsSo EndsOpened) give_up (λ byte. write_on updates updates)
-    (close_ends EndsOpened Doubt DoubtOpen tt tt) (λ byte. write_on_ends updates updates)
+judged : (suits : Bool) → EndsFresh (if suits then MayOpen else Format)
+judged true = tt
+judged false = tt
 
-length_ends : (updates : List (ℕ × ℕ)) → EndsSo EndsFresh (read_length updates)
-length_ends updates =
+format_ends : (pace : Pace) → EndsSo EndsFresh (read_format pace)
+format_ends Checked =
+    either_all (EndsSo EndsFresh) (Finish Silent) _ tt
+    (λ high. either_all (EndsSo EndsFresh) (Finish Silent) _ tt
+    (λ low. judged ((get_or high 0 0 == 0) && (get_or low 0 0 == 3))))
+format_ends ShortPace =
+    either_all (EndsSo EndsFresh) (Finish Silent) _ tt
+    (λ read. judged ((get_or read 0 0 == 0) && (get_or read 1 0 == 3)))
+
+length_ends : (pace : Pace) (updates : List (ℕ × ℕ)) → EndsSo EndsFresh (read_length pace updates)
+length_ends pace updates =
     either_all (EndsSo EndsFresh) (Finish Silent) _ tt
     (λ last. if_all (EndsSo EndsFresh) (nat_lt (get_or last 0 0) (greatest updates)) (Finish Short) _ tt
-    (if_all (EndsSo EndsFresh) (nat_lt (greatest updates) 0x13) (Finish MayOpen) read_format tt
-    (either_all (EndsSo EndsFresh) (Finish Silent) _ tt
-    (λ high. either_all (EndsSo EndsFresh) (Finish Silent) _ tt
-    (λ low. judged ((get_or high 0 0 == 0) && (get_or low 0 0 == 3))))))) where
-      judged : (suits : Bool) → EndsFresh (if suits then MayOpen else Format)
-      judged true = tt
-      judged false = tt
+    (if_all (EndsSo EndsFresh) (nat_lt (greatest updates) 0x13) (Finish MayOpen) (read_format pace) tt
+    (format_ends pace)))
 
-pub fresh_ends : (told : List Exchange) (unit : ℕ) (updates : List (ℕ × ℕ)) (verdict : Verdict)
-    → Wants unit (read_length updates) told (Ended verdict) → EndsFresh verdict
-fresh_ends told unit updates verdict wants =
-    ended EndsFresh unit (read_length updates) told verdict (length_ends updates) wants
+pub fresh_ends : (told : List Exchange) (unit : ℕ) (pace : Pace) (updates : List (ℕ × ℕ)) (verdict : Verdict)
+    → Wants unit (read_length pace updates) told (Ended verdict) → EndsFresh verdict
+fresh_ends told unit pace updates verdict wants =
+    ended EndsFresh unit (read_length pace updates) told verdict (length_ends pace updates) wants
 
-pub opened_ends : (told : List Exchange) (unit : ℕ) (updates : List (ℕ × ℕ)) (verdict : Verdict)
-    → Wants unit (unlock updates) told (Ended verdict) → EndsOpened verdict
-opened_ends told unit updates verdict wants =
-    ended EndsOpened unit (unlock updates) told verdict (unlock_ends updates) wants
+pub opened_ends : (told : List Exchange) (unit : ℕ) (pace : Pace) (updates : List (ℕ × ℕ)) (verdict : Verdict)
+    → Wants unit (unlock pace updates) told (Ended verdict) → EndsOpened verdict
+opened_ends told unit pace updates verdict wants =
+    ended EndsOpened unit (unlock pace updates) told verdict (unlock_ends pace updates) wants
 
 pub closing_ends : (told : List Exchange) (unit : ℕ) (verdict : Verdict)
     → Wants unit (close Closed NotClosed) told (Ended verdict) → EndsClosing verdict

@@ -13,7 +13,7 @@ use Rattle.dali_write.specs.declared.request.Request.{Request}
 use Rattle.dali_write.specs.declared.request.Wish.{Wish}
 use Rattle.dali_write.specs.declared.request.Wish.TheVariants.{Nothing, Exactly, Anything}
 use Rattle.dali_write.specs.declared.access.Access.{Access}
-use Rattle.dali_write.specs.declared.access.Access.TheVariants.{ReadFrom, WriteTo}
+use Rattle.dali_write.specs.declared.access.Access.TheVariants.{ReadFrom, WriteTo, WriteOn}
 use Rattle.dali_write.specs.declared.block.Block.{Block}
 use Rattle.dali_write.specs.Requests.{Meets, request, moved_on, reads, select_requests, block_requests, write_requests}
 use Rattle.dali_write.specs.Requests.{access_requests}
@@ -25,6 +25,7 @@ use Rattle.dali_write.proofs.PlaceLemmas.{moved_next}
 use Rattle.dali_write.proofs.DriftLemmas.{drifts_alone}
 use Rattle.dali_write.proofs.RunLemmas.{Leads, losses_along, UnrefusedAlong}
 use Rattle.dali_gear.specs.SimState.{SimStep}
+use Rattle.dali_write.specs.Requests.{put_requests}
 
 -- a unit that hears all of the requests gives the answers that they want
 abbrev pub Suits : List Request → UnitState → Type 0
@@ -35,9 +36,11 @@ Suits (next ∷ left) unit =
 abbrev pub AllFor : ℕ → List Request → Type 0
 AllFor at requests = Asks (IsFor at) requests
 
-pub all_for : (at : ℕ) (access : Access) → AllFor at (access_requests at access)
-all_for at (ReadFrom block) = block_asks (IsFor at) at block tt refl tt refl refl
-all_for at (WriteTo location byte) = (refl, (refl, (tt, (refl, (tt, (refl, (tt, tt)))))))
+pub all_for : (at : ℕ) (access : Access) (misses : ℕ) → AllFor at (access_requests at access misses)
+all_for at (WriteOn location byte) zero = (tt, (refl, (tt, (refl, (tt, tt)))))
+all_for at (WriteOn location byte) (suc misses) = (refl, (refl, (tt, (refl, (tt, (refl, (tt, tt)))))))
+all_for at (ReadFrom block) misses = block_asks (IsFor at) at block tt refl tt refl refl
+all_for at (WriteTo location byte) misses = (refl, (refl, (tt, (refl, (tt, (refl, (tt, tt)))))))
 
 pub after_reading : (at : ℕ) (unit : UnitState) → unit.address ≡ at → unit.dtr1 ≡ 1
     → after_frame false unit (Read at) ≡ record unit { half_pair = false; enabled = false; dtr0 = up unit.dtr0 }
@@ -70,7 +73,7 @@ suits_read at block unit is some = grind (arith, eq-eqb, suits_reading, suits_as
 -- where it is enabled
 suits_enabled : (at location byte : ℕ) (unit : UnitState) → unit.address ≡ at → unit.enabled ≡ true
     → IsTrue (is_writable unit.bank1 location)
-    → Suits (select_requests at location ++ request (Write byte) (Exactly byte) ∷ []) unit
+    → Suits (put_requests at location byte) unit
 suits_enabled at location byte unit is on can = grind (arith, eq-eqb)
 
 one_enable : (at : ℕ) (unit : UnitState) → unit.address ≡ at → after_frame false unit (Enable at) ≡ after_enable unit
@@ -92,10 +95,25 @@ suits_write : (at location byte : ℕ) (unit : UnitState) → unit.address ≡ a
     → Suits (write_requests at location byte) unit
 suits_write at location byte unit is can = search (arith, enabled_by_two, suits_enabled)
 
-pub suits_access : (at : ℕ) (access : Access) (unit : UnitState) → unit.address ≡ at → CanDo access unit
-    → Suits (access_requests at access) unit
-suits_access at (ReadFrom block) unit is can = suits_read at block unit is can
-suits_access at (WriteTo location byte) unit is can = suits_write at location byte unit is can
+-- the unit can do a try of the access behind so many misses: behind one, a write enables it
+abbrev pub CanTry : Access → ℕ → UnitState → Type 0
+CanTry (ReadFrom block) misses unit = HasFrom unit.bank1 block.location block.count
+CanTry (WriteTo location byte) misses unit = IsTrue (is_writable unit.bank1 location)
+CanTry (WriteOn location byte) zero unit = IsTrue (is_writable unit.bank1 location) × (unit.enabled ≡ true)
+CanTry (WriteOn location byte) (suc misses) unit = IsTrue (is_writable unit.bank1 location)
+
+pub can_try : (access : Access) (misses : ℕ) (unit : UnitState) → CanDo access unit → CanTry access misses unit
+can_try (ReadFrom block) misses unit can = can
+can_try (WriteTo location byte) misses unit can = can
+can_try (WriteOn location byte) zero unit can = can
+can_try (WriteOn location byte) (suc misses) unit can = can.0
+
+pub suits_access : (at : ℕ) (access : Access) (misses : ℕ) (unit : UnitState) → unit.address ≡ at
+    → CanTry access misses unit → Suits (access_requests at access misses) unit
+suits_access at (ReadFrom block) misses unit is can = suits_read at block unit is can
+suits_access at (WriteTo location byte) misses unit is can = suits_write at location byte unit is can
+suits_access at (WriteOn location byte) zero unit is can = suits_enabled at location byte unit is can.1 can.0
+suits_access at (WriteOn location byte) (suc misses) unit is can = suits_write at location byte unit is can
 
 meets_own : (wish : Wish) (own answer : Option ℕ) → Meets wish own → ((byte : ℕ) → own ≡ Some byte → answer ≡ Some byte)
     → Meets wish answer
@@ -158,10 +176,11 @@ ends loses at requests unit (x ∷ told) first last run keeps_power for suits al
     heard_whole at run.0 before.now x.frame x.answer run.1 run.3 before.for.0 before.alone whole.0 kind.0 in
     missed.2 (meets_own missed.0 (answer_to false before.now x.frame) x.answer before.suits.0 heard.answered)
 
-pub missed_by_loss : (loses : ℕ → Type 0) (at : ℕ) (access : Access) (unit : UnitState) (told : List Exchange)
+pub missed_by_loss : (loses : ℕ → Type 0) (at : ℕ) (access : Access) (misses : ℕ) (unit : UnitState)
+    (told : List Exchange)
     (first last : SimState) (run : Leads SimStep loses told first last)
-    → (loses at → ⊥) → IsAlone at unit first.units → CanDo access unit → UnrefusedAlong loses told first last run
-    → Missed (access_requests at access) told
+    → (loses at → ⊥) → IsAlone at unit first.units → CanTry access misses unit
+    → UnrefusedAlong loses told first last run → Missed (access_requests at access misses) told
     → 1 ≤ losses_along at loses told first last run
-missed_by_loss loses at access unit told first last run keeps_power alone can kind missed =
+missed_by_loss loses at access misses unit told first last run keeps_power alone can kind missed =
     search (arith, pos_of_ne-zero, ends loses, all_for, suits_access, address_of)

@@ -1,5 +1,5 @@
 -- The misses among exchanges are those of the tries.
-use Rattle.std.proofs.Common.{◌≡◌, inl, inr, refl, sym, ap, subst, ℕ, zero, suc, ◌+◌, ◌≤◌, Bool, true, false}
+use Rattle.std.proofs.Common.{length-append, ◌≡◌, inl, inr, refl, sym, ap, subst, ℕ, zero, suc, ◌+◌, ◌≤◌, Bool, true, false}
 use Rattle.std.specs.Prelude.{⊤}
 use Rattle.std.proofs.Common.{if◌then◌else◌, List, [], ◌∷◌, ◌++◌, append_assoc, append-nil, length, Option, Some, None}
 use Rattle.std.proofs.Common.{arith}
@@ -9,7 +9,7 @@ use Rattle.dali_write.specs.declared.request.Request.{Request}
 use Rattle.dali_write.specs.declared.request.Wish.{Wish}
 use Rattle.dali_write.specs.declared.request.Wish.TheVariants.{Nothing, Exactly, Anything}
 use Rattle.dali_write.specs.declared.access.Access.{Access}
-use Rattle.dali_write.specs.declared.access.Access.TheVariants.{ReadFrom, WriteTo}
+use Rattle.dali_write.specs.declared.access.Access.TheVariants.{ReadFrom, WriteTo, WriteOn}
 use Rattle.dali_write.specs.declared.ask.Verdict.{Verdict}
 use Rattle.dali_write.specs.Requests.{Meets, request, moved_on, reads, access_requests}
 use Rattle.dali_bus.specs.Hears.{up}
@@ -19,6 +19,8 @@ use Rattle.dali_write.specs.Tries.{most_tries, Trying, Missed, Misses, AccessEnd
 use Rattle.dali_write.specs.Walks.{Walk, access_misses, misses_of, Took}
 use Rattle.dali_write.specs.Doubts.{EndsInFailure, HasFailed}
 use Rattle.dali_write.specs.Misses.{location_after, location_in, wish_of, is_missed, misses_in, IsLong}
+use Rattle.dali_write.specs.declared.pace.Pace.{Pace}
+use Rattle.dali_write.specs.declared.pace.Pace.TheVariants.{Checked, Short}
 
 -- each request wishes what its frame asks for, where DTR0 should stand so before the first one
 abbrev pub Apt : ℕ → List Request → Type 0
@@ -34,9 +36,13 @@ apt_reads unit (suc count) location back apt = (
       (subst (λ (l : ℕ). Apt l back) (sym (moved_next location count)) apt),
 )
 
-apt_access : (unit : ℕ) (access : Access) (location : ℕ) → Apt location (access_requests unit access)
-apt_access unit (ReadFrom block) location = grind (arith, apt_reads)
-apt_access unit (WriteTo at byte) location = (refl, (refl, (refl, (refl, (refl, (refl, (refl, tt)))))))
+apt_access : (unit : ℕ) (access : Access) (misses location : ℕ)
+    → Apt location (access_requests unit access misses)
+apt_access unit (ReadFrom block) misses location = grind (arith, apt_reads)
+apt_access unit (WriteOn at byte) zero location = (refl, (refl, (refl, (refl, (refl, tt)))))
+apt_access unit (WriteOn at byte) (suc misses) location =
+    (refl, (refl, (refl, (refl, (refl, (refl, (refl, tt)))))))
+apt_access unit (WriteTo at byte) misses location = (refl, (refl, (refl, (refl, (refl, (refl, (refl, tt)))))))
 
 met : (wish : Wish) (answer : Option ℕ) → Meets wish answer → is_missed wish answer ≡ false
 met Nothing answer meets = refl
@@ -93,8 +99,8 @@ misses unit access (suc count) told older are =
     grind (
       arith,
       misses unit access count are.1 older are.4,
-      missed (access_requests unit access) are.0 (are.1 ++
-          older) (apt_access unit access (location_in (are.1 ++ older))) are.3,
+      missed (access_requests unit access count) are.0 (are.1 ++
+          older) (apt_access unit access count (location_in (are.1 ++ older))) are.3,
       append_assoc are.0 are.1 older,
     )
 
@@ -107,8 +113,8 @@ access_ends unit (Make access after) outcome told older (inl done) =
     grind (
       arith,
       misses unit access done.2 done.1 older done.7,
-      trying (access_requests unit access) done.0 []
-          (done.1 ++ older) (apt_access unit access (location_in (done.1 ++ older))) done.4,
+      trying (access_requests unit access done.2) done.0 []
+          (done.1 ++ older) (apt_access unit access done.2 (location_in (done.1 ++ older))) done.4,
       append_assoc done.0 done.1
           older,
     )
@@ -135,21 +141,18 @@ walk_misses_in unit plan outcomes told end walk =
     grind (arith, walk_misses unit plan outcomes told end [] walk, append-nil told)
 
 -- a walk that is so long, and older frames that are so long
-pub took_long : (unit : ℕ) (plan : Plan) (told older : List Exchange) (verdict : Verdict) (frames before : ℕ)
-    → Took unit plan told verdict frames → IsLong before older
-    → IsLong (frames + before) (told ++ older)
-took_long unit plan told older verdict frames before took long =
+pub took_long : (pace : Pace) (unit : ℕ) (plan : Plan) (told older : List Exchange) (verdict : Verdict)
+    (frames before : ℕ)
+    → Took pace unit plan told verdict frames → IsLong pace before older
+    → IsLong pace (frames + before) (told ++ older)
+took_long Checked unit plan told older verdict frames before took long =
     let all = walk_misses unit plan took.outcomes told (Finish verdict) older took.walk in
-    let length_is = took.took in
-    let few = took.few in
-    let joined = length_append told older in
-    let least = long.0 in
-    let most = long.1 in
-    (omega arith, omega arith)
-  where
-    length_append : (xs ys : List Exchange) → length (xs ++ ys) ≡ length xs + length ys
-    length_append [] ys = omega arith
-    length_append (x ∷ xs) ys = let rest = length_append xs ys in omega arith
+    let joined = length-append told older in
+    (omega (arith, took.took, long.0), omega (arith, took.took, took.few, long.1))
+took_long Short unit plan told older verdict frames before took long =
+    let all = walk_misses unit plan took.outcomes told (Finish verdict) older took.walk in
+    let joined = length-append told older in
+    (omega (arith, took.took, long.0), omega (arith, took.took, took.few, long.1))
 
 -- older misses are among them
 more_misses : (newer older : List Exchange) → misses_in older ≤ misses_in (newer ++ older)

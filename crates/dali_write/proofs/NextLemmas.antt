@@ -14,7 +14,7 @@ use Rattle.dali_write.specs.declared.ask.Ask.TheVariants.{Send, Ended}
 use Rattle.dali_write.specs.declared.ask.Verdict.TheVariants.{Closed, NotClosed}
 use Rattle.dali_write.specs.declared.ask.Verdict.{Verdict}
 use Rattle.dali_write.specs.declared.access.Access.{Access}
-use Rattle.dali_write.specs.declared.access.Access.TheVariants.{ReadFrom, WriteTo}
+use Rattle.dali_write.specs.declared.access.Access.TheVariants.{ReadFrom, WriteTo, WriteOn}
 use Rattle.dali_write.specs.Requests.{Meets, access_requests}
 use Rattle.dali_write.proofs.DeterminedLemmas.{wants_one}
 use Rattle.dali_write.specs.declared.block.Block.{Block}
@@ -26,6 +26,7 @@ use Rattle.dali_write.proofs.ShapeLemmas.{none_left}
 use Rattle.dali_write.proofs.StandingLemmas.{stands_at_first, stands_on, stands_again, stands_done, stands_failed}
 use Rattle.dali_write.proofs.BlockShapeLemmas.{block_frames_are}
 use Rattle.dali_write.proofs.CountLemmas.{stands_takes, block_takes, close_takes, unlock_takes, read_length_takes}
+use Rattle.dali_write.specs.declared.pace.Pace.{Pace}
 
 -- the answer is as wished, or it isn't
 decides : (wish : Wish) (answer : Option ℕ) → Meets wish answer ⊎ (¬ Meets wish answer)
@@ -43,7 +44,7 @@ first_wanted unit plan = (
     outcomes = [];
     now = plan;
     misses = 0;
-    left = plan_requests unit plan;
+    left = plan_requests unit plan 0;
     bytes = [];
     stands = stands_at_first unit plan;
     ask_is = refl;
@@ -120,18 +121,18 @@ next_wanted unit plan told frame answer w = by w.now w.left w.stands (ask_shown 
         (next_at unit plan w.outcomes told (Make access after) w.misses next left w.bytes answer s)
 
 -- limits
-pub fresh_few : (unit : ℕ) (updates : List (ℕ × ℕ)) (told : List Exchange) (ask : Ask)
-    → Wants unit (read_length updates) told ask → length told ≤ fresh_limit
-fresh_few unit updates told ask w =
-    stands_takes unit (read_length updates) w.outcomes told w.now w.misses w.left w.bytes fresh_limit w.stands
-    (read_length_takes updates)
+pub fresh_few : (unit : ℕ) (pace : Pace) (updates : List (ℕ × ℕ)) (told : List Exchange) (ask : Ask)
+    → Wants unit (read_length pace updates) told ask → length told ≤ fresh_limit
+fresh_few unit pace updates told ask w =
+    stands_takes unit (read_length pace updates) w.outcomes told w.now w.misses w.left w.bytes fresh_limit w.stands
+    (read_length_takes pace updates)
 
-pub opened_few : (unit : ℕ) (updates : List (ℕ × ℕ)) (told : List Exchange) (ask : Ask)
-    → Wants unit (unlock updates) told ask → length told ≤ opened_limit (length updates)
-opened_few unit updates told ask w =
-    stands_takes unit (unlock updates) w.outcomes told w.now w.misses w.left w.bytes
+pub opened_few : (unit : ℕ) (pace : Pace) (updates : List (ℕ × ℕ)) (told : List Exchange) (ask : Ask)
+    → Wants unit (unlock pace updates) told ask → length told ≤ opened_limit (length updates)
+opened_few unit pace updates told ask w =
+    stands_takes unit (unlock pace updates) w.outcomes told w.now w.misses w.left w.bytes
     (opened_limit (length updates)) w.stands
-    (unlock_takes (opened_limit (length updates)) updates (omega arith))
+    (unlock_takes (opened_limit (length updates)) pace updates (omega arith))
 
 pub closing_few : (unit : ℕ) (told : List Exchange) (ask : Ask) → Wants unit (close Closed NotClosed) told ask
     → length told ≤ closing_limit
@@ -157,7 +158,7 @@ sends_first unit (ReadFrom block) after = (
     outcomes = [];
     now = Make (ReadFrom block) after;
     misses = 0;
-    left = access_requests unit (ReadFrom block);
+    left = access_requests unit (ReadFrom block) 0;
     bytes = [];
     stands = stands_at_first unit (Make (ReadFrom block) after);
     ask_is = refl;
@@ -169,9 +170,21 @@ sends_first unit (WriteTo location byte) after = (
     outcomes = [];
     now = Make (WriteTo location byte) after;
     misses = 0;
-    left = access_requests unit (WriteTo location byte);
+    left = access_requests unit (WriteTo location byte) 0;
     bytes = [];
     stands = stands_at_first unit (Make (WriteTo location byte) after);
+    ask_is = refl;
+  },
+)
+sends_first unit (WriteOn location byte) after = (
+  _,
+  record {
+    outcomes = [];
+    now = Make (WriteOn location byte) after;
+    misses = 0;
+    left = access_requests unit (WriteOn location byte) 0;
+    bytes = [];
+    stands = stands_at_first unit (Make (WriteOn location byte) after);
     ask_is = refl;
   },
 )

@@ -159,7 +159,7 @@ pub bytes_are_read : (told : List Exchange) (s : Session) → Told told s → s.
 unfolding Told
 bytes_are_read told s was reading ended =
     let now = plan_at s.task s.stage in
-    let left = drop s.number (plan_requests s.unit now) in
+    let left = drop s.number (plan_requests s.unit now s.misses) in
     ended_reads s.unit told now s.misses left s.tried.items s.bytes.items
     (subst (λ (task : Task). StandsWith task s.unit told now s.misses left s.tried.items s.bytes.items) reading was)
     (ask_shown now left s.going ∙ ended)

@@ -1,5 +1,5 @@
 -- What the verdict of a session rests on: checked reads that stand among what it was told.
-use Rattle.std.proofs.Common.{◌≡◌, ◌⊎◌, inl, inr, refl, sym, subst, ◌∙◌, ℕ, Bool, true, false, ◌==◌, if◌then◌else◌}
+use Rattle.std.proofs.Common.{ap, ◌≡◌, ◌⊎◌, inl, inr, refl, sym, subst, ◌∙◌, ℕ, Bool, true, false, ◌==◌, if◌then◌else◌}
 use Rattle.std.proofs.Common.{List, [], ◌∷◌, ◌++◌, get_or, Option, Some, None}
 use Rattle.std.proofs.lemmas.Bool.{eqb-true}
 use Rattle.std.proofs.lemmas.List.{append_assoc, append-nil}
@@ -9,17 +9,26 @@ use Rattle.dali_write.specs.declared.ask.Ask.TheVariants.{Ended}
 use Rattle.dali_write.specs.declared.ask.Verdict.{Verdict}
 use Rattle.dali_write.specs.declared.ask.Verdict.TheVariants.{MayOpen, Done, Short, Format, Silent, Doubt, DoubtOpen}
 use Rattle.dali_write.specs.declared.ask.Verdict.TheVariants.{Closed, NotClosed}
-use Rattle.dali_write.specs.Plans.{Plan, Finish, read_closed, close, give_up, expect, read_back}
-use Rattle.dali_write.specs.Plans.{read_lock, write_on, unlock}
+use Rattle.dali_write.specs.declared.pace.Pace.{Pace}
+use Rattle.dali_write.specs.declared.access.Access.{Access}
+use Rattle.dali_write.specs.declared.access.Access.TheVariants.{WriteTo}
+use Rattle.dali_write.specs.Plans.{Plan, Finish, Make, either_way, read_closed, close, give_up, expect, read_back}
+use Rattle.dali_write.specs.Plans.{rows_of, most_of, read_backs, read_all_back, write_next, write_on, unlock}
+use Rattle.std.specs.Str.{bytes_eq}
+use Rattle.std.proofs.lemmas.Slice.Eq.{bytes_eq-Decides}
+use Rattle.dali_bus.specs.Hears.{up}
+use Rattle.dali_write.specs.Blocks.{Tells}
+use Rattle.dali_write.proofs.RowLemmas.{AllInRow, AllInRows, all_in_rows, by_index}
+use Rattle.std.proofs.Common.{length, slice_get}
 use Rattle.dali_write.specs.declared.block.Block.{Block}
-use Rattle.dali_write.specs.Requests.{block, read_requests, block_requests}
+use Rattle.dali_write.specs.Requests.{block, moved_on, read_requests, block_requests, each_try}
 use Rattle.dali_write.specs.Tries.{Succeeds, Fails, Wants, bytes_of}
 use Rattle.dali_write.specs.Findings.{Suits, IsTooShort, HasOtherFormat, IsWritten, RestsOn, Rests}
 use Rattle.dali_write.specs.Reads.{IsPassive, EndsInRead, StillRead}
 use Rattle.dali_write.specs.Walks.{Walk}
 use Rattle.dali_write.proofs.AskedLemmas.{IsCalm, Sent, access_sent, block_calm, calm_passive}
 use Rattle.dali_write.proofs.EndLemmas.{ends_reading}
-use Rattle.dali_write.proofs.BlockOneLemmas.{one_tells, tells_one}
+use Rattle.dali_write.proofs.BlockOneLemmas.{access_tells_one}
 use Rattle.dali_write.proofs.VerdictLemmas.{finish_walk, only_older}
 use Rattle.dali_write.proofs.WalkLemmas.{ended_walk}
 
@@ -55,10 +64,13 @@ passive_keeps (x ∷ told) first sent =
 
 -- a read access keeps what stood
 pub read_access_keeps : (unit : ℕ) (block : Block) (outcome : Option (List ℕ)) (told first last : List Exchange)
-    → Succeeds (block_requests unit block) outcome told ⊎ Fails (block_requests unit block) outcome told
+    → Succeeds (each_try (block_requests unit block)) outcome told
+    ⊎ Fails (each_try (block_requests unit block)) outcome told
     → After told first last → KeepsReads first last
 read_access_keeps unit block outcome told first last ends is = λ u l b stands.
-    let calm = access_sent (IsCalm unit) (block_requests unit block) outcome told (block_calm unit block) ends in
+    let calm =
+    access_sent (IsCalm unit) (each_try (block_requests unit block)) outcome told (λ misses. block_calm unit block)
+    ends in
     subst (λ (t : List Exchange). StillRead t u l b) (sym is)
     (passive_keeps told first (calm_passive unit told calm) u l b stands)
 
@@ -82,19 +94,29 @@ older_reads (x ∷ told) older unit location byte (inr (passive, stands)) =
     inr (passive, older_reads told older unit location byte stands)
 
 -- and a read access that didn't fail ends in one
-pub read_access_shows : (unit location : ℕ) (bytes : List ℕ) (told first last : List Exchange)
-    → Succeeds (read_requests unit location) (Some bytes) told
-    ⊎ Fails (read_requests unit location) (Some bytes) told
-    → After told first last
-    → StillRead last unit location (get_or bytes 0 0)
-read_access_shows unit location bytes told first last (inl done) is =
+pub block_shows : (unit : ℕ) (block : Block) (bytes : List ℕ) (told first last : List Exchange)
+    → Succeeds (each_try (block_requests unit block)) (Some bytes) told
+    ⊎ Fails (each_try (block_requests unit block)) (Some bytes) told
+    → After told first last → (index byte : ℕ) → slice_get bytes index ≡ Some byte
+    → StillRead last unit (moved_on block.location index) byte
+block_shows unit block bytes told first last (inl done) is index byte at =
     let parts : last ≡ done.0 ++ (done.1 ++ first) =
     is ∙ (subst (λ (t : List Exchange). told ++ first ≡ t ++ first) done.3 refl ∙ append_assoc done.0 done.1 first) in
-    let same : bytes ≡ bytes_of done.0 = let is = done.5 in cc in
-    let tells = one_tells unit location _ done.0 (tells_one unit location done.0 done.4) in
-    subst (λ (l : List ℕ). StillRead last unit location (get_or l 0 0)) (sym same)
-    (stands_now unit location _ last (done.0, done.1 ++ first, parts, tells))
-read_access_shows unit location bytes told first last (inr failed) is = let never = failed.0 in cc
+    let same : bytes_of done.0 ≡ bytes = let is = done.5 in cc in
+    let tells : Tells unit (moved_on block.location index) byte done.0 =
+    record { block = block; bytes = bytes; read = (done.4, same); index = index; place = refl; there = at } in
+    stands_now unit (moved_on block.location index) byte last (done.0, done.1 ++ first, parts, tells)
+block_shows unit block bytes told first last (inr failed) is index byte at = let never = failed.0 in cc
+
+pub read_access_shows : (unit location : ℕ) (bytes : List ℕ) (told first last : List Exchange)
+    → Succeeds (each_try (read_requests unit location)) (Some bytes) told
+    ⊎ Fails (each_try (read_requests unit location)) (Some bytes) told
+    → After told first last
+    → StillRead last unit location (get_or bytes 0 0)
+read_access_shows unit location bytes told first last ends is =
+    let one = access_tells_one unit location bytes told ends in
+    block_shows unit (block location 1) bytes told first last ends is 0 (get_or bytes 0 0)
+    (ap (λ (l : List ℕ). slice_get l 0) one)
 
 -- it gave the order up
 Gave : ℕ → Verdict → Verdict → Verdict → List Exchange → Type 0
@@ -143,132 +165,135 @@ gave_up unit updates verdict last (inl is) = subst (λ (v : Verdict). Rests (Sti
 gave_up unit updates verdict last (inr gave) =
     subst (λ (v : Verdict). Rests (StillRead last unit) updates v) (sym gave.0) gave.1
 
--- the location held the byte, and the plan went on; or it gave the order up
-record Went (unit location byte : ℕ) (after : Plan) (verdict : Verdict) (first last : List Exchange) : Type 0 where
+-- what the rows show goes on to stand
+row_kept : (first last : List Exchange) (unit location : ℕ) (bytes : List ℕ)
+    → AllInRow (StillRead first unit) location bytes → KeepsReads first last
+    → AllInRow (StillRead last unit) location bytes
+row_kept first last unit location [] all keeps = tt
+row_kept first last unit location (byte ∷ bytes) all keeps =
+    (keeps unit location byte all.0, row_kept first last unit (up location) bytes all.1 keeps)
+
+-- the unit held the row, and the plan went on; or it gave the order up
+record Went (unit location : ℕ) (bytes : List ℕ) (after : Plan) (verdict : Verdict) (first last : List Exchange)
+    : Type 0 where
   mid : List Exchange
   outcomes : List (Option (List ℕ))
   newer : List Exchange
   walk : Walk unit after outcomes newer (Finish verdict)
   run : After newer mid last
-  shows : StillRead mid unit location byte
+  shows : AllInRow (StillRead mid unit) location bytes
   keeps : KeepsReads first mid
 
-expect_rests : (unit location byte : ℕ) (after : Plan) (verdict : Verdict) (outcomes : List (Option (List ℕ)))
-    (told : List Exchange) (first last : List Exchange)
-    → Walk unit (expect location byte after) outcomes told (Finish verdict) → After told first last
-    → Went unit location byte after verdict first last ⊎ Gave unit Doubt DoubtOpen verdict last
-expect_rests unit location byte after verdict [] told first last walk run = let no = walk.1 in cc
-expect_rests unit location byte after verdict (None ∷ outcomes) told first last walk run =
+expect_rests : (unit location : ℕ) (bytes : List ℕ) (after : Plan) (verdict : Verdict)
+    (outcomes : List (Option (List ℕ))) (told : List Exchange) (first last : List Exchange)
+    → Walk unit (expect location bytes after) outcomes told (Finish verdict) → After told first last
+    → Went unit location bytes after verdict first last ⊎ Gave unit Doubt DoubtOpen verdict last
+expect_rests unit location bytes after verdict [] told first last walk run = let no = walk.1 in cc
+expect_rests unit location bytes after verdict (None ∷ outcomes) told first last walk run =
     let parts = split walk.0 walk.1 first last (subst (λ (t : List Exchange). After t first last) walk.2 run) in
     inr (close_rests unit Doubt DoubtOpen verdict outcomes walk.0 parts.0 last walk.4 parts.2)
-expect_rests unit location byte after verdict (Some found ∷ outcomes) told first last walk run =
+expect_rests unit location bytes after verdict (Some read ∷ outcomes) told first last walk run =
     let parts = split walk.0 walk.1 first last (subst (λ (t : List Exchange). After t first last) walk.2 run) in
-    let shows = read_access_shows unit location found walk.1 first parts.0 walk.3 parts.1 in
-    let keeps = read_access_keeps unit (block location 1) (Some found) walk.1 first parts.0 walk.3 parts.1 in
-    by parts.0 parts.2 shows keeps (get_or found 0 0 == byte) refl walk.4 where
-      by : (mid : List Exchange) → After walk.0 mid last → StillRead mid unit location (get_or found 0 0)
+    let row = block location (length bytes) in
+    let shows = by_index (StillRead parts.0 unit) location read
+    (block_shows unit row read walk.1 first parts.0 walk.3 parts.1) in
+    let keeps = read_access_keeps unit row (Some read) walk.1 first parts.0 walk.3 parts.1 in
+    by parts.0 parts.2 shows keeps (bytes_eq read bytes) refl walk.4 where
+      by : (mid : List Exchange) → After walk.0 mid last → AllInRow (StillRead mid unit) location read
           → (KeepsReads first mid)
-          → (t : Bool) → (get_or found 0 0 == byte) ≡ t
+          → (t : Bool) → bytes_eq read bytes ≡ t
           → Walk unit (if t then after else give_up) outcomes walk.0 (Finish verdict)
-          → Went unit location byte after verdict first last ⊎ Gave unit Doubt DoubtOpen verdict last
+          → Went unit location bytes after verdict first last ⊎ Gave unit Doubt DoubtOpen verdict last
       by mid run shows keeps true same on =
-          let is = eqb-true (get_or found 0 0) byte same in
           inl (record {
             mid = mid;
             outcomes = outcomes;
             newer = walk.0;
             walk = on;
             run = run;
-            shows = subst (λ (b : ℕ). StillRead mid unit location b) is shows;
+            shows = subst (λ (l : List ℕ). AllInRow (StillRead mid unit) location l)
+                ((bytes_eq-Decides read bytes).0 same) shows;
             keeps = keeps;
           })
       by mid run shows keeps false differs on =
           inr (close_rests unit Doubt DoubtOpen verdict outcomes walk.0 mid last on run)
 
 -- all bytes were read back
-record Held (unit : ℕ) (updates : List (ℕ × ℕ)) (verdict : Verdict) (first last : List Exchange) : Type 0 where
+record Held (unit : ℕ) (rows : List (ℕ × List ℕ)) (verdict : Verdict) (first last : List Exchange) : Type 0 where
   done : verdict ≡ Done
-  shows : AllByRecursion (λ update. StillRead last unit update.0 update.1) updates
+  shows : AllInRows (StillRead last unit) rows
   keeps : KeepsReads first last
 
-read_back_rests : (unit : ℕ) (updates : List (ℕ × ℕ)) (verdict : Verdict) (outcomes : List (Option (List ℕ)))
+read_back_rests : (unit : ℕ) (rows : List (ℕ × List ℕ)) (verdict : Verdict) (outcomes : List (Option (List ℕ)))
     (told : List Exchange) (first last : List Exchange)
-    → Walk unit (read_back updates) outcomes told (Finish verdict) → After told first last
-    → Held unit updates verdict first last ⊎ Gave unit Doubt DoubtOpen verdict last
+    → Walk unit (read_back rows) outcomes told (Finish verdict) → After told first last
+    → Held unit rows verdict first last ⊎ Gave unit Doubt DoubtOpen verdict last
 read_back_rests unit [] verdict outcomes told first last walk run =
     let end = finish_walk unit Done outcomes told (Finish verdict) walk in
     let same = end.1 in
     let done : verdict ≡ Done = cc in
     let still : last ≡ first = subst (λ (t : List Exchange). After t first last) end.0 run in
     inl (record { done = done; shows = tt; keeps = keeps_none first last still })
-read_back_rests unit (update ∷ updates) verdict outcomes told first last walk run =
-    elim (expect_rests unit update.0 update.1 (read_back updates) verdict outcomes told first last walk run) [
+read_back_rests unit (row ∷ rows) verdict outcomes told first last walk run =
+    elim (expect_rests unit row.0 row.1 (read_back rows) verdict outcomes told first last walk run) [
       | inr gave ↦ inr gave
       | inl went ↦
-          elim (read_back_rests unit updates verdict went.outcomes went.newer went.mid last went.walk went.run) [
+          elim (read_back_rests unit rows verdict went.outcomes went.newer went.mid last went.walk went.run) [
             | inr gave ↦ inr gave
             | inl held ↦ inl (record {
               done = held.done;
-              shows = (shows_kept went.mid last unit update.0 update.1 went.shows held.keeps, held.shows);
+              shows = (row_kept went.mid last unit row.0 row.1 went.shows held.keeps, held.shows);
               keeps = keeps_then first went.mid last went.keeps held.keeps;
             })
           ]
     ]
 
-read_lock_rests : (unit : ℕ) (updates : List (ℕ × ℕ)) (verdict : Verdict) (outcomes : List (Option (List ℕ)))
-    (told : List Exchange) (first last : List Exchange)
-    → Walk unit (read_lock updates) outcomes told (Finish verdict) → After told first last
+-- each walk of the plan rests on what it must
+abbrev RestsSo : ℕ → List (ℕ × ℕ) → Verdict → List Exchange → Plan → Type 0
+RestsSo unit updates verdict last plan =
+    (outcomes : List (Option (List ℕ))) (told first : List Exchange)
+    → Walk unit plan outcomes told (Finish verdict) → After told first last
     → Rests (StillRead last unit) updates verdict
-read_lock_rests unit updates verdict outcomes told first last walk run =
-    elim (expect_rests unit 2 0xFF (read_back updates) verdict outcomes told first last walk run) [
+
+read_all_back_rests : (unit : ℕ) (pace : Pace) (updates : List (ℕ × ℕ)) (verdict : Verdict) (last : List Exchange)
+    → RestsSo unit updates verdict last (read_all_back pace updates)
+read_all_back_rests unit pace updates verdict last outcomes told first walk run =
+    elim (read_back_rests unit (rows_of (most_of pace) (read_backs updates)) verdict outcomes told first last walk
+    run) [
       | inr gave ↦ gave_up unit updates verdict last gave
-      | inl went ↦
-          elim (read_back_rests unit updates verdict went.outcomes went.newer went.mid last went.walk went.run) [
-            | inr gave ↦ gave_up unit updates verdict last gave
-            | inl held ↦ subst (λ (v : Verdict). Rests (StillRead last unit) updates v) (sym held.done)
-                (shows_kept went.mid last unit 2 0xFF went.shows held.keeps, held.shows)
-          ]
+      | inl held ↦ subst (λ (v : Verdict). Rests (StillRead last unit) updates v) (sym held.done)
+          (all_in_rows (StillRead last unit) (most_of pace) (read_backs updates) held.shows)
     ]
 
-write_on_rests : (unit : ℕ) (updates left : List (ℕ × ℕ)) (verdict : Verdict) (outcomes : List (Option (List ℕ)))
-    (told : List Exchange) (first last : List Exchange)
-    → Walk unit (write_on updates left) outcomes told (Finish verdict) → After told first last
-    → Rests (StillRead last unit) updates verdict
-write_on_rests unit updates [] verdict [] told first last walk run = let no = walk.1 in cc
-write_on_rests unit updates [] verdict (None ∷ outcomes) told first last walk run =
+-- a write, after which the session goes on or gives up
+write_rests : (unit : ℕ) (access : Access) (after : Plan) (updates : List (ℕ × ℕ)) (verdict : Verdict)
+    (last : List Exchange)
+    → RestsSo unit updates verdict last after
+    → RestsSo unit updates verdict last (Make access (either_way give_up (λ bytes. after)))
+write_rests unit access after updates verdict last rest [] told first walk run = let no = walk.1 in cc
+write_rests unit access after updates verdict last rest (None ∷ outcomes) told first walk run =
     let parts = split walk.0 walk.1 first last (subst (λ (t : List Exchange). After t first last) walk.2 run) in
     gave_up unit updates verdict last
     (close_rests unit Doubt DoubtOpen verdict outcomes walk.0 parts.0 last walk.4 parts.2)
-write_on_rests unit updates [] verdict (Some byte ∷ outcomes) told first last walk run =
+write_rests unit access after updates verdict last rest (Some bytes ∷ outcomes) told first walk run =
     let parts = split walk.0 walk.1 first last (subst (λ (t : List Exchange). After t first last) walk.2 run) in
-    read_lock_rests unit updates verdict outcomes walk.0 parts.0 last walk.4 parts.2
-write_on_rests unit updates (update ∷ left) verdict [] told first last walk run = let no = walk.1 in cc
-write_on_rests unit updates (update ∷ left) verdict (None ∷ outcomes) told first last walk run =
-    let parts = split walk.0 walk.1 first last (subst (λ (t : List Exchange). After t first last) walk.2 run) in
-    gave_up unit updates verdict last
-    (close_rests unit Doubt DoubtOpen verdict outcomes walk.0 parts.0 last walk.4 parts.2)
-write_on_rests unit updates (update ∷ left) verdict (Some byte ∷ outcomes) told first last walk run =
-    let parts = split walk.0 walk.1 first last (subst (λ (t : List Exchange). After t first last) walk.2 run) in
-    write_on_rests unit updates left verdict outcomes walk.0 parts.0 last walk.4 parts.2
+    rest outcomes walk.0 parts.0 walk.4 parts.2
 
-unlock_rests : (unit : ℕ) (updates : List (ℕ × ℕ)) (verdict : Verdict) (outcomes : List (Option (List ℕ)))
-    (told : List Exchange) (first last : List Exchange)
-    → Walk unit (unlock updates) outcomes told (Finish verdict) → After told first last
-    → Rests (StillRead last unit) updates verdict
-unlock_rests unit updates verdict [] told first last walk run = let no = walk.1 in cc
-unlock_rests unit updates verdict (None ∷ outcomes) told first last walk run =
-    let parts = split walk.0 walk.1 first last (subst (λ (t : List Exchange). After t first last) walk.2 run) in
-    gave_up unit updates verdict last
-    (close_rests unit Doubt DoubtOpen verdict outcomes walk.0 parts.0 last walk.4 parts.2)
-unlock_rests unit updates verdict (Some byte ∷ outcomes) told first last walk run =
-    let parts = split walk.0 walk.1 first last (subst (λ (t : List Exchange). After t first last) walk.2 run) in
-    write_on_rests unit updates updates verdict outcomes walk.0 parts.0 last walk.4 parts.2
+write_on_rests : (unit : ℕ) (pace : Pace) (updates left : List (ℕ × ℕ)) (verdict : Verdict) (last : List Exchange)
+    → RestsSo unit updates verdict last (write_on pace updates left)
+write_on_rests unit pace updates [] verdict last =
+    write_rests unit (write_next pace 2 0xFF) (read_all_back pace updates) updates verdict last
+    (read_all_back_rests unit pace updates verdict last)
+write_on_rests unit pace updates (update ∷ left) verdict last =
+    write_rests unit (write_next pace update.0 update.1) (write_on pace updates left) updates verdict last
+    (write_on_rests unit pace updates left verdict last)
 
-pub opened_rests : (told : List Exchange) (unit : ℕ) (updates : List (ℕ × ℕ)) (verdict : Verdict)
-    → Wants unit (unlock updates) told (Ended verdict) → Rests (StillRead told unit) updates verdict
-opened_rests told unit updates verdict wants =
-    let ended = ended_walk unit (unlock updates) told verdict wants in
-    unlock_rests unit updates verdict ended.0 told [] told ended.1 (sym (append-nil told))
+pub opened_rests : (told : List Exchange) (unit : ℕ) (pace : Pace) (updates : List (ℕ × ℕ)) (verdict : Verdict)
+    → Wants unit (unlock pace updates) told (Ended verdict) → Rests (StillRead told unit) updates verdict
+opened_rests told unit pace updates verdict wants =
+    let ended = ended_walk unit (unlock pace updates) told verdict wants in
+    write_rests unit (WriteTo 2 0x55) (write_on pace updates updates) updates verdict told
+    (write_on_rests unit pace updates updates verdict told) ended.0 told [] ended.1 (sym (append-nil told))
 
 closed : (unit : ℕ) (verdict : Verdict) (last : List Exchange) → Gave unit Closed NotClosed verdict last
     → Rests (StillRead last unit) [] verdict

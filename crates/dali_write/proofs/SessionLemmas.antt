@@ -24,15 +24,18 @@ use Rattle.dali_write.proofs.RestLemmas.{opened_rests, closing_rests}
 use Rattle.dali_write.proofs.FreshRestLemmas.{fresh_rests}
 use Rattle.dali_write.proofs.KindLemmas.{fresh_ends, opened_ends, closing_ends}
 use Rattle.dali_write.proofs.UnreachedLemmas.{closing_unread}
+use Rattle.dali_write.specs.declared.pace.Pace.{Pace}
 
-pub fresh_wants : (order : Contents) (told : List Exchange) (s : Session) (ask : Ask) → IsFresh order s → Told told s
-    → aim_of s ≡ ask → Wants order.unit (read_length order.updates) told ask
-fresh_wants order told s ask is is_told aim =
+pub fresh_wants : (order : Contents) (pace : Pace) (told : List Exchange) (s : Session) (ask : Ask)
+    → IsFresh order pace s → Told told s
+    → aim_of s ≡ ask → Wants order.unit (read_length pace order.updates) told ask
+fresh_wants order pace told s ask is is_told aim =
     rw (← is.0, ← aim) (subst (λ task. Wants s.unit (plan_of task) told (aim_of s)) is.1 (told_wants told s is_told))
 
-pub opened_wants : (order : Contents) (told : List Exchange) (s : Session) (ask : Ask) → IsOpened order s → Told told s
-    → aim_of s ≡ ask → Wants order.unit (unlock order.updates) told ask
-opened_wants order told s ask is is_told aim =
+pub opened_wants : (order : Contents) (pace : Pace) (told : List Exchange) (s : Session) (ask : Ask)
+    → IsOpened order pace s → Told told s
+    → aim_of s ≡ ask → Wants order.unit (unlock pace order.updates) told ask
+opened_wants order pace told s ask is is_told aim =
     rw (← is.0, ← aim) (subst (λ task. Wants s.unit (plan_of task) told (aim_of s)) is.1 (told_wants told s is_told))
 
 pub closing_wants : (unit : ℕ) (told : List Exchange) (s : Session) (ask : Ask) → IsClosing unit s → Told told s
@@ -40,36 +43,40 @@ pub closing_wants : (unit : ℕ) (told : List Exchange) (s : Session) (ask : Ask
 closing_wants unit told s ask is is_told aim =
     rw (← is.0, ← aim) (subst (λ task. Wants s.unit (plan_of task) told (aim_of s)) is.1 (told_wants told s is_told))
 
-pub fresh_sends : (order : Contents) (told : List Exchange) (s : Session) (frame : Frame) → IsFresh order s
-    → Told told s → aim_of s ≡ Send frame → IsGuarded [] order.unit told frame
-fresh_sends order told s frame is is_told aim =
-    calm_guarded order.unit (read_length order.updates) told frame (length_calm order.unit order.updates)
-    (fresh_wants order told s (Send frame) is is_told aim)
+pub fresh_sends : (order : Contents) (pace : Pace) (told : List Exchange) (s : Session) (frame : Frame)
+    → IsFresh order pace s → Told told s → aim_of s ≡ Send frame → IsGuarded [] order.unit told frame
+fresh_sends order pace told s frame is is_told aim =
+    calm_guarded order.unit (read_length pace order.updates) told frame (length_calm order.unit pace order.updates)
+    (fresh_wants order pace told s (Send frame) is is_told aim)
 
-pub opened_sends : (order : Contents) (told : List Exchange) (s : Session) (frame : Frame) → IsOpened order s
-    → Told told s → aim_of s ≡ Send frame
+pub opened_sends : (order : Contents) (pace : Pace) (told : List Exchange) (s : Session) (frame : Frame)
+    → IsOpened order pace s → Told told s → aim_of s ≡ Send frame
     → IsGuarded (writes_of order.updates) order.unit told frame
-opened_sends order told s frame is is_told aim =
-    opened_guarded told order.unit order.updates frame (opened_wants order told s (Send frame) is is_told aim)
+opened_sends order pace told s frame is is_told aim =
+    opened_guarded told order.unit pace order.updates frame (opened_wants order pace told s (Send frame) is is_told aim)
 
 pub closing_sends : (unit : ℕ) (told : List Exchange) (s : Session) (frame : Frame) → IsClosing unit s → Told told s
     → aim_of s ≡ Send frame → IsGuarded ((2, 0xFF) ∷ []) unit told frame
 closing_sends unit told s frame is is_told aim =
     closing_guarded told unit frame (closing_wants unit told s (Send frame) is is_told aim)
 
-pub fresh_over : (order : Contents) (told : List Exchange) (s : Session) (verdict : Verdict) → IsFresh order s
-    → Told told s → aim_of s ≡ Ended verdict
+pub fresh_over : (order : Contents) (pace : Pace) (told : List Exchange) (s : Session) (verdict : Verdict)
+    → IsFresh order pace s → Told told s → aim_of s ≡ Ended verdict
     → EndsFresh verdict × Rests (StillRead told order.unit) order.updates verdict
-fresh_over order told s verdict is is_told aim =
-    let wants = fresh_wants order told s (Ended verdict) is is_told aim in
-    (fresh_ends told order.unit order.updates verdict wants, fresh_rests told order.unit order.updates verdict wants)
+fresh_over order pace told s verdict is is_told aim =
+    let wants = fresh_wants order pace told s (Ended verdict) is is_told aim in (
+      fresh_ends told order.unit pace order.updates verdict wants,
+      fresh_rests told order.unit pace order.updates verdict wants,
+    )
 
-pub opened_over : (order : Contents) (told : List Exchange) (s : Session) (verdict : Verdict) → IsOpened order s
-    → Told told s → aim_of s ≡ Ended verdict
+pub opened_over : (order : Contents) (pace : Pace) (told : List Exchange) (s : Session) (verdict : Verdict)
+    → IsOpened order pace s → Told told s → aim_of s ≡ Ended verdict
     → EndsOpened verdict × Rests (StillRead told order.unit) order.updates verdict
-opened_over order told s verdict is is_told aim =
-    let wants = opened_wants order told s (Ended verdict) is is_told aim in
-    (opened_ends told order.unit order.updates verdict wants, opened_rests told order.unit order.updates verdict wants)
+opened_over order pace told s verdict is is_told aim =
+    let wants = opened_wants order pace told s (Ended verdict) is is_told aim in (
+      opened_ends told order.unit pace order.updates verdict wants,
+      opened_rests told order.unit pace order.updates verdict wants,
+    )
 
 pub closing_over : (unit : ℕ) (told : List Exchange) (s : Session) (verdict : Verdict) → IsClosing unit s → Told told s
     → aim_of s ≡ Ended verdict

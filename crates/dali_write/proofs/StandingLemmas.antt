@@ -1,24 +1,26 @@
 -- How a session's standing goes on.
-use Rattle.std.proofs.Common.{◌≡◌, refl, sym, ap, subst, ◌∙◌, inl, inr, ℕ, suc, ◌<◌, ◌≤◌, List, [], ◌∷◌, ◌++◌}
+use Rattle.std.proofs.Common.{◌≡◌, refl, sym, ap, subst, ◌∙◌, inl, inr, ℕ, zero, suc, ◌<◌, ◌≤◌, List, [], ◌∷◌, ◌++◌}
 use Rattle.std.proofs.Common.{append_assoc, Option, Some, None, arith}
 use Rattle.dali_frame.specs.declared.forward.Frame.{Frame}
 use Rattle.dali_write.specs.Exchanges.{Exchange}
 use Rattle.dali_write.specs.declared.request.Request.{Request}
 use Rattle.dali_write.specs.declared.request.Wish.{Wish}
-use Rattle.dali_write.specs.declared.access.Access.TheVariants.{ReadFrom, WriteTo}
+use Rattle.dali_write.specs.declared.access.Access.TheVariants.{ReadFrom, WriteTo, WriteOn}
 use Rattle.dali_write.specs.Requests.{Meets, request, read_answer}
 use Rattle.dali_write.specs.Plans.{Plan, Finish, Make, next_plan, plan_after}
 use Rattle.dali_write.specs.Tries.{most_tries, Trying, Misses, bytes_of, AccessEnds, AccessesEnd, plan_requests, IsGoing}
 use Rattle.dali_write.specs.Tries.{Stands}
 use Rattle.dali_write.proofs.ShapeLemmas.{none_left}
 
-pub goes_first : (unit : ℕ) (plan : Plan) → IsGoing plan (plan_requests unit plan)
-goes_first unit (Finish verdict) = refl
-goes_first unit (Make (ReadFrom block) after) = refl
-goes_first unit (Make (WriteTo location byte) after) = refl
+pub goes_first : (unit : ℕ) (plan : Plan) (misses : ℕ) → IsGoing plan (plan_requests unit plan misses)
+goes_first unit (Finish verdict) misses = refl
+goes_first unit (Make (ReadFrom block) after) misses = refl
+goes_first unit (Make (WriteTo location byte) after) misses = refl
+goes_first unit (Make (WriteOn location byte) after) zero = refl
+goes_first unit (Make (WriteOn location byte) after) (suc misses) = refl
 
 -- at the beginning
-pub stands_at_first : (unit : ℕ) (plan : Plan) → Stands unit plan [] [] plan 0 (plan_requests unit plan) []
+pub stands_at_first : (unit : ℕ) (plan : Plan) → Stands unit plan [] [] plan 0 (plan_requests unit plan 0) []
 stands_at_first unit plan = grind (arith, goes_first unit plan)
 
 -- the frame at hand got what it wants
@@ -49,7 +51,7 @@ pub stands_again : (unit : ℕ) (plan : Plan) (outcomes : List (Option (List ℕ
     → Stands unit plan outcomes told now misses (request frame wish ∷ left) bytes → ¬ Meets wish answer
     → suc misses < most_tries
     → Stands unit plan outcomes (record { frame = frame; answer = answer } ∷ told) now (suc misses)
-    (plan_requests unit now) []
+    (plan_requests unit now (suc misses)) []
 stands_again unit plan outcomes told now misses left bytes frame answer wish s misses_it few =
     let x : Exchange = record { frame = frame; answer = answer } in
     record {
@@ -63,7 +65,7 @@ stands_again unit plan outcomes told now misses left bytes frame answer wish s m
       misses_are = (x ∷ s.tried, s.missed, refl, (wish, left, misses_it, s.try), s.misses_are);
       try = refl;
       bytes_are = refl;
-      going = goes_first unit now;
+      going = goes_first unit now (suc misses);
     }
 
 -- the access ended
@@ -72,7 +74,7 @@ pub ends_access : (unit : ℕ) (plan : Plan) (told : List Exchange) (now : Plan)
     → told ≡ newer ++ ended → AccessesEnd unit plan outcomes ended → plan_after plan outcomes ≡ now
     → AccessEnds unit now outcome newer
     → Stands unit plan (outcome ∷ outcomes) told (next_plan now outcome) 0
-    (plan_requests unit (next_plan now outcome)) []
+    (plan_requests unit (next_plan now outcome) 0) []
 ends_access unit plan told now outcomes ended newer outcome parts accesses now_is ends =
     record {
       ended = told;
@@ -91,13 +93,14 @@ ends_access unit plan told now outcomes ended newer outcome parts accesses now_i
       misses_are = refl;
       try = refl;
       bytes_are = refl;
-      going = goes_first unit (next_plan now outcome);
+      going = goes_first unit (next_plan now outcome) 0;
     }
 
 pub done_ends : (unit : ℕ) (now : Plan) (misses : ℕ) (tried missed : List Exchange) (bytes : List ℕ) (frame : Frame)
     (answer : Option ℕ) (wish : Wish)
     → misses < most_tries → Misses (plan_requests unit now) misses missed
-    → Trying (plan_requests unit now) tried (request frame wish ∷ []) → bytes_of tried ≡ bytes → Meets wish answer
+    → Trying (plan_requests unit now misses) tried (request frame wish ∷ []) → bytes_of tried ≡ bytes
+    → Meets wish answer
     → AccessEnds unit now (Some (bytes ++ read_answer frame answer))
     ((record { frame = frame; answer = answer } ∷ tried) ++ missed)
 done_ends unit (Finish verdict) misses tried missed bytes frame answer wish few are try is meets =
@@ -117,7 +120,7 @@ done_ends unit (Make access after) misses tried missed bytes frame answer wish f
 
 pub failed_ends : (unit : ℕ) (now : Plan) (tried missed : List Exchange) (frame : Frame) (answer : Option ℕ)
     (wish : Wish) (left : List Request)
-    → Misses (plan_requests unit now) 7 missed → Trying (plan_requests unit now) tried (request frame wish ∷ left)
+    → Misses (plan_requests unit now) 7 missed → Trying (plan_requests unit now 7) tried (request frame wish ∷ left)
     → ¬ Meets wish answer
     → AccessEnds unit now None ((record { frame = frame; answer = answer } ∷ tried) ++ missed)
 failed_ends unit (Finish verdict) tried missed frame answer wish left are try misses_it = grind (arith, none_left)
@@ -133,7 +136,7 @@ pub stands_done : (unit : ℕ) (plan : Plan) (outcomes : List (Option (List ℕ)
     → Stands unit plan (Some (bytes ++ read_answer frame answer) ∷ outcomes)
     (record { frame = frame; answer = answer } ∷ told) (next_plan now (Some (bytes ++ read_answer frame answer)))
     0
-    (plan_requests unit (next_plan now (Some (bytes ++ read_answer frame answer)))) []
+    (plan_requests unit (next_plan now (Some (bytes ++ read_answer frame answer))) 0) []
 stands_done unit plan outcomes told now misses bytes frame answer wish s meets =
     search (
       arith,
@@ -148,11 +151,12 @@ pub stands_failed : (unit : ℕ) (plan : Plan) (outcomes : List (Option (List �
     (misses : ℕ) (left : List Request) (bytes : List ℕ) (frame : Frame) (answer : Option ℕ) (wish : Wish)
     → Stands unit plan outcomes told now misses (request frame wish ∷ left) bytes → ¬ Meets wish answer → 7 ≤ misses
     → Stands unit plan (None ∷ outcomes) (record { frame = frame; answer = answer } ∷ told) (next_plan now None) 0
-    (plan_requests unit (next_plan now None)) []
+    (plan_requests unit (next_plan now None) 0) []
 stands_failed unit plan outcomes told now misses left bytes frame answer wish s misses_it many =
     let x : Exchange = record { frame = frame; answer = answer } in
     let seven : misses ≡ 7 = let few = s.few in omega arith in
     ends_access unit plan (x ∷ told) now outcomes s.ended ((x ∷ s.tried) ++ s.missed) None
     (ap (λ (t : List Exchange). x ∷ t) (s.parts ∙ sym (append_assoc s.tried s.missed s.ended))) s.accesses s.now_is
     (failed_ends unit now s.tried s.missed frame answer wish left
-    (subst (λ (m : ℕ). Misses (plan_requests unit now) m s.missed) seven s.misses_are) s.try misses_it)
+    (subst (λ (m : ℕ). Misses (plan_requests unit now) m s.missed) seven s.misses_are)
+    (subst (λ (m : ℕ). Trying (plan_requests unit now m) s.tried (request frame wish ∷ left)) seven s.try) misses_it)

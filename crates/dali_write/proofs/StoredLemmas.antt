@@ -9,13 +9,16 @@ use Rattle.dali_gear.specs.UnitState.{BankState, UnitState, with_byte}
 use Rattle.dali_gear.specs.SimState.{SimState}
 use Rattle.dali_write.specs.declared.access.Access.{Access}
 use Rattle.dali_write.specs.declared.block.Block.{Block}
-use Rattle.dali_write.specs.declared.access.Access.TheVariants.{ReadFrom, WriteTo}
+use Rattle.dali_write.specs.declared.access.Access.TheVariants.{ReadFrom, WriteTo, WriteOn}
 use Rattle.dali_write.specs.Requests.{access_requests}
 use Rattle.dali_write.specs.Tries.{most_tries, Succeeds, Fails}
 use Rattle.dali_write.specs.Losses.{IsAlone, OnlyDiffers}
-use Rattle.dali_write.proofs.KeptLemmas.{Keeps, after_misses, after_success}
+use Rattle.dali_write.proofs.KeptLemmas.{Keeps, HasPut, after_misses, after_success}
 use Rattle.dali_write.proofs.RunLemmas.{Leads}
 use Rattle.dali_gear.specs.SimState.{SimStep}
+use Rattle.dali_write.specs.declared.pace.Pace.{Pace}
+use Rattle.dali_write.specs.declared.pace.Pace.TheVariants.{Checked, Short}
+use Rattle.dali_write.specs.Plans.{write_next}
 
 get_other : (xs : List ℕ) (i x j : ℕ) → j ≢ i → slice_get (slice_set xs i x) j ≡ slice_get xs j
 get_other xs i x j other = grind (arith, common_steps, gets)
@@ -27,16 +30,29 @@ stored : (old : BankState) (location byte : ℕ) (bank : BankState) → OnlyDiff
     → OnlyDiffers old location (with_byte bank location byte)
 stored old location byte bank so = grind (arith, get_other, length-set bank.bytes location byte)
 
-pub write_stored : (loses : ℕ → Type 0) (at location byte : ℕ) (unit : UnitState) (outcome : Option (List ℕ))
-    (told : List Exchange) (first last : SimState)
+-- a write that succeeded has stored its byte and nothing else, and the unit is enabled
+pub write_done : (loses : ℕ → Type 0) (pace : Pace) (at location byte : ℕ) (unit : UnitState)
+    (outcome : Option (List ℕ)) (told : List Exchange) (first last : SimState)
     → Leads SimStep loses told first last → (loses at → ⊥)
-    → IsAlone at unit first.units → Succeeds (access_requests at (WriteTo location byte)) outcome told
+    → IsAlone at unit first.units → Succeeds (access_requests at (write_next pace location byte)) outcome told
+    → (now : UnitState) × IsAlone at now last.units × OnlyDiffers unit.bank1 location now.bank1
+    × HasPut location byte now
+write_done loses Checked at location byte unit outcome told first last run keeps_power alone done =
+    after_success loses (OnlyDiffers unit.bank1 location) at (WriteTo location byte) unit outcome told first last run
+    keeps_power alone (same location unit.bank1) (stored unit.bank1 location byte) done
+write_done loses Short at location byte unit outcome told first last run keeps_power alone done =
+    after_success loses (OnlyDiffers unit.bank1 location) at (WriteOn location byte) unit outcome told first last run
+    keeps_power alone (same location unit.bank1) (stored unit.bank1 location byte) done
+
+pub write_stored : (loses : ℕ → Type 0) (pace : Pace) (at location byte : ℕ) (unit : UnitState)
+    (outcome : Option (List ℕ)) (told : List Exchange) (first last : SimState)
+    → Leads SimStep loses told first last → (loses at → ⊥)
+    → IsAlone at unit first.units → Succeeds (access_requests at (write_next pace location byte)) outcome told
     → (now : UnitState) × IsAlone at now last.units × OnlyDiffers unit.bank1 location now.bank1
     × (slice_get now.bank1.bytes location ≡ Some byte)
-write_stored loses at location byte unit outcome told first last run keeps_power alone done =
-    after_success loses (OnlyDiffers unit.bank1 location) at (WriteTo location byte) unit outcome told first last run
-    keeps_power alone
-    (same location unit.bank1) (stored unit.bank1 location byte) done
+write_stored loses pace at location byte unit outcome told first last run keeps_power alone done =
+    let all = write_done loses pace at location byte unit outcome told first last run keeps_power alone done in
+    (all.0, all.1, all.2, all.3.0)
 
 -- an access that came to its end, either way
 kept_by : (loses : ℕ → Type 0) (keep : BankState → Type 0) (at : ℕ) (access : Access) (unit : UnitState)
@@ -63,14 +79,16 @@ read_keeps loses at block unit outcome told first last run keeps_power alone end
     kept_by loses (λ bank. bank ≡ unit.bank1) at (ReadFrom block) unit outcome told first last run keeps_power alone
     refl tt ends
 
-pub write_keeps : (loses : ℕ → Type 0) (at location byte : ℕ) (unit : UnitState) (outcome : Option (List ℕ))
-    (told : List Exchange) (first last : SimState)
+pub write_keeps : (loses : ℕ → Type 0) (pace : Pace) (at location byte : ℕ) (unit : UnitState)
+    (outcome : Option (List ℕ)) (told : List Exchange) (first last : SimState)
     → Leads SimStep loses told first last → (loses at → ⊥)
     → IsAlone at unit first.units
-    → Succeeds (access_requests at (WriteTo location byte)) outcome told
-    ⊎ Fails (access_requests at (WriteTo location byte)) outcome told
+    → Succeeds (access_requests at (write_next pace location byte)) outcome told
+    ⊎ Fails (access_requests at (write_next pace location byte)) outcome told
     → (now : UnitState) × IsAlone at now last.units × OnlyDiffers unit.bank1 location now.bank1
-write_keeps loses at location byte unit outcome told first last run keeps_power alone ends =
+write_keeps loses Checked at location byte unit outcome told first last run keeps_power alone ends =
     kept_by loses (OnlyDiffers unit.bank1 location) at (WriteTo location byte) unit outcome told first last run
-    keeps_power alone
-    (same location unit.bank1) (stored unit.bank1 location byte) ends
+    keeps_power alone (same location unit.bank1) (stored unit.bank1 location byte) ends
+write_keeps loses Short at location byte unit outcome told first last run keeps_power alone ends =
+    kept_by loses (OnlyDiffers unit.bank1 location) at (WriteOn location byte) unit outcome told first last run
+    keeps_power alone (same location unit.bank1) (stored unit.bank1 location byte) ends

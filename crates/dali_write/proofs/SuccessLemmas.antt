@@ -1,5 +1,5 @@
 -- Along the simulated bus a session that loses little goes its way.
-use Rattle.std.proofs.Common.{◌≡◌, ◌≢◌, ◌⊎◌, inl, inr, refl, sym, ap, subst, ◌∙◌, ℕ, zero, suc, ◌+◌, ◌≤◌, ◌<◌, Bool}
+use Rattle.std.proofs.Common.{get_or, ◌≡◌, ◌≢◌, ◌⊎◌, inl, inr, refl, sym, ap, subst, ◌∙◌, ℕ, zero, suc, ◌+◌, ◌≤◌, ◌<◌, Bool}
 use Rattle.std.proofs.Common.{true, false, ◌==◌, nat_lt, if◌then◌else◌, List, [], ◌∷◌, ◌++◌, length, Option, Some, None}
 use Rattle.std.proofs.Common.{◌&&◌, IsTrue, arith}
 use Rattle.std.specs.Prelude.{slice_get, slice_index, min, ⊤}
@@ -13,7 +13,7 @@ use Rattle.dali_gear.specs.SimState.{SimState, AreApart, AreBanks, world_of}
 use Rattle.dali_gear.specs.Faults.{IsBank}
 use Rattle.dali_write.specs.Exchanges.{Exchange}
 use Rattle.dali_write.specs.declared.access.Access.{Access}
-use Rattle.dali_write.specs.declared.access.Access.TheVariants.{ReadFrom, WriteTo}
+use Rattle.dali_write.specs.declared.access.Access.TheVariants.{ReadFrom, WriteTo, WriteOn}
 use Rattle.dali_write.specs.declared.ask.Verdict.{Verdict}
 use Rattle.dali_write.specs.declared.ask.Verdict.TheVariants.{MayOpen, Done, Short, Format, Silent, Closed, NotClosed}
 use Rattle.dali_write.specs.declared.ask.Verdict.TheVariants.{Read}
@@ -41,6 +41,19 @@ use Rattle.dali_write.proofs.NextLemmas.{none_ended}
 use Rattle.dali_write.proofs.MissLemmas.{walk_misses, walk_misses_in}
 use Rattle.dali_write.proofs.RunLemmas.{Leads, losses_along, UnrefusedAlong, SparedAlong, MissesAlong}
 use Rattle.dali_gear.specs.SimState.{SimStep}
+use Rattle.dali_write.specs.declared.pace.Pace.{Pace}
+use Rattle.dali_write.specs.declared.pace.Pace.TheVariants.{Checked, Short as ShortPace}
+use Rattle.dali_write.specs.Plans.{rows_of, most_of, row_before, read_backs, read_all_back, write_next, judge_format}
+use Rattle.dali_write.specs.Requests.{each_try, access_requests}
+use Rattle.dali_write.proofs.RowLemmas.{AllInRow, AllInRows}
+use Rattle.dali_write.proofs.PlaceLemmas.{moved_next}
+use Rattle.dali_write.proofs.StoredLemmas.{write_done}
+use Rattle.std.proofs.lemmas.Slice.Eq.{bytes_eq-Decides}
+use Rattle.dali_bus.specs.Hears.{up}
+use Rattle.std.proofs.lemmas.Bool.{and_parts}
+use Rattle.dali_write.specs.Plans.{either_way}
+use Rattle.dali_write.specs.Requests.{block}
+use Rattle.dali_write.specs.Plans.{give_up}
 
 -- the bytes are those that the bank has from the block's location on
 abbrev pub HasBytes : BankState → Block → List ℕ → Type 0
@@ -48,17 +61,33 @@ HasBytes bank block bytes =
     (length bytes ≡ block.count) × ((index byte : ℕ) → slice_get bytes index ≡ Some byte
     → slice_get bank.bytes (moved_on block.location index) ≡ Some byte)
 
+-- the bank lets the access succeed, at a unit that is enabled or isn't known to be
+abbrev pub MayDo : Access → BankState → Bool → Type 0
+MayDo (ReadFrom block) bank on = HasFrom bank block.location block.count
+MayDo (WriteTo location byte) bank on = IsTrue (is_writable bank location)
+MayDo (WriteOn location byte) bank on = IsTrue (is_writable bank location) × (on ≡ true)
+
+-- what the access told of the bank, and the bank behind it
+abbrev pub Did : Access → BankState → List ℕ → BankState → Type 0
+Did (ReadFrom block) bank bytes new = (new ≡ bank) × HasBytes bank block bytes
+Did (WriteTo location byte) bank bytes new =
+    OnlyDiffers bank location new × (slice_get new.bytes location ≡ Some byte)
+Did (WriteOn location byte) bank bytes new =
+    OnlyDiffers bank location new × (slice_get new.bytes location ≡ Some byte)
+
+-- behind a write the unit is enabled
+abbrev pub is_on : Access → Bool
+is_on (ReadFrom block) = false
+is_on access = true
+
 -- From this bank the plan reads what is there and writes where it may, and where no access of it fails it ends so, with
 -- a bank that is so.
-abbrev pub Goes : (BankState → Type 0) → Verdict → Plan → BankState → Type 0
-Goes P verdict (Finish v) bank = (v ≡ verdict) × P bank
-Goes P verdict (Make (ReadFrom block) after) bank =
-    HasFrom bank block.location block.count
-    × ((bytes : List ℕ) → HasBytes bank block bytes → Goes P verdict (after (Some bytes)) bank)
-Goes P verdict (Make (WriteTo location byte) after) bank =
-    IsTrue (is_writable bank location)
-    × ((new : BankState) (echo : List ℕ) → OnlyDiffers bank location new → slice_get new.bytes location ≡ Some byte
-    → Goes P verdict (after (Some echo)) new)
+abbrev pub Goes : (BankState → Type 0) → Verdict → Plan → BankState → Bool → Type 0
+Goes P verdict (Finish v) bank on = (v ≡ verdict) × P bank
+Goes P verdict (Make access after) bank on =
+    MayDo access bank on
+    × ((new : BankState) (bytes : List ℕ) → Did access bank bytes new
+    → Goes P verdict (after (Some bytes)) new (is_on access))
 
 -- the unit that is alone at its address is the one that the world has there
 pub world_alone : (at : ℕ) (unit : UnitState) (units : List UnitState) → IsAlone at unit units
@@ -78,7 +107,7 @@ unlost lost location old new keeps_power (inr relocks) = absurd (keeps_power rel
 pub read_bytes : (loses : ℕ → Type 0) (at : ℕ) (block : Block) (bytes : List ℕ) (unit : UnitState)
     (told : List Exchange) (first last : SimState)
     → Leads SimStep loses told first last → (loses at → ⊥) → IsAlone at unit first.units
-    → Succeeds (block_requests at block) (Some bytes) told
+    → Succeeds (each_try (block_requests at block)) (Some bytes) told
     → (now : UnitState) × IsAlone at now last.units × (now.bank1 ≡ unit.bank1) × HasBytes unit.bank1 block bytes
 read_bytes loses at block bytes unit told first last run keeps_power alone done =
     let two = parts loses at told done.0 done.1 first last run done.3 in
@@ -140,17 +169,42 @@ pub record Gone (P : BankState → Type 0) (verdict end : Verdict) (at : ℕ) (m
   pub alone : IsAlone at now last.units
   pub bank : P now.bank1
 
+can_do : (access : Access) (unit : UnitState) (on : Bool) → MayDo access unit.bank1 on
+    → (on ≡ true → unit.enabled ≡ true) → CanDo access unit
+can_do (ReadFrom block) unit on may enabled = may
+can_do (WriteTo location byte) unit on may enabled = may
+can_do (WriteOn location byte) unit on may enabled = (may.0, enabled may.1)
+
+-- an access that succeeded
+did : (loses : ℕ → Type 0) (at : ℕ) (access : Access) (bytes : List ℕ) (unit : UnitState) (told : List Exchange)
+    (first last : SimState)
+    → Leads SimStep loses told first last → (loses at → ⊥) → IsAlone at unit first.units
+    → Succeeds (access_requests at access) (Some bytes) told
+    → (now : UnitState) × IsAlone at now last.units × Did access unit.bank1 bytes now.bank1
+    × (is_on access ≡ true → now.enabled ≡ true)
+did loses at (ReadFrom block) bytes unit told first last run keeps_power alone done =
+    let read = read_bytes loses at block bytes unit told first last run keeps_power alone done in
+    (read.0, read.1, (read.2, read.3), λ on. cc)
+did loses at (WriteTo location byte) bytes unit told first last run keeps_power alone done =
+    let all = write_done loses Checked at location byte unit (Some bytes) told first last run keeps_power alone done in
+    (all.0, all.1, (all.2, all.3.0), λ on. all.3.1)
+did loses at (WriteOn location byte) bytes unit told first last run keeps_power alone done =
+    let all = write_done loses ShortPace at location byte unit (Some bytes) told first last run keeps_power alone done
+    in
+    (all.0, all.1, (all.2, all.3.0), λ on. all.3.1)
+
 -- a walk of the plan ends as it goes, and misses no more often than the unit loses
 goes : (loses : ℕ → Type 0) (P : BankState → Type 0) (verdict end : Verdict) (at : ℕ) (plan : Plan)
-    (outcomes : List (Option (List ℕ))) (unit : UnitState) (told : List Exchange) (first last : SimState)
+    (outcomes : List (Option (List ℕ))) (unit : UnitState) (on : Bool) (told : List Exchange) (first last : SimState)
     (run : Leads SimStep loses told first last)
-    → (loses at → ⊥) → IsAlone at unit first.units → Goes P verdict plan unit.bank1
+    → (loses at → ⊥) → IsAlone at unit first.units → (on ≡ true → unit.enabled ≡ true)
+    → Goes P verdict plan unit.bank1 on
     → UnrefusedAlong loses told first last run → losses_along at loses told first last run < most_tries
     → (walk : Walk at plan outcomes told (Finish end))
     → Gone P verdict end at (misses_of at plan outcomes told (Finish end) walk)
     (losses_along at loses told first last run)
     last
-goes loses P verdict end at (Finish v) [] unit told first last run keeps_power alone way kind few walk =
+goes loses P verdict end at (Finish v) [] unit on told first last run keeps_power alone enabled way kind few walk =
     let same = walk.1 in
     let is : v ≡ end = cc in
     let none : Leads SimStep loses [] first last =
@@ -162,62 +216,34 @@ goes loses P verdict end at (Finish v) [] unit told first last run keeps_power a
       alone = drifts_alone loses at unit first last keeps_power none alone;
       bank = way.1;
     }
-goes loses P verdict end at (Finish v) (o ∷ outcomes) unit told first last run keeps_power alone way kind few walk =
-    absurd walk.3
-goes loses P verdict end at (Make access after) [] unit told first last run keeps_power alone way kind few walk =
-    let differs = walk.1 in cc
-goes loses P verdict end at (Make (ReadFrom block) after) (None ∷ outcomes) unit told first last run keeps_power
-    alone way kind few walk =
+goes loses P verdict end at (Finish v) (o ∷ outcomes) unit on told first last run keeps_power alone enabled way kind
+    few walk = absurd walk.3
+goes loses P verdict end at (Make access after) [] unit on told first last run keeps_power alone enabled way kind few
+    walk = let differs = walk.1 in cc
+goes loses P verdict end at (Make access after) (None ∷ outcomes) unit on told first last run keeps_power alone enabled
+    way kind few walk =
     let two = parts loses at told walk.0 walk.1 first last run walk.2 in
     let sum = two.sum in
     let done =
-    access_succeeds loses at (ReadFrom block) unit None walk.1 first two.mid two.before keeps_power alone way.0
-    (two.kinds kind).0 (omega arith) walk.3 in
+    access_succeeds loses at access unit None walk.1 first two.mid two.before keeps_power alone
+    (can_do access unit on way.0 enabled) (two.kinds kind).0 (omega arith) walk.3 in
     let never = done.5 in cc
-goes loses P verdict end at (Make (ReadFrom block) after) (Some bytes ∷ outcomes) unit told first last run keeps_power
-    alone way kind few walk =
+goes loses P verdict end at (Make access after) (Some bytes ∷ outcomes) unit on told first last run keeps_power alone
+    enabled way kind few walk =
     let two = parts loses at told walk.0 walk.1 first last run walk.2 in
     let sum = two.sum in
     let kinds = two.kinds kind in
+    let can = can_do access unit on way.0 enabled in
     let done =
-    access_succeeds loses at (ReadFrom block) unit (Some bytes) walk.1 first two.mid two.before keeps_power alone way.0
-    kinds.0 (omega arith) walk.3 in
-    let read = read_bytes loses at block bytes unit walk.1 first two.mid two.before keeps_power alone done in
-    let on : Goes P verdict (after (Some bytes)) read.0.bank1 =
-    subst (λ (b : BankState). Goes P verdict (after (Some bytes)) b) (sym read.2) (way.1 bytes read.3) in
+    access_succeeds loses at access unit (Some bytes) walk.1 first two.mid two.before keeps_power alone can kinds.0
+    (omega arith) walk.3 in
+    let here = did loses at access bytes unit walk.1 first two.mid two.before keeps_power alone done in
     let rest =
-    goes loses P verdict end at (after (Some bytes)) outcomes read.0 walk.0 two.mid last two.after keeps_power read.1 on
-    kinds.1 (omega arith) walk.4 in
-    let here =
-    access_few loses at (ReadFrom block) after unit (Some bytes) walk.1 first two.mid two.before keeps_power alone way.0
-    kinds.0 walk.3 in
-    let more = rest.few in
-    record { ends = rest.ends; few = omega arith; now = rest.now; alone = rest.alone; bank = rest.bank }
-goes loses P verdict end at (Make (WriteTo location byte) after) (None ∷ outcomes) unit told first last run keeps_power
-    alone way kind few walk =
-    let two = parts loses at told walk.0 walk.1 first last run walk.2 in
-    let sum = two.sum in
-    let done =
-    access_succeeds loses at (WriteTo location byte) unit None walk.1 first two.mid two.before keeps_power alone way.0
-    (two.kinds kind).0 (omega arith) walk.3 in
-    let never = done.5 in cc
-goes loses P verdict end at (Make (WriteTo location byte) after) (Some echo ∷ outcomes) unit told first last run
-    keeps_power alone way kind few walk =
-    let two = parts loses at told walk.0 walk.1 first last run walk.2 in
-    let sum = two.sum in
-    let kinds = two.kinds kind in
-    let done =
-    access_succeeds loses at (WriteTo location byte) unit (Some echo) walk.1 first two.mid two.before keeps_power alone
-    way.0 kinds.0 (omega arith) walk.3 in
-    let stored =
-    write_stored loses at location byte unit (Some echo) walk.1 first two.mid two.before keeps_power alone done in
-    let rest =
-    goes loses P verdict end at (after (Some echo)) outcomes stored.0 walk.0 two.mid last two.after keeps_power stored.1
-    (way.1 stored.0.bank1 echo stored.2 stored.3) kinds.1 (omega arith) walk.4 in
-    let here =
-    access_few loses at (WriteTo location byte) after unit (Some echo) walk.1 first two.mid two.before keeps_power alone
-    way.0
-    kinds.0 walk.3 in
+    goes loses P verdict end at (after (Some bytes)) outcomes here.0 (is_on access) walk.0 two.mid last two.after
+    keeps_power here.1 here.3 (way.1 here.0.bank1 bytes here.2) kinds.1 (omega arith) walk.4 in
+    let fewer =
+    access_few loses at access after unit (Some bytes) walk.1 first two.mid two.before keeps_power alone can kinds.0
+    walk.3 in
     let more = rest.few in
     record { ends = rest.ends; few = omega arith; now = rest.now; alone = rest.alone; bank = rest.bank }
 
@@ -225,27 +251,27 @@ goes loses P verdict end at (Make (WriteTo location byte) after) (Some echo ∷ 
 pub gone : (loses : ℕ → Type 0) (P : BankState → Type 0) (verdict end : Verdict) (at : ℕ) (plan : Plan)
     (unit : UnitState) (told older : List Exchange) (first last : SimState)
     (spared : SparedAlong loses at unit told first last)
-    → Goes P verdict plan unit.bank1 → Wants at plan told (Ended end)
+    → Goes P verdict plan unit.bank1 false → Wants at plan told (Ended end)
     → (misses : ℕ) × (misses_in (told ++ older) ≡ misses + misses_in older)
     × Gone P verdict end at misses (losses_along at loses told first last spared.run) last
 gone loses P verdict end at plan unit told older first last spared way wants =
     let walk = ended_walk at plan told end wants in (
       misses_of at plan walk.0 told (Finish end) walk.1,
       walk_misses at plan walk.0 told (Finish end) older walk.1,
-      goes loses P verdict end at plan walk.0 unit told first last spared.run spared.keeps_power spared.alone way
-          spared.kind spared.few walk.1,
+      goes loses P verdict end at plan walk.0 unit false told first last spared.run spared.keeps_power spared.alone
+          (λ on. cc) way spared.kind spared.few walk.1,
     )
 
 succeeds : (loses : ℕ → Type 0) (P : BankState → Type 0) (verdict end : Verdict) (at : ℕ) (plan : Plan)
     (unit : UnitState) (told : List Exchange) (first last : SimState)
     (spared : SparedAlong loses at unit told first last)
-    → Goes P verdict plan unit.bank1 → Wants at plan told (Ended end)
+    → Goes P verdict plan unit.bank1 false → Wants at plan told (Ended end)
     → (end ≡ verdict) × MissesAlong loses at unit told first last spared
 succeeds loses P verdict end at plan unit told first last spared way wants =
     let walk = ended_walk at plan told end wants in
     let all =
-    goes loses P verdict end at plan walk.0 unit told first last spared.run spared.keeps_power spared.alone way
-    spared.kind spared.few walk.1 in
+    goes loses P verdict end at plan walk.0 unit false told first last spared.run spared.keeps_power spared.alone
+    (λ on. cc) way spared.kind spared.few walk.1 in
     let count = walk_misses_in at plan walk.0 told (Finish end) walk.1 in
     let few = all.few in
     (all.ends, omega arith)
@@ -280,16 +306,42 @@ spared_bank loses at unit access after verdict told first last spared wants =
 lock_writable : (bank : BankState) → 2 < length bank.bytes → is_writable bank 2 ≡ true
 lock_writable bank long = rw (lt-ltb 2 (length bank.bytes) long) refl
 
--- a checked read of a location that the bank has
+-- a read of what the bank has
+pub read_goes : (P : BankState → Type 0) (verdict : Verdict) (block : Block) (failed : Plan) (found : List ℕ → Plan)
+    (bank : BankState) (on : Bool)
+    → HasFrom bank block.location block.count
+    → ((bytes : List ℕ) → HasBytes bank block bytes → Goes P verdict (found bytes) bank false)
+    → Goes P verdict (Make (ReadFrom block) (either_way failed found)) bank on
+read_goes P verdict block failed found bank on has rest = (
+  has,
+  λ new bytes read. subst (λ (b : BankState). Goes P verdict (found bytes) b false) (sym read.0) (rest bytes read.1),
+)
+
+-- a checked read of a location that it has
 pub at_goes : (P : BankState → Type 0) (verdict : Verdict) (location byte : ℕ) (failed : Plan) (found : ℕ → Plan)
-    (bank : BankState)
-    → slice_get bank.bytes location ≡ Some byte → Goes P verdict (found byte) bank
-    → Goes P verdict (read_at location failed found) bank
-at_goes P verdict location byte failed found bank is rest = grind (arith, slice_get-get_or)
+    (bank : BankState) (on : Bool)
+    → slice_get bank.bytes location ≡ Some byte → Goes P verdict (found byte) bank false
+    → Goes P verdict (read_at location failed found) bank on
+at_goes P verdict location byte failed found bank on is rest =
+    read_goes P verdict (block location 1) failed (λ read. found (get_or read 0 0)) bank on (here location byte is)
+    (λ read has. subst (λ (b : ℕ). Goes P verdict (found b) bank false) (same read has) rest)
+  where
+    here : (location byte : ℕ) → slice_get bank.bytes location ≡ Some byte → HasFrom bank location 1
+    here location byte is zero below = rw is refl
+    here location byte is (suc index) below = absurd (omega arith)
+
+    same : (read : List ℕ) → HasBytes bank (block location 1) read → byte ≡ get_or read 0 0
+    same [] has = let none = has.0 in cc
+    same (first ∷ read) has = let both : Some byte ≡ Some first = sym is ∙ has.1 0 first refl in cc
 
 pub closing_goes : (bank : BankState) → 2 < length bank.bytes
-    → Goes (OnlyDiffers bank 2) Closed (close Closed NotClosed) bank
-closing_goes bank long = grind (arith, lock_writable bank long, at_goes)
+    → Goes (OnlyDiffers bank 2) Closed (close Closed NotClosed) bank false
+closing_goes bank long = (
+  lock_writable bank long,
+  λ new echo written.
+      at_goes (OnlyDiffers bank 2) Closed 2 0xFF (Finish NotClosed) (λ byte. Finish Closed) new true written.1
+      (refl, written.0),
+)
 
 pub closing_succeeds : (loses : ℕ → Type 0) (at : ℕ) (unit : UnitState) (verdict : Verdict) (told : List Exchange)
     (first last : SimState) (spared : SparedAlong loses at unit told first last)
@@ -306,12 +358,46 @@ pub byte_there : (bytes : List ℕ) (location : ℕ) → location < length bytes
     → slice_get bytes location ≡ Some (slice_index bytes location)
 byte_there bytes location long = slice_get-get_or bytes location 0 long
 
-pub fresh_goes : (updates : List (ℕ × ℕ)) (bank : BankState) → IsBank bank.bytes
-    → Goes (λ now. now ≡ bank) (found_verdict bank.bytes updates) (read_length updates) bank
-fresh_goes updates bank is =
+-- the short plan's read of the content format
+format_goes : (pace : Pace) (bank : BankState) → 0x12 < length bank.bytes
+    → Goes (λ now. now ≡ bank) (if has_format bank.bytes then MayOpen else Format) (read_format pace) bank false
+format_goes Checked bank long =
+    at_goes (λ now. now ≡ bank) _ 0x11 (slice_index bank.bytes 0x11) (Finish Silent) read_format_low bank false
+    (byte_there bank.bytes 0x11 (omega arith))
+    (at_goes (λ now. now ≡ bank) _ 0x12 (slice_index bank.bytes 0x12) (Finish Silent)
+    (judge_format (slice_index bank.bytes 0x11)) bank false
+    (byte_there bank.bytes 0x12 long) (refl, refl))
+format_goes ShortPace bank long =
+    read_goes (λ now. now ≡ bank) (if has_format bank.bytes then MayOpen else Format) (block 0x11 2) (Finish Silent)
+    (λ read. judge_format (get_or read 0 0) (get_or read 1 0)) bank false there (λ read has. by read has.0 has.1)
+  where
+    there : HasFrom bank 0x11 2
+    there zero below = rw (byte_there bank.bytes 0x11 (omega arith)) refl
+    there (suc zero) below = rw (byte_there bank.bytes 0x12 long) refl
+    there (suc (suc index)) below = absurd (omega arith)
+
+    by : (read : List ℕ) → length read ≡ 2
+        → ((index byte : ℕ) → slice_get read index ≡ Some byte
+        → slice_get bank.bytes (moved_on 0x11 index) ≡ Some byte)
+        → Goes (λ now. now ≡ bank) (if has_format bank.bytes then MayOpen else Format)
+        (judge_format (get_or read 0 0) (get_or read 1 0)) bank false
+    by [] two each = absurd (omega arith)
+    by (one ∷ []) two each = absurd (omega arith)
+    by (one ∷ other ∷ more) two each =
+        let first : Some (slice_index bank.bytes 0x11) ≡ Some one =
+        sym (byte_there bank.bytes 0x11 (omega arith)) ∙ each 0 one refl in
+        let second : Some (slice_index bank.bytes 0x12) ≡ Some other =
+        sym (byte_there bank.bytes 0x12 long) ∙ each 1 other refl in
+        let high : one ≡ slice_index bank.bytes 0x11 = cc in
+        let low : other ≡ slice_index bank.bytes 0x12 = cc in
+        rw (high, low) (refl, refl)
+
+pub fresh_goes : (pace : Pace) (updates : List (ℕ × ℕ)) (bank : BankState) → IsBank bank.bytes
+    → Goes (λ now. now ≡ bank) (found_verdict bank.bytes updates) (read_length pace updates) bank false
+fresh_goes pace updates bank is =
     let least = is.least in
     let last = is.last in
-    at_goes (λ now. now ≡ bank) _ 0 (slice_index bank.bytes 0) (Finish Silent) (judge_length updates) bank
+    at_goes (λ now. now ≡ bank) _ 0 (slice_index bank.bytes 0) (Finish Silent) (judge_length pace updates) bank false
     (byte_there bank.bytes 0 (omega arith))
     (by (nat_lt (slice_index bank.bytes 0) (greatest updates)) (nat_lt (greatest updates) 0x13) refl refl)
   where
@@ -319,7 +405,7 @@ fresh_goes updates bank is =
         → nat_lt (greatest updates) 0x13 ≡ low
         → Goes (λ now. now ≡ bank)
         (if short then Short else (if low then MayOpen else (if has_format bank.bytes then MayOpen else Format)))
-        (if short then Finish Short else (if low then Finish MayOpen else read_format)) bank
+        (if short then Finish Short else (if low then Finish MayOpen else read_format pace)) bank false
     by true low e f = (refl, refl)
     by false true e f = (refl, refl)
     by false false e f =
@@ -327,38 +413,34 @@ fresh_goes updates bank is =
         let high = ltb-false (greatest updates) 0x13 f in
         let least = is.least in
         let last = is.last in
-        let found = λ (now : BankState). now ≡ bank in
-        at_goes found _ 0x11 (slice_index bank.bytes 0x11) (Finish Silent) read_format_low bank
-        (byte_there bank.bytes 0x11 (omega arith))
-        (at_goes found _ 0x12 (slice_index bank.bytes 0x12) (Finish Silent)
-        (λ low. Finish (if (slice_index bank.bytes 0x11 == 0) && (low == 3) then MayOpen else Format)) bank
-        (byte_there bank.bytes 0x12 (omega arith)) (refl, refl))
+        format_goes pace bank (omega arith)
 
-pub fresh_succeeds : (loses : ℕ → Type 0) (at : ℕ) (unit : UnitState) (updates : List (ℕ × ℕ)) (verdict : Verdict)
-    (told : List Exchange) (first last : SimState) (spared : SparedAlong loses at unit told first last)
-    → Wants at (read_length updates) told (Ended verdict)
+pub fresh_succeeds : (loses : ℕ → Type 0) (at : ℕ) (unit : UnitState) (pace : Pace) (updates : List (ℕ × ℕ))
+    (verdict : Verdict) (told : List Exchange) (first last : SimState)
+    (spared : SparedAlong loses at unit told first last)
+    → Wants at (read_length pace updates) told (Ended verdict)
     → (verdict ≡ found_verdict unit.bank1.bytes updates) × MissesAlong loses at unit told first last spared
-fresh_succeeds loses at unit updates verdict told first last spared wants =
-    succeeds loses (λ now. now ≡ unit.bank1) (found_verdict unit.bank1.bytes updates) verdict at (read_length updates)
-    unit told first last spared
-    (fresh_goes updates unit.bank1 (spared_bank loses at unit _ _ verdict told first last spared wants)) wants
+fresh_succeeds loses at unit pace updates verdict told first last spared wants =
+    succeeds loses (λ now. now ≡ unit.bank1) (found_verdict unit.bank1.bytes updates) verdict at
+    (read_length pace updates) unit told first last spared
+    (fresh_goes pace updates unit.bank1 (spared_bank loses at unit _ _ verdict told first last spared wants)) wants
 
 -- a reading session
 
 read_on_goes : (location left : ℕ) (bank : BankState) → location + left ≤ length bank.bytes
-    → Goes (λ now. now ≡ bank) Read (read_on location left) bank
+    → Goes (λ now. now ≡ bank) Read (read_on location left) bank false
 read_on_goes location zero bank few = (refl, refl)
 read_on_goes location (suc left) bank few =
     at_goes (λ now. now ≡ bank) Read location (slice_index bank.bytes location) (Finish Silent)
-    (λ byte. read_on (suc location) left) bank (byte_there bank.bytes location (omega arith))
+    (λ byte. read_on (suc location) left) bank false (byte_there bank.bytes location (omega arith))
     (read_on_goes (suc location) left bank (omega arith))
 
-read_all_goes : (bank : BankState) → IsBank bank.bytes → Goes (λ now. now ≡ bank) Read read_all bank
+read_all_goes : (bank : BankState) → IsBank bank.bytes → Goes (λ now. now ≡ bank) Read read_all bank false
 read_all_goes bank is =
     let least = is.least in
     let last = is.last in
     at_goes (λ now. now ≡ bank) Read 0 (slice_index bank.bytes 0) (Finish Silent)
-    (λ last. read_on 1 (min last 0xFE)) bank (byte_there bank.bytes 0 (omega arith))
+    (λ last. read_on 1 (min last 0xFE)) bank false (byte_there bank.bytes 0 (omega arith))
     (read_on_goes 1 (min (slice_index bank.bytes 0) 0xFE) bank
     (omega (arith, min-le_left (slice_index bank.bytes 0) 0xFE)))
 
@@ -448,49 +530,125 @@ written_on updates left update old new rises going only stored =
     by location byte has (inl (inr later)) = inl later
     by location byte has (inr was) = inr (other_kept location byte (location == update.0) refl has was)
 
-back_goes : (location byte : ℕ) (after : Plan) (bank : BankState) → slice_get bank.bytes location ≡ Some byte
-    → Goes (λ now. ⊤) Done after bank → Goes (λ now. ⊤) Done (expect location byte after) bank
-back_goes location byte after bank is rest = search (arith, at_goes, eq-eqb byte byte refl)
+-- a bank that holds all the bytes of the rows
+abbrev HoldsRows : BankState → List (ℕ × List ℕ) → Type 0
+HoldsRows bank rows = AllInRows (λ location byte. slice_get bank.bytes location ≡ Some byte) rows
 
-read_back_goes : (updates : List (ℕ × ℕ)) (bank : BankState)
+-- a row is read as the bank holds it
+row_held : (bank : BankState) (location : ℕ) (bytes read : List ℕ)
+    → AllInRow (λ at byte. slice_get bank.bytes at ≡ Some byte) location bytes → length read ≡ length bytes
+    → ((index byte : ℕ) → slice_get read index ≡ Some byte → slice_get bank.bytes (moved_on location index) ≡ Some byte)
+    → read ≡ bytes
+row_held bank location [] [] holds same each = refl
+row_held bank location [] (one ∷ read) holds same each = cc
+row_held bank location (byte ∷ bytes) [] holds same each = cc
+row_held bank location (byte ∷ bytes) (one ∷ read) holds same each =
+    let both : Some one ≡ Some byte = sym (each 0 one refl) ∙ holds.0 in
+    let first : one ≡ byte = cc in
+    let rest =
+    row_held bank (up location) bytes read holds.1 (omega arith)
+    (λ index later is. rw (moved_next location index) (each (suc index) later is)) in
+    ap (λ (b : ℕ). b ∷ read) first ∙ ap (λ (l : List ℕ). byte ∷ l) rest
+
+row_there : (bank : BankState) (location : ℕ) (bytes : List ℕ)
+    → AllInRow (λ at byte. slice_get bank.bytes at ≡ Some byte) location bytes
+    → HasFrom bank location (length bytes)
+row_there bank location [] holds index below = absurd (omega arith)
+row_there bank location (byte ∷ bytes) holds zero below = rw holds.0 refl
+row_there bank location (byte ∷ bytes) holds (suc index) below =
+    rw (← moved_next location index) (row_there bank (up location) bytes holds.1 index (omega arith))
+
+read_back_goes : (rows : List (ℕ × List ℕ)) (bank : BankState) (on : Bool) → HoldsRows bank rows
+    → Goes (λ now. ⊤) Done (read_back rows) bank on
+read_back_goes [] bank on holds = (refl, tt)
+read_back_goes (row ∷ rows) bank on holds =
+    read_goes (λ now. ⊤) Done (block row.0 (length row.1)) give_up _ bank on
+    (row_there bank row.0 row.1 holds.0)
+    (λ read has.
+    rw ((bytes_eq-Decides read row.1).1 (row_held bank row.0 row.1 read holds.0 has.0 has.1))
+    (read_back_goes rows bank false holds.1))
+
+-- the rows of updates that the bank has
+rows_held : (bank : BankState) (most : ℕ) (updates : List (ℕ × ℕ))
     → ((location byte : ℕ) → Has updates location byte → slice_get bank.bytes location ≡ Some byte)
-    → Goes (λ now. ⊤) Done (read_back updates) bank
-read_back_goes [] bank there = (refl, tt)
-read_back_goes (update ∷ updates) bank there =
-    back_goes update.0 update.1 (read_back updates) bank (there update.0 update.1 (inl (refl, refl)))
-    (read_back_goes updates bank (λ location byte has. there location byte (inr has)))
-
-write_on_goes : (updates left : List (ℕ × ℕ)) (bank : BankState) → RisesAbove 0 updates → Going updates left bank
-    → Goes (λ now. ⊤) Done (write_on updates left) bank
-write_on_goes updates [] bank rises going = (
-  lock_writable bank going.long,
-  λ new echo only stored. back_goes 2 0xFF (read_back updates) new stored
-      (read_back_goes updates new
-      (λ location byte has. locked new only location byte has (going.there location byte has))),
-)
+    → HoldsRows bank (rows_of most updates)
+rows_held bank most [] there = tt
+rows_held bank most (update ∷ updates) there =
+    by_row (rows_of most updates) (rows_held bank most updates (λ location byte has. there location byte (inr has)))
   where
-    locked : (new : BankState) → OnlyDiffers bank 2 new → (location byte : ℕ) → Has updates location byte
-        → Has [] location byte ⊎ (slice_get bank.bytes location ≡ Some byte) → slice_get new.bytes location ≡ Some byte
-    locked new only location byte has (inl never) = absurd never
-    locked new only location byte has (inr was) =
-        let past : 3 ≤ location = (going.takes location byte has).0 in
-        only.others location (λ same. absurd (omega arith)) ∙ was
-write_on_goes updates (update ∷ left) bank rises going = (
-  one_writable bank update.0 going.lock
-      (going.takes update.0 update.1 (going.part update.0 update.1 (inl (refl, refl)))),
-  λ new echo only stored.
-      write_on_goes updates left new rises (written_on updates left update bank new rises going only stored),
+    here : slice_get bank.bytes update.0 ≡ Some update.1
+    here = there update.0 update.1 (inl (refl, refl))
+
+    by_row : (some : List (ℕ × List ℕ)) → HoldsRows bank some → HoldsRows bank (row_before most update some)
+    by_row [] holds = ((here, tt), tt)
+    by_row (row ∷ more) holds = by ((row.0 == up update.0) && nat_lt (length row.1) most) refl
+      where
+        by : (b : Bool) → ((row.0 == up update.0) && nat_lt (length row.1) most) ≡ b
+            → HoldsRows bank (if b then (update.0, update.1 ∷ row.1) ∷ more else (update.0, update.1 ∷ []) ∷ row ∷ more)
+        by true next =
+            let at = eqb-true row.0 (up update.0) (and_parts (row.0 == up update.0) _ next).0 in (
+              (
+                here,
+                subst (λ (l : ℕ). AllInRow (λ at byte. slice_get bank.bytes at ≡ Some byte) l row.1) at holds.0,
+              ),
+              holds.1,
+            )
+        by false other = ((here, tt), holds)
+
+-- a write where it may store, at a unit that is enabled
+write_goes : (pace : Pace) (location byte : ℕ) (after : Plan) (bank : BankState) → is_writable bank location ≡ true
+    → ((new : BankState) → OnlyDiffers bank location new → slice_get new.bytes location ≡ Some byte
+    → Goes (λ now. ⊤) Done after new true)
+    → Goes (λ now. ⊤) Done (Make (write_next pace location byte) (either_way give_up (λ bytes. after))) bank true
+write_goes Checked location byte after bank may rest = (may, λ new echo written. rest new written.0 written.1)
+write_goes ShortPace location byte after bank may rest =
+    ((may, refl), λ new echo written. rest new written.0 written.1)
+
+write_on_goes : (pace : Pace) (updates left : List (ℕ × ℕ)) (bank : BankState) → RisesAbove 0 updates
+    → Going updates left bank
+    → Goes (λ now. ⊤) Done (write_on pace updates left) bank true
+write_on_goes pace updates [] bank rises going =
+    write_goes pace 2 0xFF (read_all_back pace updates) bank (lock_writable bank going.long)
+    (λ new only stored. read_back_goes (rows_of (most_of pace) (read_backs updates)) new true
+    (rows_held new (most_of pace) (read_backs updates) (locked new only stored)))
+  where
+    locked : (new : BankState) → OnlyDiffers bank 2 new → slice_get new.bytes 2 ≡ Some 0xFF → (location byte : ℕ)
+        → Has (read_backs updates) location byte → slice_get new.bytes location ≡ Some byte
+    locked new only stored location byte (inl here) = rw (← here.0, ← here.1) stored
+    locked new only stored location byte (inr has) = elim (going.there location byte has) [
+      | inl never ↦ absurd never
+      | inr was ↦
+          let past = (going.takes location byte has).0 in
+          only.others location (λ same. absurd (omega arith)) ∙ was
+    ]
+write_on_goes pace updates (update ∷ left) bank rises going =
+    write_goes pace update.0 update.1 (write_on pace updates left) bank
+    (one_writable bank update.0 going.lock
+    (going.takes update.0 update.1 (going.part update.0 update.1 (inl (refl, refl)))))
+    (λ new only stored.
+    write_on_goes pace updates left new rises (written_on updates left update bank new rises going only stored))
+
+pub unlock_goes : (pace : Pace) (updates : List (ℕ × ℕ)) (bank : BankState) → RisesAbove 0 updates
+    → 2 < length bank.bytes → TakesAll bank updates → Goes (λ now. ⊤) Done (unlock pace updates) bank false
+unlock_goes pace updates bank rises long takes = (
+  lock_writable bank long,
+  λ new echo written.
+      write_on_goes pace updates updates new rises (record {
+        lock = written.1;
+        long = rw written.0.lengths long;
+        takes = λ location byte has. takes_still bank 2 new location written.0 (takes_of bank updates location byte
+            takes has);
+        part = λ location byte has. has;
+        there = λ location byte has. inl has;
+      }),
 )
 
-pub unlock_goes : (updates : List (ℕ × ℕ)) (bank : BankState) → RisesAbove 0 updates → 2 < length bank.bytes
-    → TakesAll bank updates → Goes (λ now. ⊤) Done (unlock updates) bank
-unlock_goes updates bank rises long takes = grind (arith, lock_writable, write_on_goes, takes_still, takes_of)
-
-pub opened_succeeds : (loses : ℕ → Type 0) (at : ℕ) (unit : UnitState) (updates : List (ℕ × ℕ)) (verdict : Verdict)
-    (told : List Exchange) (first last : SimState) (spared : SparedAlong loses at unit told first last)
-    → RisesAbove 0 updates → TakesAll unit.bank1 updates → Wants at (unlock updates) told (Ended verdict)
+pub opened_succeeds : (loses : ℕ → Type 0) (at : ℕ) (unit : UnitState) (pace : Pace) (updates : List (ℕ × ℕ))
+    (verdict : Verdict) (told : List Exchange) (first last : SimState)
+    (spared : SparedAlong loses at unit told first last)
+    → RisesAbove 0 updates → TakesAll unit.bank1 updates → Wants at (unlock pace updates) told (Ended verdict)
     → (verdict ≡ Done) × MissesAlong loses at unit told first last spared
-opened_succeeds loses at unit updates verdict told first last spared rises takes wants =
+opened_succeeds loses at unit pace updates verdict told first last spared rises takes wants =
     let least = (spared_bank loses at unit _ _ verdict told first last spared wants).least in
-    succeeds loses (λ now. ⊤) Done verdict at (unlock updates) unit told first last spared
-    (unlock_goes updates unit.bank1 rises (omega arith) takes) wants
+    succeeds loses (λ now. ⊤) Done verdict at (unlock pace updates) unit told first last spared
+    (unlock_goes pace updates unit.bank1 rises (omega arith) takes) wants

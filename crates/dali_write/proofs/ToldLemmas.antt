@@ -36,7 +36,7 @@ told_as : (told : List Exchange) (s : Session) (unit : ℕ) (task : Task) (now :
     (tried bytes : List ℕ)
     → plan_at s.task s.stage ≡ now → s.unit ≡ unit → s.task ≡ task → s.misses ≡ misses → s.number ≡ number
     → s.tried.items ≡ tried → s.bytes.items ≡ bytes
-    → StandsWith task unit told now misses (drop number (plan_requests unit now)) tried bytes → Told told s
+    → StandsWith task unit told now misses (drop number (plan_requests unit now misses)) tried bytes → Told told s
 unfolding Told
 told_as told s unit task now misses number tried bytes p u t m n r b stands = rw (p, u, t, m, n, r, b) stands
 
@@ -55,14 +55,14 @@ goes_more now requests number more = grind (arith, drop_at, goes_cons)
 -- the requests that are left begin with the request at hand
 at_hand : (told : List Exchange) (s : Session) (next : Request) → request_at_hand s ≡ Some next → Told told s
     → StandsWith s.task s.unit told (plan_at s.task s.stage) s.misses
-    (next ∷ drop (suc s.number) (plan_requests s.unit (plan_at s.task s.stage))) s.tried.items s.bytes.items
+    (next ∷ drop (suc s.number) (plan_requests s.unit (plan_at s.task s.stage) s.misses)) s.tried.items s.bytes.items
 unfolding Told
 at_hand told s next at was = grind (arith, drop_at)
 
 -- the try goes on
 pub told_on : (told : List Exchange) (s new : Session) (frame : Frame) (answer : Option ℕ) (wish : Wish)
     → request_at_hand s ≡ Some (request frame wish) → Meets wish answer → Told told s
-    → is_some (slice_get (plan_requests s.unit (plan_at s.task s.stage)) (suc s.number)) ≡ true
+    → is_some (slice_get (plan_requests s.unit (plan_at s.task s.stage) s.misses) (suc s.number)) ≡ true
     → new.unit ≡ s.unit → new.task ≡ s.task → new.stage ≡ s.stage → new.misses ≡ s.misses → new.number ≡ suc s.number
     → new.tried.items ≡ s.tried.items ++ read_answer frame answer
     → new.bytes.items ≡ s.bytes.items → Told (record { frame = frame; answer = answer } ∷ told) new
@@ -79,7 +79,7 @@ told_on told s new frame answer wish at meets was more unit task stage misses nu
 -- the access came to its end
 pub told_done : (told : List Exchange) (s new : Session) (frame : Frame) (answer : Option ℕ) (wish : Wish)
     → request_at_hand s ≡ Some (request frame wish) → Meets wish answer → Told told s
-    → slice_get (plan_requests s.unit (plan_at s.task s.stage)) (suc s.number) ≡ None
+    → slice_get (plan_requests s.unit (plan_at s.task s.stage) s.misses) (suc s.number) ≡ None
     → new.unit ≡ s.unit → new.task ≡ s.task
     → plan_at new.task new.stage
     ≡ next_plan (plan_at s.task s.stage) (Some (s.tried.items ++ read_answer frame answer)) → BeginsTry new
@@ -92,7 +92,7 @@ told_done told s new frame answer wish at meets was none unit task plan begins f
     let w = at_hand told s (request frame wish) at was in
     let last = subst (λ (left : List Request). Stands s.unit (plan_of s.task) w.outcomes told now s.misses
     (request frame wish ∷ left) s.tried.items)
-    (drop_end (plan_requests s.unit now) (suc s.number) none) w.stands in
+    (drop_end (plan_requests s.unit now s.misses) (suc s.number) none) w.stands in
     let x : Exchange = record { frame = frame; answer = answer } in
     let room =
     has_room s.task s.unit told w.outcomes now s.misses s.tried.items s.bytes.items frame answer wish last meets few
@@ -138,10 +138,11 @@ told_failed told s new frame answer wish at missed was many unit task plan begin
     })
 
 -- the frame at hand is what the session wants
-aim_in : (unit : ℕ) (plan : Plan) (number : ℕ) (next : Request) → slice_get (plan_requests unit plan) number ≡ Some next
-    → shown_ask plan (drop number (plan_requests unit plan)) ≡ Send next.frame
-aim_in unit (Finish verdict) number next at = cc
-aim_in unit (Make access after) number next at = grind (arith, drop_at)
+aim_in : (unit : ℕ) (plan : Plan) (misses number : ℕ) (next : Request)
+    → slice_get (plan_requests unit plan misses) number ≡ Some next
+    → shown_ask plan (drop number (plan_requests unit plan misses)) ≡ Send next.frame
+aim_in unit (Finish verdict) misses number next at = cc
+aim_in unit (Make access after) misses number next at = grind (arith, drop_at)
 
 pub aim_at_request : (s : Session) (next : Request) → request_at_hand s ≡ Some next → aim_of s ≡ Send next.frame
 aim_at_request s next at = grind (arith, ask_shown, aim_in)

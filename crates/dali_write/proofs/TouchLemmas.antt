@@ -19,6 +19,7 @@ use Rattle.dali_write.proofs.PutLemmas.{SafeRequests, guarded_is_safe}
 use Rattle.dali_write.proofs.GuardLemmas.{OnlyWrites, goes_on_writes, plan_guarded, unlock_writes, close_writes}
 use Rattle.dali_write.proofs.RunLemmas.{Leads}
 use Rattle.dali_bus.specs.Carry.{WorldStep}
+use Rattle.dali_write.specs.declared.pace.Pace.{Pace}
 
 -- Wherever these exchanges start with no other unit enabled, they touch only the places of the writes.
 abbrev Harmless : (ℕ → Type 0) → List (ℕ × ℕ) → ℕ → List Exchange → Type 0
@@ -81,21 +82,21 @@ harmless_as {loses} writes unit told parts is harmless =
     subst (λ (t : List Exchange). Harmless loses writes unit t) (sym is) harmless
 
 -- any number of tries that missed
-misses_harmless : {loses : ℕ → Type 0} (writes : List (ℕ × ℕ)) (unit : ℕ) (requests : List Request) (misses : ℕ)
+misses_harmless : {loses : ℕ → Type 0} (writes : List (ℕ × ℕ)) (unit : ℕ) (requests : ℕ → List Request) (misses : ℕ)
     (told : List Exchange)
-    → SafeRequests loses writes unit requests → Misses requests misses told
+    → ((misses : ℕ) → SafeRequests loses writes unit (requests misses)) → Misses requests misses told
     → Harmless loses writes unit told
 misses_harmless writes unit requests zero told safe is = harmless_as writes unit told [] is (harmless_none writes unit)
 misses_harmless writes unit requests (suc misses) told safe is =
     harmless_as writes unit told (is.0 ++ is.1) is.2
-    (harmless_both writes unit is.0 is.1 (missed_harmless writes unit requests is.0 safe is.3)
+    (harmless_both writes unit is.0 is.1 (missed_harmless writes unit (requests misses) is.0 (safe misses) is.3)
     (misses_harmless writes unit requests misses is.1 safe is.4))
 
 -- the frames of the access at hand may be sent
 plan_safe : (loses : ℕ → Type 0) (writes : List (ℕ × ℕ)) (unit : ℕ) (plan : Plan) → OnlyWrites writes plan
-    → SafeRequests loses writes unit (plan_requests unit plan)
-plan_safe loses writes unit plan only tried next left try =
-    guarded_is_safe loses writes unit tried next.frame (plan_guarded writes unit plan only tried next left try)
+    → (misses : ℕ) → SafeRequests loses writes unit (plan_requests unit plan misses)
+plan_safe loses writes unit plan only misses tried next left try =
+    guarded_is_safe loses writes unit tried next.frame (plan_guarded writes unit plan only misses tried next left try)
 
 -- a whole access
 access_harmless : {loses : ℕ → Type 0} (writes : List (ℕ × ℕ)) (unit : ℕ) (plan : Plan) (outcome : Option (List ℕ))
@@ -107,7 +108,8 @@ access_harmless writes unit (Make access after) outcome told only (inl done) =
     let requests = plan_requests unit (Make access after) in
     let safe = plan_safe _ writes unit (Make access after) only in
     harmless_as writes unit told (done.0 ++ done.1) done.3
-    (harmless_both writes unit done.0 done.1 (trying_harmless writes unit requests done.0 [] safe done.4)
+    (harmless_both writes unit done.0 done.1
+    (trying_harmless writes unit (requests done.2) done.0 [] (safe done.2) done.4)
     (misses_harmless writes unit requests done.2 done.1 safe done.7))
 access_harmless writes unit (Make access after) outcome told only (inr failed) =
     misses_harmless writes unit (plan_requests unit (Make access after)) 8 told
@@ -138,17 +140,18 @@ wants_harmless writes unit plan told ask only wants =
     let before = accesses_harmless writes unit plan wants.outcomes s.ended only s.accesses in
     let safe = plan_safe _ writes unit wants.now (subst (λ (p : Plan). OnlyWrites writes p) s.now_is before.1) in
     let missed = misses_harmless writes unit requests wants.misses s.missed safe s.misses_are in
-    let tried = trying_harmless writes unit requests s.tried wants.left safe s.try in
+    let tried = trying_harmless writes unit (requests wants.misses) s.tried wants.left (safe wants.misses) s.try in
     harmless_as writes unit told (s.tried ++ (s.missed ++ s.ended)) s.parts
     (harmless_both writes unit s.tried (s.missed ++ s.ended) tried
     (harmless_both writes unit s.missed s.ended missed before.0))
 
 pub opened_touches : {loses : ℕ → Type 0} (told : List Exchange) (first last : World) (unit : ℕ)
-    (updates : List (ℕ × ℕ)) (ask : Ask)
-    → OnlyEnabled unit first → Leads WorldStep loses told first last → Wants unit (unlock updates) told ask
+    (pace : Pace) (updates : List (ℕ × ℕ)) (ask : Ask)
+    → OnlyEnabled unit first → Leads WorldStep loses told first last → Wants unit (unlock pace updates) told ask
     → Touches loses (writes_of updates) unit first last
-opened_touches told first last unit updates ask only run wants =
-    wants_harmless (writes_of updates) unit (unlock updates) told ask (unlock_writes updates) wants first last only run
+opened_touches told first last unit pace updates ask only run wants =
+    wants_harmless (writes_of updates) unit (unlock pace updates) told ask (unlock_writes pace updates) wants first last
+    only run
 
 pub closing_touches : {loses : ℕ → Type 0} (told : List Exchange) (first last : World) (unit : ℕ) (ask : Ask)
     → OnlyEnabled unit first → Leads WorldStep loses told first last → Wants unit (close Closed NotClosed) told ask
@@ -158,11 +161,12 @@ closing_touches told first last unit ask only run wants =
     (close_writes ((2, 0xFF) ∷ []) Closed NotClosed (inl (refl, refl))) wants first last only run
 
 -- after either no other unit is enabled
-pub others_off : (loses : ℕ → Type 0) (told : List Exchange) (first last : World) (unit : ℕ) (updates : List (ℕ × ℕ))
-    (ask : Ask)
+pub others_off : (loses : ℕ → Type 0) (told : List Exchange) (first last : World) (unit : ℕ) (pace : Pace)
+    (updates : List (ℕ × ℕ)) (ask : Ask)
     → OnlyEnabled unit first → Leads WorldStep loses told first last
-    → Wants unit (unlock updates) told ask ⊎ Wants unit (close Closed NotClosed) told ask → OnlyEnabled unit last
-others_off loses told first last unit updates ask only run (inl wants) =
-    only_on (writes_of updates) unit first last only (opened_touches told first last unit updates ask only run wants)
-others_off loses told first last unit updates ask only run (inr wants) =
+    → Wants unit (unlock pace updates) told ask ⊎ Wants unit (close Closed NotClosed) told ask → OnlyEnabled unit last
+others_off loses told first last unit pace updates ask only run (inl wants) =
+    only_on (writes_of updates) unit first last only
+    (opened_touches told first last unit pace updates ask only run wants)
+others_off loses told first last unit pace updates ask only run (inr wants) =
     only_on ((2, 0xFF) ∷ []) unit first last only (closing_touches told first last unit ask only run wants)

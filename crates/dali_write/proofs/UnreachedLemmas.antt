@@ -19,6 +19,7 @@ use Rattle.dali_write.specs.Reads.{EndsInRead, HasRead}
 use Rattle.dali_write.proofs.EndLemmas.{ends_reading}
 use Rattle.dali_write.proofs.VerdictLemmas.{finish_walk, only_older}
 use Rattle.dali_write.proofs.WalkLemmas.{ended_walk}
+use Rattle.dali_write.specs.Requests.{each_try}
 
 -- the newest frame asks for DTR0
 abbrev is_ask : Frame → Bool
@@ -109,14 +110,15 @@ missed_unread late requests (x ∷ tried) older reads last unread missed =
       before.0,
     )
 
-misses_unread : (late : ℕ) (requests : List Request) (misses : ℕ) (told older : List Exchange) → Reading late requests
-    → late ≤ 1 → AllUnread older → Misses requests misses told → AllUnread (told ++ older)
+misses_unread : (late : ℕ) (requests : ℕ → List Request) (misses : ℕ) (told older : List Exchange)
+    → ((misses : ℕ) → Reading late (requests misses)) → late ≤ 1 → AllUnread older → Misses requests misses told
+    → AllUnread (told ++ older)
 misses_unread late requests zero told older reads last unread are = grind arith
 misses_unread late requests (suc misses) told older reads last unread are =
     let before = misses_unread late requests misses are.1 older reads last unread are.4 in
     subst (λ (t : List Exchange). AllUnread (t ++ older)) (sym are.2)
     (subst AllUnread (sym (append_assoc are.0 are.1 older))
-    (missed_unread late requests are.0 (are.1 ++ older) reads last before are.3))
+    (missed_unread late (requests misses) are.0 (are.1 ++ older) (reads misses) last before are.3))
 
 -- the requests of a write end no checked read
 write_requests_unread : (unit location byte : ℕ) → Reading 0 (write_requests unit location byte)
@@ -127,28 +129,31 @@ read_requests_late : (unit location : ℕ) → Reading 1 (read_requests unit loc
 read_requests_late unit location = λ asked. (tt, (tt, (tt, (tt, (tt, (tt, ((refl, omega arith), tt)))))))
 
 write_unread : (unit location byte : ℕ) (outcome : Option (List ℕ)) (told : List Exchange)
-    → Succeeds (write_requests unit location byte) outcome told ⊎ Fails (write_requests unit location byte) outcome told
+    → Succeeds (each_try (write_requests unit location byte)) outcome told
+    ⊎ Fails (each_try (write_requests unit location byte)) outcome told
     → AllUnread told
 write_unread unit location byte outcome told (inl done) =
     let requests = write_requests_unread unit location byte in
     let missed =
-    misses_unread 0 (write_requests unit location byte) done.2 done.1 [] requests (omega arith) tt done.7 in
+    misses_unread 0 (each_try (write_requests unit location byte)) done.2 done.1 [] (λ misses. requests) (omega arith)
+    tt done.7 in
     subst AllUnread (sym done.3)
     (trying_unread 0 (write_requests unit location byte) done.0 [] done.1 (requests (asked_in done.1))
     (subst AllUnread (append-nil done.1) missed) done.4 (omega arith)).0
 write_unread unit location byte outcome told (inr failed) =
     subst AllUnread (append-nil told)
-    (misses_unread 0 (write_requests unit location byte) most_tries told [] (write_requests_unread unit location byte)
-    (omega arith) tt failed.1)
+    (misses_unread 0 (each_try (write_requests unit location byte)) most_tries told []
+    (λ misses. write_requests_unread unit location byte) (omega arith) tt failed.1)
 
 -- where a read access failed, no checked read was answered
 read_unread : (unit location : ℕ) (told older : List Exchange)
-    → Succeeds (read_requests unit location) None told ⊎ Fails (read_requests unit location) None told
+    → Succeeds (each_try (read_requests unit location)) None told
+    ⊎ Fails (each_try (read_requests unit location)) None told
     → AllUnread older → AllUnread (told ++ older)
 read_unread unit location told older (inl done) unread = let never = done.5 in cc
 read_unread unit location told older (inr failed) unread =
-    misses_unread 1 (read_requests unit location) most_tries told older (read_requests_late unit location) (omega arith)
-    unread failed.1
+    misses_unread 1 (each_try (read_requests unit location)) most_tries told older
+    (λ misses. read_requests_late unit location) (omega arith) unread failed.1
 
 -- so it is in the two accesses of a closing session that ended as NotClosed
 read_closed_unread : (unit : ℕ) (outcomes : List (Option (List ℕ))) (told older : List Exchange)

@@ -12,6 +12,7 @@ use Rattle.dali_write.proofs.AskLemmas.{shown_ask, ask_shown}
 use Rattle.dali_write.specs.Walks.{Walk}
 use Rattle.dali_write.proofs.ShapeLemmas.{trying_length}
 use Rattle.dali_write.proofs.CountLemmas.{misses_length}
+use Rattle.dali_write.specs.Requests.{each_try}
 
 -- one more access
 walk_on : (unit : ℕ) (plan : Plan) (outcomes : List (Option (List ℕ))) (told : List Exchange) (end : Plan)
@@ -43,10 +44,15 @@ walks unit plan (outcome ∷ outcomes) told ends =
 
 -- where no frame is at hand, the whole accesses are all
 pub ended_told : (told tried missed ended : List Exchange) (left : List Request) (misses : ℕ)
-    → told ≡ tried ++ (missed ++ ended) → Trying [] tried left → Misses [] misses missed
+    → told ≡ tried ++ (missed ++ ended) → Trying [] tried left → Misses (each_try []) misses missed
     → told ≡ ended
 ended_told told tried missed ended left misses parts try are =
-    grind (arith, trying_length [] tried left try, misses_length [] misses missed are, nil_from_length)
+    grind (
+      arith,
+      trying_length [] tried left try,
+      misses_length (each_try []) misses missed (λ n. omega arith) are,
+      nil_from_length,
+    )
 
 ended_at : (unit : ℕ) (plan : Plan) (outcomes : List (Option (List ℕ))) (told : List Exchange) (now : Plan)
     (misses : ℕ) (left : List Request)

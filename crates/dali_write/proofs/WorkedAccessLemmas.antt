@@ -22,6 +22,11 @@ use Rattle.dali_write.specs.WorkedAccesses.{missed_read, after_a_miss, small_ban
 use Rattle.dali_write.proofs.ShapeLemmas.{trying_length, tail_is}
 use Rattle.dali_write.specs.Worlds.{Run}
 use Rattle.dali_gear.specs.SimState.{SimStep}
+use Rattle.dali_write.specs.declared.pace.Pace.TheVariants.{Checked, Short as ShortPace}
+use Rattle.std.specs.Str.{bytes_eq}
+use Rattle.std.proofs.lemmas.Slice.Eq.{bytes_eq-Decides}
+use Rattle.std.proofs.Common.{Bool, true, false}
+use Rattle.std.specs.Prelude.{◌≢◌}
 
 -- what is a miss
 pub another_missed : is_missed (Exactly 1) (Some 2) ≡ true
@@ -36,7 +41,7 @@ wished_met = refl
 pub nothing_wished : is_missed Nothing None ≡ false
 nothing_wished = refl
 
--- with one miss at most the frames of one try more
+-- with one miss at most the frames of one try more, by the short plan those of a row of sixteen
 pub miss_length : (n : ℕ) → length (after_a_miss n) ≡ 1 + n
 miss_length zero = refl
 miss_length (suc n) = let rest = miss_length n in omega arith
@@ -45,11 +50,17 @@ pub one_miss : (n : ℕ) → misses_in (after_a_miss n) ≡ 1
 one_miss zero = refl
 one_miss (suc n) = let rest = one_miss n in omega arith
 
-pub long_within : (n : ℕ) → IsLong 12 (after_a_miss n) → (11 ≤ n) × (n ≤ 18)
+pub long_within : (n : ℕ) → IsLong Checked 12 (after_a_miss n) → (11 ≤ n) × (n ≤ 18)
 long_within n long = grind (arith, miss_length n, one_miss n)
 
-pub long_enough : (n : ℕ) → (11 ≤ n) × (n ≤ 18) → IsLong 12 (after_a_miss n)
+pub long_enough : (n : ℕ) → (11 ≤ n) × (n ≤ 18) → IsLong Checked 12 (after_a_miss n)
 long_enough n (least, most) = let all = miss_length n in let one = one_miss n in (omega arith, omega arith)
+
+pub short_within : (n : ℕ) → IsLong ShortPace 12 (after_a_miss n) → (11 ≤ n) × (n ≤ 33)
+short_within n long = grind (arith, miss_length n, one_miss n)
+
+pub short_enough : (n : ℕ) → (11 ≤ n) × (n ≤ 33) → IsLong ShortPace 12 (after_a_miss n)
+short_enough n (least, most) = let all = miss_length n in let one = one_miss n in (omega arith, omega arith)
 
 -- the locations that are taken
 pub first_taken : MayStoreAt small_bank 0x03
@@ -115,7 +126,8 @@ pub unread_names : (unit location u l : ℕ) (told : List Exchange) → EndsUnre
     → (u ≡ unit) × (l ≡ location)
 unread_names unit location u l told f = grind (arith, missed_names, append_assoc)
 
-pub unlooked_names : (unit location u : ℕ) (told : List Exchange) → EndsUnlooked u (missed_read unit location told)
+pub unlooked_names : (unit location u : ℕ) (told : List Exchange)
+    → EndsUnlooked Checked u (missed_read unit location told)
     → (location ≡ 0x00) ⊎ ((location ≡ 0x11) ⊎ (location ≡ 0x12))
 unlooked_names unit location u told (inl f) = inl (sym (unread_names unit location u 0x00 told f).1)
 unlooked_names unit location u told (inr (inl f)) = inr (inl (sym (unread_names unit location u 0x11 told f).1))
@@ -186,19 +198,27 @@ walk_wants unit plan verdict outcomes told walk =
       ask_is = refl;
     }
 
--- where another byte was found, the session ended in doubt
-pub found_doubts : (unit : ℕ) (plan : Plan) (expected : List (ℕ × ℕ)) (told : List Exchange)
+-- where other bytes were found, the session ended in doubt
+pub found_doubts : (unit : ℕ) (plan : Plan) (expected : List (ℕ × List ℕ)) (told : List Exchange)
     → FoundAnother unit plan expected told → Wants unit plan told (Ended Doubt)
 found_doubts unit plan expected told f =
-    let differs = ne_eqb f.found f.byte f.another in
-    let goes : next_plan (expect f.location f.byte f.after) (Some (f.found ∷ [])) ≡ give_up = rw differs refl in
+    let differs = others f.found f.bytes f.another in
+    let goes : next_plan (expect f.location f.bytes f.after) (Some f.found) ≡ give_up = rw differs refl in
     let gave = subst (λ (p : Plan). Walk unit p f.later f.newer (Finish Doubt)) (sym goes) f.gave_up in
-    let later : Walk unit (expect f.location f.byte f.after) (Some (f.found ∷ []) ∷ f.later) (f.newer ++ f.read)
+    let later : Walk unit (expect f.location f.bytes f.after) (Some f.found ∷ f.later) (f.newer ++ f.read)
     (Finish Doubt) =
     (f.newer, f.read, refl, inl f.answered, gave) in
     let all =
-    walk_then unit plan (expect f.location f.byte f.after) (Finish Doubt) f.before
-    (Some (f.found ∷ []) ∷ f.later) f.older
+    walk_then unit plan (expect f.location f.bytes f.after) (Finish Doubt) f.before
+    (Some f.found ∷ f.later) f.older
     (f.newer ++ f.read) f.came later in
     walk_wants unit plan Doubt all.0 told (subst (λ (t : List Exchange). Walk unit plan all.0 t (Finish Doubt))
     (append_assoc f.newer f.read f.older ∙ sym f.parts) all.1)
+  where
+    not_true : (b : Bool) → (b ≡ true → ⊥) → b ≡ false
+    not_true true never = absurd (never refl)
+    not_true false never = refl
+
+    others : (found bytes : List ℕ) → found ≢ bytes → bytes_eq found bytes ≡ false
+    others found bytes another = not_true (bytes_eq found bytes)
+        (λ same. another ((bytes_eq-Decides found bytes).0 same))

@@ -5,7 +5,7 @@ use Rattle.dali_frame.specs.declared.forward.Frame.{Frame}
 use Rattle.dali_write.specs.Exchanges.{Exchange}
 use Rattle.dali_write.specs.declared.block.Block.{Block}
 use Rattle.dali_write.specs.declared.request.Request.{Request}
-use Rattle.dali_write.specs.Requests.{moved_on, block_requests}
+use Rattle.dali_write.specs.Requests.{moved_on, block_requests, each_try}
 use Rattle.dali_write.specs.Tries.{most_tries, Trying, Misses, bytes_of}
 
 -- no block has more locations
@@ -31,7 +31,7 @@ pub record IsAmid (unit : ℕ) (block : Block) (told : List Exchange) (frame : F
   pub left : List Request
   pub parts : told ≡ tried ++ missed
   pub few : misses < most_tries
-  pub misses_are : Misses (block_requests unit block) misses missed
+  pub misses_are : Misses (each_try (block_requests unit block)) misses missed
   pub try : Trying (block_requests unit block) tried (next ∷ left)
   pub frame_is : next.frame ≡ frame
 

@@ -1,11 +1,13 @@
 -- Why a session gives up, and why one that carries an order out ends in doubt.
-use Rattle.std.specs.Prelude.{◌≡◌, ◌≢◌, ◌⊎◌, ℕ, List, [], ◌∷◌, ◌++◌, Option, Some}
+use Rattle.std.specs.Prelude.{◌≡◌, ◌≢◌, ◌⊎◌, ℕ, List, ◌++◌, length, Option, Some}
 use Rattle.std.specs.List.{Contains}
 use Rattle.dali_write.specs.Exchanges.{Exchange}
 use Rattle.dali_write.specs.declared.ask.Verdict.TheVariants.{Doubt}
 use Rattle.dali_write.specs.declared.access.Access.{Access}
 use Rattle.dali_write.specs.declared.access.Access.TheVariants.{ReadFrom}
-use Rattle.dali_write.specs.Requests.{block, read_requests, access_requests}
+use Rattle.dali_write.specs.declared.pace.Pace.{Pace}
+use Rattle.dali_write.specs.declared.pace.Pace.TheVariants.{Checked, Short}
+use Rattle.dali_write.specs.Requests.{block, access_requests}
 use Rattle.dali_write.specs.Plans.{Plan, Finish, expect, give_up}
 use Rattle.dali_write.specs.Tries.{most_tries, Misses, Succeeds}
 use Rattle.dali_write.specs.Walks.{Walk}
@@ -30,28 +32,25 @@ abbrev pub EndsUnread : ℕ → ℕ → List Exchange → Type 0
 EndsUnread unit location told = EndsInFailure unit (ReadFrom (block location 1)) told
 
 -- or of one of the length or of the content format
-abbrev pub EndsUnlooked : ℕ → List Exchange → Type 0
-EndsUnlooked unit told = EndsUnread unit 0x00 told ⊎ EndsUnread unit 0x11 told ⊎ EndsUnread unit 0x12 told
+abbrev pub EndsUnlooked : Pace → ℕ → List Exchange → Type 0
+EndsUnlooked Checked unit told = EndsUnread unit 0x00 told ⊎ EndsUnread unit 0x11 told ⊎ EndsUnread unit 0x12 told
+EndsUnlooked Short unit told = EndsUnread unit 0x00 told ⊎ EndsInFailure unit (ReadFrom (block 0x11 2)) told
 
--- what is read back, each location with the byte that must be there: the lock byte, and the updates
-abbrev pub read_backs : List (ℕ × ℕ) → List (ℕ × ℕ)
-read_backs updates = (2, 0xFF) ∷ updates
-
--- After older exchanges the plan was to read one of the locations, which must hold its byte; the read was answered by
--- another byte; after it the session gave up.
-pub record FoundAnother (unit : ℕ) (plan : Plan) (expected : List (ℕ × ℕ)) (told : List Exchange) : Type 0 where
+-- After older exchanges the plan was to read one of the rows, which must hold its bytes; the read told others; after it
+-- the session gave up.
+pub record FoundAnother (unit : ℕ) (plan : Plan) (expected : List (ℕ × List ℕ)) (told : List Exchange) : Type 0 where
   pub newer : List Exchange
   pub read : List Exchange
   pub older : List Exchange
   pub parts : told ≡ newer ++ (read ++ older)
   pub location : ℕ
-  pub byte : ℕ
-  pub is_expected : Contains expected (location, byte)
+  pub bytes : List ℕ
+  pub is_expected : Contains expected (location, bytes)
   pub before : List (Option (List ℕ))
   pub after : Plan
-  pub came : Walk unit plan before older (expect location byte after)
-  pub found : ℕ
-  pub answered : Succeeds (read_requests unit location) (Some (found ∷ [])) read
-  pub another : found ≢ byte
+  pub came : Walk unit plan before older (expect location bytes after)
+  pub found : List ℕ
+  pub answered : Succeeds (access_requests unit (ReadFrom (block location (length bytes)))) (Some found) read
+  pub another : found ≢ bytes
   pub later : List (Option (List ℕ))
   pub gave_up : Walk unit give_up later newer (Finish Doubt)

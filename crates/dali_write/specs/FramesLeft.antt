@@ -40,5 +40,5 @@ limit_at task (Close answered unanswered) = close_limit
 limit_at task (ReadClosed answered unanswered) = read_limit
 limit_at task ReadAll = 255 * read_limit
 limit_at task (ReadOn location last) = read_limit * (suc last - location)
-limit_at task ReadBlock = most_tries * length (plan_requests 0 (of_block task))
+limit_at task ReadBlock = most_tries * length (plan_requests 0 (of_block task) 1)
 limit_at task (Over verdict) = 0

@@ -1,5 +1,5 @@
 -- What the simulated bus loses of the frames that are meant for one unit.
-use Rattle.std.specs.Prelude.{◌≡◌, ◌≢◌, ℕ, ◌+◌, ◌<◌, ◌==◌, Bool, false, ◌&&◌, ◌||◌, is_some, IsSome, IsTrue, ◌⊎◌, List, [], ⊤}
+use Rattle.std.specs.Prelude.{◌≡◌, ◌≢◌, ℕ, ◌+◌, ◌<◌, ◌==◌, Bool, true, false, ◌&&◌, ◌||◌, is_some, IsSome, IsTrue, ◌⊎◌, List, [], ⊤}
 use Rattle.std.specs.Prelude.{◌∷◌, length, slice_get, if◌then◌else◌}
 use Rattle.std.specs.List.{list_any, AllByRecursion}
 use Rattle.dali_frame.specs.declared.forward.Frame.{Frame}
@@ -10,7 +10,7 @@ use Rattle.dali_gear.specs.UnitState.{BankState, UnitState, is_writable}
 use Rattle.dali_gear.specs.SimState.{SimState, unit_answer}
 use Rattle.dali_write.specs.Requests.{moved_on}
 use Rattle.dali_write.specs.declared.access.Access.{Access}
-use Rattle.dali_write.specs.declared.access.Access.TheVariants.{ReadFrom, WriteTo}
+use Rattle.dali_write.specs.declared.access.Access.TheVariants.{ReadFrom, WriteTo, WriteOn}
 
 -- the unit at the address answers the frame
 abbrev pub answers_at : ℕ → Fate → Frame → List UnitState → Bool
@@ -52,10 +52,11 @@ IsAlone address unit (first ∷ units) =
 abbrev pub HasFrom : BankState → ℕ → ℕ → Type 0
 HasFrom bank location count = (index : ℕ) → index < count → IsSome (slice_get bank.bytes (moved_on location index))
 
--- the unit has the locations to read, or can write the one
+-- the unit has the locations to read, or can write the one and is enabled where it is taken to be
 abbrev pub CanDo : Access → UnitState → Type 0
 CanDo (ReadFrom block) unit = HasFrom unit.bank1 block.location block.count
 CanDo (WriteTo location byte) unit = IsTrue (is_writable unit.bank1 location)
+CanDo (WriteOn location byte) unit = IsTrue (is_writable unit.bank1 location) × (unit.enabled ≡ true)
 
 -- the banks are the same but for the byte at this location
 pub record OnlyDiffers (old : BankState) (location : ℕ) (new : BankState) : Type 0 where

@@ -7,6 +7,7 @@ use Rattle.dali_bus.specs.Hears.{up}
 use Rattle.dali_write.specs.Exchanges.{Exchange}
 use Rattle.dali_write.specs.declared.request.Wish.{Wish}
 use Rattle.dali_write.specs.declared.request.Wish.TheVariants.{Nothing, Exactly, Anything}
+use Rattle.dali_write.specs.declared.pace.Pace.{Pace}
 use Rattle.dali_write.specs.Frames.{try_frames}
 
 -- where DTR0 should stand after a frame: a read moves it on; behind a write, the last frame of its access, no frame
@@ -43,5 +44,5 @@ misses_in [] = 0
 misses_in (x ∷ told) = (if is_missed (wish_of x.frame (location_in told)) x.answer then 1 else 0) + misses_in told
 
 -- these are so many frames, and for each miss at most the frames of a try more
-abbrev pub IsLong : ℕ → List Exchange → Type 0
-IsLong frames told = (frames ≤ length told) × (length told ≤ frames + try_frames * misses_in told)
+abbrev pub IsLong : Pace → ℕ → List Exchange → Type 0
+IsLong pace frames told = (frames ≤ length told) × (length told ≤ frames + try_frames pace * misses_in told)

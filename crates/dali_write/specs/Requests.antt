@@ -9,7 +9,7 @@ use Rattle.dali_write.specs.declared.request.Wish.TheVariants.{Nothing, Exactly,
 use Rattle.dali_write.specs.declared.request.Request.{Request}
 use Rattle.dali_write.specs.declared.block.Block.{Block}
 use Rattle.dali_write.specs.declared.access.Access.{Access}
-use Rattle.dali_write.specs.declared.access.Access.TheVariants.{ReadFrom, WriteTo}
+use Rattle.dali_write.specs.declared.access.Access.TheVariants.{ReadFrom, WriteTo, WriteOn}
 
 -- the answer is as wished
 abbrev pub Meets : Wish → Option ℕ → Type 0
@@ -50,15 +50,26 @@ block_requests unit block =
 abbrev pub read_requests : ℕ → ℕ → List Request
 read_requests unit location = block_requests unit (block location 1)
 
+-- a write of the byte to the location, at a unit that is enabled
+abbrev pub put_requests : ℕ → ℕ → ℕ → List Request
+put_requests unit location byte = select_requests unit location ++ request (Write byte) (Exactly byte) ∷ []
+
 -- a checked write of the byte to the location
 abbrev pub write_requests : ℕ → ℕ → ℕ → List Request
 write_requests unit location byte =
-    request (Enable unit) Nothing ∷ request (Enable unit) Nothing
-    ∷ (select_requests unit location ++ request (Write byte) (Exactly byte) ∷ [])
+    request (Enable unit) Nothing ∷ request (Enable unit) Nothing ∷ put_requests unit location byte
 
-abbrev pub access_requests : ℕ → Access → List Request
-access_requests unit (ReadFrom block) = block_requests unit block
-access_requests unit (WriteTo location byte) = write_requests unit location byte
+-- The frames of a try of an access behind so many that missed. A write to a unit that an earlier write has enabled
+-- enables it anew behind a miss alone.
+abbrev pub access_requests : ℕ → Access → ℕ → List Request
+access_requests unit (ReadFrom block) misses = block_requests unit block
+access_requests unit (WriteTo location byte) misses = write_requests unit location byte
+access_requests unit (WriteOn location byte) zero = put_requests unit location byte
+access_requests unit (WriteOn location byte) (suc misses) = write_requests unit location byte
+
+-- the same frames in each try
+abbrev pub each_try : List Request → ℕ → List Request
+each_try requests misses = requests
 
 -- what was answered to a read
 abbrev pub read_answer : Frame → Option ℕ → List ℕ

@@ -2,6 +2,7 @@
 use Rattle.std.specs.Prelude.{◌≡◌, ℕ, ◌+◌, ◌-◌, ◌*◌, List, [], length, drop, Option, slice_get}
 use Rattle.dali_write.specs.Exchanges.{Exchange}
 use Rattle.dali_write.specs.declared.block.Block.{Block}
+use Rattle.dali_write.specs.declared.pace.Pace.{Pace}
 use Rattle.dali_write.specs.declared.request.Request.{Request}
 use Rattle.dali_write.specs.declared.ask.Ask.{Ask}
 use Rattle.dali_bank.specs.Order.{Contents}
@@ -24,11 +25,11 @@ abbrev pub bytes_read : Session → List ℕ
 bytes_read s = s.bytes.items
 
 -- The session looks whether the order suits its unit; it carries the order out; it closes the unit; it reads the block.
-abbrev pub IsFresh : Contents → Session → Type 0
-IsFresh order s = (unit_of s ≡ order.unit) × (task_of s ≡ Fresh order)
+abbrev pub IsFresh : Contents → Pace → Session → Type 0
+IsFresh order pace s = (unit_of s ≡ order.unit) × (task_of s ≡ Fresh order pace)
 
-abbrev pub IsOpened : Contents → Session → Type 0
-IsOpened order s = (unit_of s ≡ order.unit) × (task_of s ≡ Opened order)
+abbrev pub IsOpened : Contents → Pace → Session → Type 0
+IsOpened order pace s = (unit_of s ≡ order.unit) × (task_of s ≡ Opened order pace)
 
 abbrev pub IsClosing : ℕ → Session → Type 0
 IsClosing unit s = (unit_of s ≡ unit) × (task_of s ≡ Closing)
@@ -38,11 +39,12 @@ IsReadingBlock unit block s = (unit_of s ≡ unit) × (task_of s ≡ ReadingBloc
 
 -- what the session wants
 abbrev pub aim_of : Session → Ask
-aim_of s = ask_at (plan_at s.task s.stage) (drop s.number (plan_requests s.unit (plan_at s.task s.stage))) s.going
+aim_of s =
+    ask_at (plan_at s.task s.stage) (drop s.number (plan_requests s.unit (plan_at s.task s.stage) s.misses)) s.going
 
 -- the frame at hand, with the answer that it wants
 abbrev pub request_at_hand : Session → Option Request
-request_at_hand s = slice_get (plan_requests (s.unit) (plan_at s.task s.stage)) s.number
+request_at_hand s = slice_get (plan_requests s.unit (plan_at s.task s.stage) s.misses) s.number
 
 -- an access begins, with its first try
 abbrev pub BeginsTry : Session → Type 0
@@ -52,9 +54,10 @@ BeginsTry s = (s.misses ≡ 0) × (s.number ≡ 0) × (s.tried.items ≡ [])
 unfoldable pub Told : List Exchange → Session → Type 0
 Told told s =
     StandsWith s.task s.unit told (plan_at s.task s.stage) s.misses
-    (drop s.number (plan_requests (s.unit) (plan_at s.task s.stage))) s.tried.items s.bytes.items
+    (drop s.number (plan_requests s.unit (plan_at s.task s.stage) s.misses)) s.tried.items s.bytes.items
 
 -- the most frames that are still to come: those from the stage on, less those of the access at hand that its tries so
--- far used up
+-- far used up, each of them as long as one behind a miss
 abbrev pub frames_left : Session → ℕ
-frames_left s = limit_at s.task s.stage - (s.misses * length (plan_requests s.unit (plan_at s.task s.stage)) + s.number)
+frames_left s =
+    limit_at s.task s.stage - (s.misses * length (plan_requests s.unit (plan_at s.task s.stage) 1) + s.number)

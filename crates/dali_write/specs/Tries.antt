@@ -26,11 +26,11 @@ Missed requests [] = ⊥
 Missed requests (x ∷ told) =
     (wish : Wish) × (left : List Request) × (¬ Meets wish x.answer) × Trying requests told (request x.frame wish ∷ left)
 
--- so many tries, each of which ended at its first miss
-abbrev pub Misses : List Request → ℕ → List Exchange → Type 0
+-- so many tries, each of which ended at its first miss, where 'requests misses' are those of a try behind so many
+abbrev pub Misses : (ℕ → List Request) → ℕ → List Exchange → Type 0
 Misses requests zero told = told ≡ []
 Misses requests (suc misses) told =
-    (newer : List Exchange) × (older : List Exchange) × (told ≡ newer ++ older) × Missed requests newer
+    (newer : List Exchange) × (older : List Exchange) × (told ≡ newer ++ older) × Missed (requests misses) newer
     × Misses requests misses older
 
 -- what reads were answered, the oldest first
@@ -39,13 +39,14 @@ bytes_of [] = []
 bytes_of (x ∷ told) = bytes_of told ++ read_answer x.frame x.answer
 
 -- fewer than the most tries missed, and then one came to its end; the outcome is what its reads were answered
-abbrev pub Succeeds : List Request → Option (List ℕ) → List Exchange → Type 0
+abbrev pub Succeeds : (ℕ → List Request) → Option (List ℕ) → List Exchange → Type 0
 Succeeds requests outcome told =
     (newer : List Exchange) × (older : List Exchange) × (count : ℕ) × (told ≡ newer ++ older)
-    × Trying requests newer [] × (outcome ≡ Some (bytes_of newer)) × (count < most_tries) × Misses requests count older
+    × Trying (requests count) newer [] × (outcome ≡ Some (bytes_of newer)) × (count < most_tries)
+    × Misses requests count older
 
 -- the most tries missed
-abbrev pub Fails : List Request → Option (List ℕ) → List Exchange → Type 0
+abbrev pub Fails : (ℕ → List Request) → Option (List ℕ) → List Exchange → Type 0
 Fails requests outcome told = (outcome ≡ None) × Misses requests most_tries told
 
 -- a whole checked access with its outcome
@@ -61,10 +62,10 @@ AccessesEnd unit plan (outcome ∷ outcomes) told =
     (newer : List Exchange) × (older : List Exchange) × (told ≡ newer ++ older)
     × AccessEnds unit (plan_after plan outcomes) outcome newer × AccessesEnd unit plan outcomes older
 
--- the frames of the access at hand
-abbrev pub plan_requests : ℕ → Plan → List Request
-plan_requests unit (Finish verdict) = []
-plan_requests unit (Make access after) = access_requests unit access
+-- the frames of a try of the access at hand behind so many that missed
+abbrev pub plan_requests : ℕ → Plan → ℕ → List Request
+plan_requests unit (Finish verdict) misses = []
+plan_requests unit (Make access after) misses = access_requests unit access misses
 
 -- while an access is at hand, a frame of it is left
 abbrev pub is_going : Plan → List Request → Bool
@@ -85,7 +86,7 @@ pub record Stands (unit : ℕ) (plan : Plan) (outcomes : List (Option (List ℕ)
   pub now_is : plan_after plan outcomes ≡ now
   pub few : misses < most_tries
   pub misses_are : Misses (plan_requests unit now) misses missed
-  pub try : Trying (plan_requests unit now) tried left
+  pub try : Trying (plan_requests unit now misses) tried left
   pub bytes_are : bytes_of tried ≡ bytes
   pub going : IsGoing now left
 

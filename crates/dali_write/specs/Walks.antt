@@ -4,6 +4,8 @@ use Rattle.std.proofs.Common.{inl, inr}
 use Rattle.dali_write.specs.Exchanges.{Exchange}
 use Rattle.dali_write.specs.declared.ask.Verdict.{Verdict}
 use Rattle.dali_write.specs.declared.ask.Verdict.TheVariants.{Read}
+use Rattle.dali_write.specs.declared.pace.Pace.{Pace}
+use Rattle.dali_write.specs.declared.pace.Pace.TheVariants.{Checked}
 use Rattle.dali_write.specs.Frames.{try_frames}
 use Rattle.dali_write.specs.Counts.{read_all_frames}
 use Rattle.dali_write.specs.Plans.{Plan, Finish, Make, next_plan, read_all}
@@ -31,16 +33,17 @@ misses_of unit plan (outcome ∷ outcomes) told end walk =
 
 -- The plan ended so. It took this many frames where no try missed, and for each that did at most the frames of a try
 -- more.
-pub record Took (unit : ℕ) (plan : Plan) (told : List Exchange) (verdict : Verdict) (frames : ℕ) : Type 0 where
-  pub outcomes : List (Option (List ℕ))
-  pub walk : Walk unit plan outcomes told (Finish verdict)
-  pub more : ℕ
-  pub took : length told ≡ frames + more
-  pub few : more ≤ try_frames * misses_of unit plan outcomes told (Finish verdict) walk
+pub record Took (pace : Pace) (unit : ℕ) (plan : Plan) (told : List Exchange) (verdict : Verdict) (frames : ℕ) : Type 0
+  where
+    pub outcomes : List (Option (List ℕ))
+    pub walk : Walk unit plan outcomes told (Finish verdict)
+    pub more : ℕ
+    pub took : length told ≡ frames + more
+    pub few : more ≤ try_frames pace * misses_of unit plan outcomes told (Finish verdict) walk
 
 -- A reading session ended so. The byte that it read first, at 00h, says how many frames it took.
 pub record TookAll (unit : ℕ) (told : List Exchange) : Type 0 where
   pub last : ℕ
-  pub took : Took unit read_all told Read (read_all_frames last)
+  pub took : Took Checked unit read_all told Read (read_all_frames last)
   pub rest : List (Option (List ℕ))
   pub first : took.outcomes ≡ Some (last ∷ []) ∷ rest

@@ -1,6 +1,7 @@
 ghost use Rattle.std.specs.Prelude.{◌≡◌, ◌≤◌, slice_get, IfSome, All};
 ghost use Rattle.dali_frame.specs.Frame.{IsProper};
-ghost use Rattle.dali_write.specs.Requests.{select_requests, write_requests, access_requests};
+ghost use Rattle.dali_write.specs.Requests.{select_requests, put_requests, write_requests};
+ghost use Rattle.dali_write.specs.Requests.{access_requests};
 
 use crate::block::Block;
 use crate::request::{Request, Wish};
@@ -11,17 +12,22 @@ use dali_frame::Frame;
 pub(crate) enum Access {
     ReadFrom(Block),
     WriteTo(u8, u8),
+    /// To a unit that an earlier write has enabled: it is enabled anew behind a miss alone.
+    WriteOn(u8, u8),
 }
 
 impl Access {
-    // The frame of a try of this access that has a number, counted from 0.
-    pub(crate) fn request(self, unit: u8, number: usize) -> Option<Request>
-        ensures request { result ≡ slice_get (access_requests unit self) number }
+    // The frame of a try of this access behind so many that missed that has a number, counted from 0.
+    pub(crate) fn request(self, unit: u8, misses: u8, number: usize) -> Option<Request>
+        ensures request { result ≡ slice_get (access_requests unit self misses) number }
         ensures proper { unit ≤ 63 → IfSome result (λ request. IsProper request.frame) }
     {
         match self {
             Access::ReadFrom(block) => block.request(unit, number),
-            Access::WriteTo(location, byte) => {
+            Access::WriteOn(location, byte) if misses == 0 => {
+                put(unit, location, byte).get(number).copied()
+            }
+            Access::WriteTo(location, byte) | Access::WriteOn(location, byte) => {
                 checked_write(unit, location, byte).get(number).copied()
             }
         }
@@ -44,14 +50,23 @@ pub fn selection(unit: u8, location: u8) -> [Request; 4]
     ]
 }
 
+// The frames of a write at a unit that is enabled.
+fn put(unit: u8, location: u8, byte: u8) -> [Request; 5]
+    ensures requests { result ≡ put_requests unit location byte }
+    ensures proper { unit ≤ 63 → All (λ request. IsProper request.frame) result }
+{
+    let [bank, bank_back, place, place_back] = selection(unit, location);
+    let write = request(Frame::Write(byte), Wish::Exactly(byte));
+    [bank, bank_back, place, place_back, write]
+}
+
 // The frames of a checked write.
 fn checked_write(unit: u8, location: u8, byte: u8) -> [Request; 7]
     ensures requests { result ≡ write_requests unit location byte }
     ensures proper { unit ≤ 63 → All (λ request. IsProper request.frame) result }
 {
     let enable = request(Frame::Enable(unit), Wish::Nothing);
-    let [bank, bank_back, place, place_back] = selection(unit, location);
-    let write = request(Frame::Write(byte), Wish::Exactly(byte));
+    let [bank, bank_back, place, place_back, write] = put(unit, location, byte);
     [enable, enable, bank, bank_back, place, place_back, write]
 }
 

@@ -12,24 +12,26 @@ ghost use Rattle.dali_write.specs.Exchanges.{Exchange};
 ghost use Rattle.dali_write.specs.declared.session.Session.{Session};
 ghost use Rattle.dali_write.specs.declared.ask.Verdict.{Verdict};
 ghost use Rattle.dali_write.specs.Plans.{Plan, greatest, unlock, close, read_length, read_all, read_block};
+ghost use Rattle.dali_write.specs.Plans.{rows_of, most_of, read_backs, write_next};
+ghost use Rattle.dali_write.specs.declared.pace.Pace.{Pace};
 ghost use Rattle.dali_write.specs.Tries.{Wants};
 ghost use Rattle.dali_write.specs.Verdicts.{Says, ShowsBank, EndsFresh, EndsOpened, EndsClosing, EndsReading};
 ghost use Rattle.dali_write.specs.declared.stage.Task.{Task};
 ghost use Rattle.dali_write.specs.Stages.{plan_of};
 ghost use Rattle.dali_write.specs.Told.{Told, unit_of, task_of, bytes_read, aim_of, IsReadingBlock};
-ghost use Rattle.dali_write.specs.Frames.{read_frames, write_frames};
+ghost use Rattle.dali_write.specs.Frames.{read_frames, write_frames, format_frames, try_frames};
 ghost use Rattle.dali_write.specs.Counts.{done_frames, frame_limit};
 ghost use Rattle.dali_gear.specs.SimState.{SimState, SimStep, AreApart, world_of};
 ghost use Rattle.dali_gear.specs.UnitState.{UnitState, gear_of};
 ghost use Rattle.dali_write.specs.declared.access.Access.{Access};
-ghost use Rattle.dali_write.specs.declared.access.Access.TheVariants.{ReadFrom, WriteTo};
-ghost use Rattle.dali_write.specs.Requests.{block_requests, access_requests};
+ghost use Rattle.dali_write.specs.declared.access.Access.TheVariants.{ReadFrom};
+ghost use Rattle.dali_write.specs.Requests.{block_requests, access_requests, each_try};
 ghost use Rattle.dali_write.specs.Tries.{most_tries, Missed, Misses, Succeeds, Fails};
 ghost use Rattle.dali_write.specs.Walks.{Walk, misses_of, Took, TookAll};
 ghost use Rattle.dali_write.specs.Misses.{misses_in};
 ghost use Rattle.dali_write.specs.Successes.{TakesAll, found_verdict, Spared, MissesByLosses};
 ghost use Rattle.dali_bank.specs.Order.{Contents, RisesAbove};
-ghost use Rattle.dali_write.specs.Doubts.{EndsUnread, EndsUnlooked, HasFailed, read_backs, FoundAnother};
+ghost use Rattle.dali_write.specs.Doubts.{EndsUnread, EndsUnlooked, HasFailed, FoundAnother};
 ghost use Rattle.dali_write.specs.Losses.{losses, Unrefused, IsAlone, CanDo, OnlyDiffers};
 ghost use Rattle.dali_write.specs.Touches.{Touches, writes_of};
 ghost use Rattle.dali_write.specs.Findings.{Rests};
@@ -90,10 +92,10 @@ pub fn guarded_writes_are_safe()
 
 /// With which verdicts a session may end.
 pub fn sessions_end_by_their_kind()
-    ensures fresh { (told : List Exchange) (unit : ℕ) (updates : List (ℕ × ℕ)) (verdict : Verdict)
-        → Wants unit (read_length updates) told (Ask.Ended verdict) → EndsFresh verdict }
-    ensures opened { (told : List Exchange) (unit : ℕ) (updates : List (ℕ × ℕ)) (verdict : Verdict)
-        → Wants unit (unlock updates) told (Ask.Ended verdict) → EndsOpened verdict }
+    ensures fresh { (told : List Exchange) (unit : ℕ) (pace : Pace) (updates : List (ℕ × ℕ)) (verdict : Verdict)
+        → Wants unit (read_length pace updates) told (Ask.Ended verdict) → EndsFresh verdict }
+    ensures opened { (told : List Exchange) (unit : ℕ) (pace : Pace) (updates : List (ℕ × ℕ)) (verdict : Verdict)
+        → Wants unit (unlock pace updates) told (Ask.Ended verdict) → EndsOpened verdict }
     ensures closing { (told : List Exchange) (unit : ℕ) (verdict : Verdict)
         → Wants unit (close Verdict.Closed Verdict.NotClosed) told (Ask.Ended verdict) → EndsClosing verdict }
     ensures reading { (told : List Exchange) (unit : ℕ) (verdict : Verdict)
@@ -104,10 +106,10 @@ pub fn sessions_end_by_their_kind()
 
 /// What a session's verdict rests on: checked reads of its own that still stand.
 pub fn verdicts_rest_on_reads()
-    ensures opened { (told : List Exchange) (unit : ℕ) (updates : List (ℕ × ℕ)) (verdict : Verdict)
-        → Wants unit (unlock updates) told (Ask.Ended verdict) → Rests (StillRead told unit) updates verdict }
-    ensures fresh { (told : List Exchange) (unit : ℕ) (updates : List (ℕ × ℕ)) (verdict : Verdict)
-        → Wants unit (read_length updates) told (Ask.Ended verdict) → Rests (StillRead told unit) updates verdict }
+    ensures opened { (told : List Exchange) (unit : ℕ) (pace : Pace) (updates : List (ℕ × ℕ)) (verdict : Verdict)
+        → Wants unit (unlock pace updates) told (Ask.Ended verdict) → Rests (StillRead told unit) updates verdict }
+    ensures fresh { (told : List Exchange) (unit : ℕ) (pace : Pace) (updates : List (ℕ × ℕ)) (verdict : Verdict)
+        → Wants unit (read_length pace updates) told (Ask.Ended verdict) → Rests (StillRead told unit) updates verdict }
     ensures closing { (told : List Exchange) (unit : ℕ) (verdict : Verdict)
         → Wants unit (close Verdict.Closed Verdict.NotClosed) told (Ask.Ended verdict)
         → Rests (StillRead told unit) [] verdict }
@@ -130,10 +132,10 @@ pub fn sessions_keep_what_they_read()
 pub fn sessions_read_blocks()
     ensures read { (told : List Exchange) (s : Session) (unit : ℕ) (block : Block) → Told told s
         → IsReadingBlock unit block s → aim_of s ≡ Ask.Ended Verdict.Read
-        → Succeeds (block_requests unit block) (Some (bytes_read s)) told }
+        → Succeeds (each_try (block_requests unit block)) (Some (bytes_read s)) told }
     ensures silent { (told : List Exchange) (s : Session) (unit : ℕ) (block : Block) (verdict : Verdict) → Told told s
         → IsReadingBlock unit block s → aim_of s ≡ Ask.Ended verdict → verdict ≢ Verdict.Read
-        → Misses (block_requests unit block) most_tries told }
+        → Misses (each_try (block_requests unit block)) most_tries told }
     ensures amid { (told : List Exchange) (s : Session) (unit : ℕ) (block : Block) (frame : Frame) → Told told s
         → IsReadingBlock unit block s → aim_of s ≡ Ask.Send frame → IsAmid unit block told frame }
 {}
@@ -141,12 +143,12 @@ pub fn sessions_read_blocks()
 /// What a session's verdict says of the world, whichever units lose their power meanwhile.
 pub fn verdicts_are_true()
     ensures opened { (loses : List ℕ) (told : List Exchange) (first last : World) (unit : ℕ)
-        (updates : List (ℕ × ℕ)) (verdict : Verdict)
-        → Run WorldStep (IsAmong loses) told first last → Wants unit (unlock updates) told (Ask.Ended verdict)
+        (pace : Pace) (updates : List (ℕ × ℕ)) (verdict : Verdict)
+        → Run WorldStep (IsAmong loses) told first last → Wants unit (unlock pace updates) told (Ask.Ended verdict)
         → Says (IsAmong loses) unit updates last verdict }
     ensures fresh { (loses : List ℕ) (told : List Exchange) (first last : World) (unit : ℕ)
-        (updates : List (ℕ × ℕ)) (verdict : Verdict)
-        → Run WorldStep (IsAmong loses) told first last → Wants unit (read_length updates) told (Ask.Ended verdict)
+        (pace : Pace) (updates : List (ℕ × ℕ)) (verdict : Verdict)
+        → Run WorldStep (IsAmong loses) told first last → Wants unit (read_length pace updates) told (Ask.Ended verdict)
         → Says (IsAmong loses) unit updates last verdict }
     ensures closing { (loses : List ℕ) (told : List Exchange) (first last : World) (unit : ℕ) (verdict : Verdict)
         → Run WorldStep (IsAmong loses) told first last
@@ -161,8 +163,8 @@ pub fn verdicts_are_true()
 /// that lose their power may change.
 pub fn readers_are_quiet()
     ensures fresh { (loses : List ℕ) (told : List Exchange) (first last : World) (unit : ℕ)
-        (updates : List (ℕ × ℕ)) (ask : Ask)
-        → Run WorldStep (IsAmong loses) told first last → Wants unit (read_length updates) told ask
+        (pace : Pace) (updates : List (ℕ × ℕ)) (ask : Ask)
+        → Run WorldStep (IsAmong loses) told first last → Wants unit (read_length pace updates) told ask
         → (address : ℕ) → KeepsAt (IsAmong loses) first last address }
     ensures reading { (loses : List ℕ) (told : List Exchange) (first last : World) (unit : ℕ) (ask : Ask)
         → Run WorldStep (IsAmong loses) told first last → Wants unit read_all told ask
@@ -177,17 +179,18 @@ pub fn readers_are_quiet()
 /// is newly enabled. Lock bytes of units that lose their power may change besides.
 pub fn sessions_touch_their_places_alone()
     ensures opened { (loses : List ℕ) (told : List Exchange) (first last : World) (unit : ℕ)
-        (updates : List (ℕ × ℕ)) (ask : Ask)
-        → OnlyEnabled unit first → Run WorldStep (IsAmong loses) told first last → Wants unit (unlock updates) told ask
+        (pace : Pace) (updates : List (ℕ × ℕ)) (ask : Ask)
+        → OnlyEnabled unit first → Run WorldStep (IsAmong loses) told first last
+        → Wants unit (unlock pace updates) told ask
         → Touches (IsAmong loses) (writes_of updates) unit first last }
     ensures closing { (loses : List ℕ) (told : List Exchange) (first last : World) (unit : ℕ) (ask : Ask)
         → OnlyEnabled unit first → Run WorldStep (IsAmong loses) told first last
         → Wants unit (close Verdict.Closed Verdict.NotClosed) told ask
         → Touches (IsAmong loses) ((2, 0xFF) ∷ []) unit first last }
     ensures enabled { (loses : List ℕ) (told : List Exchange) (first last : World) (unit : ℕ)
-        (updates : List (ℕ × ℕ)) (ask : Ask)
+        (pace : Pace) (updates : List (ℕ × ℕ)) (ask : Ask)
         → OnlyEnabled unit first → Run WorldStep (IsAmong loses) told first last
-        → Wants unit (unlock updates) told ask ⊎ Wants unit (close Verdict.Closed Verdict.NotClosed) told ask
+        → Wants unit (unlock pace updates) told ask ⊎ Wants unit (close Verdict.Closed Verdict.NotClosed) told ask
         → OnlyEnabled unit last }
 {}
 
@@ -195,10 +198,10 @@ pub fn sessions_touch_their_places_alone()
 /// and writes a byte of its own where the unit was made sure to have selected its location. A fresh or a reading one
 /// writes nothing.
 pub fn wanted_frames_are_guarded()
-    ensures opened { (told : List Exchange) (unit : ℕ) (updates : List (ℕ × ℕ)) (frame : Frame)
-        → Wants unit (unlock updates) told (Ask.Send frame) → IsGuarded (writes_of updates) unit told frame }
-    ensures fresh { (told : List Exchange) (unit : ℕ) (updates : List (ℕ × ℕ)) (frame : Frame)
-        → Wants unit (read_length updates) told (Ask.Send frame) → IsGuarded [] unit told frame }
+    ensures opened { (told : List Exchange) (unit : ℕ) (pace : Pace) (updates : List (ℕ × ℕ)) (frame : Frame)
+        → Wants unit (unlock pace updates) told (Ask.Send frame) → IsGuarded (writes_of updates) unit told frame }
+    ensures fresh { (told : List Exchange) (unit : ℕ) (pace : Pace) (updates : List (ℕ × ℕ)) (frame : Frame)
+        → Wants unit (read_length pace updates) told (Ask.Send frame) → IsGuarded [] unit told frame }
     ensures closing { (told : List Exchange) (unit : ℕ) (frame : Frame)
         → Wants unit (close Verdict.Closed Verdict.NotClosed) told (Ask.Send frame)
         → IsGuarded ((2, 0xFF) ∷ []) unit told frame }
@@ -220,11 +223,11 @@ pub fn simulated_runs_are_runs()
 /// the location to read or can write it, a try misses only by a loss to the unit. Other units may lose
 /// their power meanwhile.
 pub fn tries_miss_by_losses()
-    ensures { (loses : List ℕ) (at : ℕ) (access : Access) (unit : UnitState) (told : List Exchange)
+    ensures { (loses : List ℕ) (at : ℕ) (access : Access) (misses : ℕ) (unit : UnitState) (told : List Exchange)
         (first last : SimState) (run : Run SimStep (IsAmong loses) told first last)
         → (IsAmong loses at → ⊥) → IsAlone at unit first.units → CanDo access unit
         → Unrefused run.past run.chain.states
-        → Missed (access_requests at access) told → 1 ≤ losses at run.past run.chain.states }
+        → Missed (access_requests at access misses) told → 1 ≤ losses at run.past run.chain.states }
 {}
 
 /// With the same premises, an access misses no more often than its unit has losses, and with fewer of
@@ -247,40 +250,46 @@ pub fn accesses_outlive_losses()
 /// The limits and the exact counts of sessions, as numbers.
 pub fn counts_are_these()
     ensures tries { most_tries ≡ 8 }
-    ensures fresh { (order : Contents) → frame_limit (Task.Fresh order) ≡ 168 }
-    ensures opened { (order : Contents) → frame_limit (Task.Opened order) ≡ 112 * length order.updates + 280 }
+    ensures fresh { (order : Contents) (pace : Pace) → frame_limit (Task.Fresh order pace) ≡ 168 }
+    ensures opened { (order : Contents) (pace : Pace)
+        → frame_limit (Task.Opened order pace) ≡ 112 * length order.updates + 280 }
     ensures closing { frame_limit Task.Closing ≡ 112 }
     ensures reading { frame_limit Task.Reading ≡ 14280 }
-    ensures done { (updates : ℕ) → done_frames updates ≡ 14 * updates + 21 }
+    ensures done { (updates : List (ℕ × ℕ)) → done_frames Pace.Checked updates ≡ 14 * length updates + 21 }
+    ensures done_short { (updates : List (ℕ × ℕ))
+        → done_frames Pace.Short updates ≡ 6 * length updates + 6 * length (rows_of 16 (read_backs updates)) + 13 }
     ensures frames { (read_frames ≡ 7) × (write_frames ≡ 7) }
+    ensures format { (format_frames Pace.Checked ≡ 14) × (format_frames Pace.Short ≡ 8) }
+    ensures misses { (try_frames Pace.Checked ≡ 7) × (try_frames Pace.Short ≡ 22) }
 {}
 
 /// How many frames an opened session took that ended Done.
 pub fn done_sessions_take_exactly()
-    ensures { (told : List Exchange) (unit : ℕ) (updates : List (ℕ × ℕ))
-        → Wants unit (unlock updates) told (Ask.Ended Verdict.Done)
-        → Took unit (unlock updates) told Verdict.Done (done_frames (length updates)) }
+    ensures { (told : List Exchange) (unit : ℕ) (pace : Pace) (updates : List (ℕ × ℕ))
+        → Wants unit (unlock pace updates) told (Ask.Ended Verdict.Done)
+        → Took pace unit (unlock pace updates) told Verdict.Done (done_frames pace updates) }
 {}
 
 /// How many frames the other sessions took that didn't give up; one that may open reads the format
 /// only where a location is past 12h. A closing session whose write failed goes on to its read: the
 /// frames of that write are all of missed tries, and within what those allow.
 pub fn sessions_take_exactly()
-    ensures short { (told : List Exchange) (unit : ℕ) (updates : List (ℕ × ℕ))
-        → Wants unit (read_length updates) told (Ask.Ended Verdict.Short)
-        → Took unit (read_length updates) told Verdict.Short read_frames }
-    ensures low { (told : List Exchange) (unit : ℕ) (updates : List (ℕ × ℕ)) → greatest updates < 0x13
-        → Wants unit (read_length updates) told (Ask.Ended Verdict.MayOpen)
-        → Took unit (read_length updates) told Verdict.MayOpen read_frames }
-    ensures high { (told : List Exchange) (unit : ℕ) (updates : List (ℕ × ℕ)) → 0x13 ≤ greatest updates
-        → Wants unit (read_length updates) told (Ask.Ended Verdict.MayOpen)
-        → Took unit (read_length updates) told Verdict.MayOpen (3 * read_frames) }
-    ensures format { (told : List Exchange) (unit : ℕ) (updates : List (ℕ × ℕ))
-        → Wants unit (read_length updates) told (Ask.Ended Verdict.Format)
-        → Took unit (read_length updates) told Verdict.Format (3 * read_frames) }
+    ensures short { (told : List Exchange) (unit : ℕ) (pace : Pace) (updates : List (ℕ × ℕ))
+        → Wants unit (read_length pace updates) told (Ask.Ended Verdict.Short)
+        → Took pace unit (read_length pace updates) told Verdict.Short read_frames }
+    ensures low { (told : List Exchange) (unit : ℕ) (pace : Pace) (updates : List (ℕ × ℕ)) → greatest updates < 0x13
+        → Wants unit (read_length pace updates) told (Ask.Ended Verdict.MayOpen)
+        → Took pace unit (read_length pace updates) told Verdict.MayOpen read_frames }
+    ensures high { (told : List Exchange) (unit : ℕ) (pace : Pace) (updates : List (ℕ × ℕ)) → 0x13 ≤ greatest updates
+        → Wants unit (read_length pace updates) told (Ask.Ended Verdict.MayOpen)
+        → Took pace unit (read_length pace updates) told Verdict.MayOpen (read_frames + format_frames pace) }
+    ensures format { (told : List Exchange) (unit : ℕ) (pace : Pace) (updates : List (ℕ × ℕ))
+        → Wants unit (read_length pace updates) told (Ask.Ended Verdict.Format)
+        → Took pace unit (read_length pace updates) told Verdict.Format (read_frames + format_frames pace) }
     ensures closed { (told : List Exchange) (unit : ℕ)
         → Wants unit (close Verdict.Closed Verdict.NotClosed) told (Ask.Ended Verdict.Closed)
-        → Took unit (close Verdict.Closed Verdict.NotClosed) told Verdict.Closed (write_frames + read_frames) }
+        → Took Pace.Checked unit (close Verdict.Closed Verdict.NotClosed) told Verdict.Closed
+        (write_frames + read_frames) }
     ensures read { (told : List Exchange) (unit : ℕ) → Wants unit read_all told (Ask.Ended Verdict.Read)
         → TookAll unit told }
 {}
@@ -288,10 +297,10 @@ pub fn sessions_take_exactly()
 /// A session gives up only where the access that it had last failed, in each of its tries: a read of
 /// the length or of the content format, of the lock byte, or of a location.
 pub fn sessions_give_up_late()
-    ensures fresh { (told : List Exchange) (unit : ℕ) (updates : List (ℕ × ℕ))
-        → Wants unit (read_length updates) told (Ask.Ended Verdict.Silent) → EndsUnlooked unit told }
-    ensures opened { (told : List Exchange) (unit : ℕ) (updates : List (ℕ × ℕ))
-        → Wants unit (unlock updates) told (Ask.Ended Verdict.DoubtOpen) → EndsUnread unit 0x02 told }
+    ensures fresh { (told : List Exchange) (unit : ℕ) (pace : Pace) (updates : List (ℕ × ℕ))
+        → Wants unit (read_length pace updates) told (Ask.Ended Verdict.Silent) → EndsUnlooked pace unit told }
+    ensures opened { (told : List Exchange) (unit : ℕ) (pace : Pace) (updates : List (ℕ × ℕ))
+        → Wants unit (unlock pace updates) told (Ask.Ended Verdict.DoubtOpen) → EndsUnread unit 0x02 told }
     ensures closing { (told : List Exchange) (unit : ℕ)
         → Wants unit (close Verdict.Closed Verdict.NotClosed) told (Ask.Ended Verdict.NotClosed)
         → EndsUnread unit 0x02 told }
@@ -310,18 +319,19 @@ pub fn unreached_units_were_not_read()
 /// or because a checked read of the lock byte or of an update's location found another byte than
 /// must be there.
 pub fn doubts_have_a_cause()
-    ensures { (told : List Exchange) (unit : ℕ) (updates : List (ℕ × ℕ))
-        → Wants unit (unlock updates) told (Ask.Ended Verdict.Doubt)
-        → HasFailed unit told ⊎ FoundAnother unit (unlock updates) (read_backs updates) told }
+    ensures { (told : List Exchange) (unit : ℕ) (pace : Pace) (updates : List (ℕ × ℕ))
+        → Wants unit (unlock pace updates) told (Ask.Ended Verdict.Doubt)
+        → HasFailed unit told
+        ⊎ FoundAnother unit (unlock pace updates) (rows_of (most_of pace) (read_backs updates)) told }
 {}
 
 /// On the simulated bus a checked write that succeeded has stored its byte and nothing else,
 /// whatever was lost or refused before, and whichever other units lost their power.
 pub fn successful_writes_are_stored()
-    ensures { (loses : List ℕ) (at location byte : ℕ) (unit : UnitState) (outcome : Option (List ℕ))
+    ensures { (loses : List ℕ) (pace : Pace) (at location byte : ℕ) (unit : UnitState) (outcome : Option (List ℕ))
         (told : List Exchange) (first last : SimState)
         → Run SimStep (IsAmong loses) told first last → (IsAmong loses at → ⊥)
-        → IsAlone at unit first.units → Succeeds (access_requests at (WriteTo location byte)) outcome told
+        → IsAlone at unit first.units → Succeeds (access_requests at (write_next pace location byte)) outcome told
         → (now : UnitState) × IsAlone at now last.units × OnlyDiffers unit.bank1 location now.bank1
         × (slice_get now.bank1.bytes location ≡ Some byte) }
 {}
@@ -337,12 +347,12 @@ pub fn accesses_keep_the_bank()
         → Succeeds (access_requests at (ReadFrom block)) outcome told
         ⊎ Fails (access_requests at (ReadFrom block)) outcome told
         → (now : UnitState) × IsAlone at now last.units × (now.bank1 ≡ unit.bank1) }
-    ensures write { (loses : List ℕ) (at location byte : ℕ) (unit : UnitState) (outcome : Option (List ℕ))
-        (told : List Exchange) (first last : SimState)
+    ensures write { (loses : List ℕ) (pace : Pace) (at location byte : ℕ) (unit : UnitState)
+        (outcome : Option (List ℕ)) (told : List Exchange) (first last : SimState)
         → Run SimStep (IsAmong loses) told first last → (IsAmong loses at → ⊥)
         → IsAlone at unit first.units
-        → Succeeds (access_requests at (WriteTo location byte)) outcome told
-        ⊎ Fails (access_requests at (WriteTo location byte)) outcome told
+        → Succeeds (access_requests at (write_next pace location byte)) outcome told
+        ⊎ Fails (access_requests at (write_next pace location byte)) outcome told
         → (now : UnitState) × IsAlone at now last.units × OnlyDiffers unit.bank1 location now.bank1 }
 {}
 
@@ -383,14 +393,16 @@ pub fn misses_are_those_of_the_tries()
 /// its locations is there and none is fixed, a closing one as `Closed`, and a reading one as `Read`.
 /// Other units may lose their power meanwhile.
 pub fn spared_sessions_succeed()
-    ensures fresh { (loses : List ℕ) (at : ℕ) (unit : UnitState) (updates : List (ℕ × ℕ)) (verdict : Verdict)
+    ensures fresh { (loses : List ℕ) (at : ℕ) (unit : UnitState) (pace : Pace) (updates : List (ℕ × ℕ))
+        (verdict : Verdict)
         (told : List Exchange) (first last : SimState) (spared : Spared (IsAmong loses) at unit told first last)
-        → Wants at (read_length updates) told (Ask.Ended verdict)
+        → Wants at (read_length pace updates) told (Ask.Ended verdict)
         → (verdict ≡ found_verdict unit.bank1.bytes updates)
         × MissesByLosses (IsAmong loses) at unit told first last spared }
-    ensures opened { (loses : List ℕ) (at : ℕ) (unit : UnitState) (updates : List (ℕ × ℕ)) (verdict : Verdict)
+    ensures opened { (loses : List ℕ) (at : ℕ) (unit : UnitState) (pace : Pace) (updates : List (ℕ × ℕ))
+        (verdict : Verdict)
         (told : List Exchange) (first last : SimState) (spared : Spared (IsAmong loses) at unit told first last)
-        → RisesAbove 0 updates → TakesAll unit.bank1 updates → Wants at (unlock updates) told (Ask.Ended verdict)
+        → RisesAbove 0 updates → TakesAll unit.bank1 updates → Wants at (unlock pace updates) told (Ask.Ended verdict)
         → (verdict ≡ Verdict.Done) × MissesByLosses (IsAmong loses) at unit told first last spared }
     ensures closing { (loses : List ℕ) (at : ℕ) (unit : UnitState) (verdict : Verdict) (told : List Exchange)
         (first last : SimState) (spared : Spared (IsAmong loses) at unit told first last)

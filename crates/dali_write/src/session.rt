@@ -1,5 +1,5 @@
 ghost use Rattle.std.specs.Prelude.{◌≡◌, ◌∷◌, ◌≤◌, ◌<◌, ◌+◌, ◌*◌, [], List, ℕ, Option, IsSome, IsNone, IfSome, IfOk};
-ghost use Rattle.std.specs.Prelude.{◌++◌, drop, length, slice_get, get_or, Some, true};
+ghost use Rattle.std.specs.Prelude.{◌++◌, drop, length, slice_get, Some, true};
 ghost use Rattle.dali_frame.specs.declared.forward.Frame.{Frame};
 ghost use Rattle.dali_frame.specs.Frame.{IsProper};
 ghost use Rattle.dali_write.specs.Exchanges.{Exchange};
@@ -17,6 +17,7 @@ ghost use Rattle.dali_write.specs.Counts.{fresh_limit, opened_limit, closing_lim
 
 use crate::ask::{Ask, Verdict};
 use crate::block::Block;
+use crate::pace::Pace;
 use crate::request::Request;
 use crate::stage::{Stage, Task};
 use arrayvec::ArrayVec;
@@ -53,7 +54,7 @@ pub struct Session {
     bytes: ArrayVec<u8, 255>,
     ghost short: { unit ≤ 63 },
     ghost few: { misses < most_tries },
-    ghost going: { IsGoing (plan_at task stage) (drop number (plan_requests unit (plan_at task stage))) },
+    ghost going: { IsGoing (plan_at task stage) (drop number (plan_requests unit (plan_at task stage) misses)) },
     ghost small: { is_small task ≡ true },
     ghost room: { length tried.items ≤ number },
     ghost held: { length bytes.items ≤ 255 },
@@ -65,25 +66,25 @@ impl Session {
 
     /// Looks whether bank 1 of the order's unit suits the order: its last location, and the content
     /// format where the order writes from 13h on. Ends as `MayOpen`, `Short`, `Format` or `Silent`.
-    pub fn fresh(order: Order) -> Session
+    pub fn fresh(order: Order, pace: Pace) -> Session
         ensures unit { unit_of result ≡ order.unit }
-        ensures task { task_of result ≡ Task.Fresh order }
+        ensures task { task_of result ≡ Task.Fresh order pace }
         ensures told { Told [] result }
         ensures left { frames_left result ≡ fresh_limit }
     {
-        Session::begun(order.unit(), Task::Fresh(order), Stage::ReadLength)
+        Session::begun(order.unit(), Task::Fresh(order, pace), Stage::ReadLength)
     }
 
     /// Carries the order out: unlocks bank 1, writes each update, locks it and reads all back. Where
     /// an access fails or another byte is read back, closes the unit. Ends as `Done`, `Doubt` or
     /// `DoubtOpen`.
-    pub fn opened(order: Order) -> Session
+    pub fn opened(order: Order, pace: Pace) -> Session
         ensures unit { unit_of result ≡ order.unit }
-        ensures task { task_of result ≡ Task.Opened order }
+        ensures task { task_of result ≡ Task.Opened order pace }
         ensures told { Told [] result }
         ensures left { frames_left result ≡ opened_limit (length order.updates) }
     {
-        Session::begun(order.unit(), Task::Opened(order), Stage::Unlock)
+        Session::begun(order.unit(), Task::Opened(order, pace), Stage::Unlock)
     }
 
     /// Closes the unit at a short address, at most 63: locks bank 1, whether or not that succeeds,
@@ -152,7 +153,7 @@ impl Session {
         ensures proper { (frame : Frame) → result ≡ Ask.Send frame → IsProper frame }
     {
         match self.stage.access(&self.task) {
-            Ok(access) => match access.request(self.unit, self.number) {
+            Ok(access) => match access.request(self.unit, self.misses, self.number) {
                 Some(request) => Ask::Send(request.frame),
                 // an access at hand has a next frame
                 None => unreachable!(),
@@ -175,7 +176,7 @@ impl Session {
         ensures none { IsNone result → order_for (task_of self.now) ≡ None }
     {
         match &self.task {
-            Task::Fresh(order) | Task::Opened(order) => Some(order),
+            Task::Fresh(order, _) | Task::Opened(order, _) => Some(order),
             Task::Closing | Task::Reading | Task::ReadingBlock(_) => None,
         }
     }
@@ -218,10 +219,11 @@ impl Session {
 
     // The frame of this number of the access at hand, with the answer that it wants.
     fn request_at(&self, number: usize) -> Option<Request>
-        ensures { result ≡ slice_get (plan_requests self.now.unit (plan_at self.now.task self.now.stage)) number }
+        ensures { result ≡ slice_get
+            (plan_requests self.now.unit (plan_at self.now.task self.now.stage) self.now.misses) number }
     {
         match self.stage.access(&self.task) {
-            Ok(access) => access.request(self.unit, number),
+            Ok(access) => access.request(self.unit, self.misses, number),
             Err(_) => None,
         }
     }
@@ -242,7 +244,7 @@ impl Session {
             self.number += 1;
         } else {
             keep_read(&mut self.bytes, &self.task, &self.tried);
-            self.stage = self.stage.told(&self.task, first_of(&self.tried));
+            self.stage = self.stage.told(&self.task, &self.tried);
             self.misses = 0;
             self.number = 0;
             self.tried.clear();
@@ -291,15 +293,5 @@ fn keep_read(bytes: &mut ArrayVec<u8, 255>, task: &Task, tried: &[u8])
 {
     if let Task::Reading | Task::ReadingBlock(_) = task {
         let _fits = bytes.try_extend_from_slice(tried);
-    }
-}
-
-// The first byte, or 0.
-fn first_of(bytes: &[u8]) -> u8
-    ensures { result ≡ get_or bytes.now 0 0 }
-{
-    match bytes {
-        [byte, ..] => *byte,
-        [] => 0,
     }
 }

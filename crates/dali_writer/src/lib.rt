@@ -3,12 +3,12 @@
 #![tactic(auto)]
 
 pub use dali_drive::{
-    BehindFault, Desk, DriveFault, FindingObserver, Given, Got, JournalLimits, LentSinks, Line,
-    ListedOrders, Nobody, Observer, OpenDesk, Orders, Sink, Source, StdSink, StdSource, StoreDesk,
-    StoredFault, drive, drive_at, drive_stored, exchange, follow, follow_stored,
+    BehindFault, Desk, DriveFault, FindingObserver, Given, Got, LentSinks, Line, ListedOrders,
+    Nobody, Observer, OpenDesk, Orders, Sink, Sought, Source, StdSink, StdSource, StoreDesk,
+    StoredFault, Terms, drive, drive_at, drive_stored, exchange, follow, follow_stored,
     laws as drive_laws, put_all, read_unit, scan_units, verify_orders,
 };
-pub use dali_engine::{Outcome, RunFault, Writer, run, run_sim};
+pub use dali_engine::{Outcome, Pace, RunFault, Writer, run, run_sim};
 pub use dali_laws::laws;
 pub use dali_read::{Finding, Places};
 pub use dali_store::{FileStore, MemoryStore, OpenFault, Store, StoreFault, open};

@@ -1,6 +1,6 @@
 // Journals of version 1, and what is written of them.
 use super::{OLD_BEGAN, add, letter_of, order_of};
-use dali_journal::{Code, Journal, Record, Version};
+use dali_journal::{Code, Journal, JournalFault, Record, Version};
 use dali_shared_tests::expect_that;
 use std::alloc::Global;
 use std::test::Fail;
@@ -63,4 +63,28 @@ fn an_unfinished_order_stays(rt: HostRuntime) -> Result<(), Fail> {
     add(&rt, &mut journal, Record::Ended(Code::Done));
     let is_done = is_written_as(alloc, &journal, &DONE)?;
     expect_that(was_begun && is_done, "order 1, which goes on")
+}
+
+// Two groups, of these numbers, and the fault of them for so many orders.
+fn fault_of(
+    alloc: Global,
+    first: u8,
+    second: u8,
+    limit: u32,
+) -> Result<Option<JournalFault>, Fail> {
+    let mut bytes = OLD_DONE.to_vec(alloc)?;
+    bytes.extend_from_slice(&OLD_DONE)?;
+    bytes[8] = first;
+    bytes[35] = second;
+    Ok(Journal::load(alloc, limit, &bytes).err())
+}
+
+// The places are those of version 1.
+#[test]
+fn old_groups_that_are_no_journal(rt: HostRuntime) -> Result<(), Fail> {
+    let alloc = rt.alloc();
+    expect_that(fault_of(alloc, 2, 1, 2)?.is_none(), "two orders")?;
+    let repeated = fault_of(alloc, 1, 1, 2)? == Some(JournalFault::Repeated(27));
+    let full = fault_of(alloc, 1, 2, 1)? == Some(JournalFault::Full(27));
+    expect_that(repeated && full, "the second group")
 }

@@ -1,10 +1,9 @@
-use crate::gtin::GTIN;
 use crate::own_bus::TestBus;
-use crate::writer::case::{Deed, ENOUGH, events_of, frames_of, sent};
+use crate::writer::case::{Deed, events_of, frames_of, sent};
+use dali_engine::{Happening, Pace, Reply, run};
 use dali_frame::Frame;
 use dali_journal::Code;
-use dali_shared_tests::expect_that;
-use dali_writer::{Happening, Reply, run};
+use dali_shared_tests::{ENOUGH, GTIN, expect_that};
 use std::test::Fail;
 
 // Power is lost before the read, so that it is answered by bank 0, and DTR0 moves on as it should: the last question
@@ -58,7 +57,7 @@ fn power_lost_before_a_read_of_a_unit_with_bank_0(rt: HostRuntime) -> Result<(),
         dtr1: 0x00,
         dtr0: 0x00,
     };
-    let outcome = run(rt.alloc(), &mut bus, 10, &events)?;
+    let outcome = run(rt.alloc(), &mut bus, 10, Pace::Checked, &events)?;
     let frames = sent(rt.alloc(), &outcome.trace)?;
     judge_tries(&outcome.trace, &frames)
 }

@@ -1,10 +1,10 @@
-use crate::gtin::GTIN;
 use crate::writer::case::{
-    Case, DONE, Deed, ENOUGH, PLAIN, Run, STORED, TAKEN, judge, judge_all, judge_runs,
+    Case, DONE, Deed, PLAIN, Run, STORED, TAKEN, judge, judge_all, judge_runs,
 };
 use dali_bank::BLANK;
+use dali_engine::Reply;
 use dali_journal::Code;
-use dali_writer::Reply;
+use dali_shared_tests::{ENOUGH, GTIN};
 use std::alloc::Global;
 use std::test::Fail;
 

@@ -1,10 +1,9 @@
-use crate::gtin::{GTIN, HEADER};
 use dali_bank::{BLANK, Order};
+use dali_engine::{Event, Happening, Outcome, Pace, Reply, RunFault, run_sim};
 use dali_frame::Frame;
 use dali_gear::{Fate, GearFault, SimBus, Unit};
 use dali_journal::Code;
-use dali_shared_tests::expect_that;
-use dali_writer::{Event, Happening, Outcome, Reply, RunFault, run_sim};
+use dali_shared_tests::{ENOUGH, GTIN, HEADER, expect_that, put};
 use std::alloc::{AllocError, Global};
 use std::test::Fail;
 
@@ -33,9 +32,6 @@ pub(crate) enum Deed<'a> {
     // The unit at this address loses its power.
     Power(u8),
 }
-
-// As many steps as any order of these cases takes, and more.
-pub(crate) const ENOUGH: usize = 1_700;
 
 // Units at 5 and 6, of which the one at 5 may have another bank 1 and fixed locations.
 #[derive(Clone, Copy)]
@@ -76,13 +72,6 @@ pub(crate) const PLAIN: Case<'static> = Case {
     ending: &[0x4F, 0x05, 0x45, 0x00],
     held: &[(5, 0x03, &STORED)],
 };
-
-// Puts one more at the end of a list.
-pub(crate) fn put<T: Drop>(list: &mut Vec<T>, item: T) -> Result<(), AllocError> {
-    list.reserve(1)?;
-    list.push_reserved(item);
-    Ok(())
-}
 
 // Updates with this byte of all places from the first location to the last one.
 fn filled(alloc: Global, first: u8, last: u8, byte: u8) -> Result<Vec<(u8, u8)>, RunFault> {
@@ -184,7 +173,7 @@ pub(crate) fn run_case(
     case: &Case<'_>,
 ) -> Result<Outcome, RunFault> {
     let events = events_of(alloc, case.deeds)?;
-    run_sim(alloc, bus, case.limit, &events)
+    run_sim(alloc, bus, case.limit, Pace::Checked, &events)
 }
 
 pub(crate) fn frames_of(trace: &[Happening]) -> usize {

@@ -1,12 +1,11 @@
-use crate::gtin::{GTIN_RECORDS, HEADER};
 use crate::writer::case::{
     Case, DONE, PLAIN, STORED, TAKEN, bus_of, holds, judge, run_case, sent, unit_at,
 };
+use dali_engine::Happening;
 use dali_frame::Frame;
 use dali_gear::Unit;
 use dali_journal::Record;
-use dali_shared_tests::expect_that;
-use dali_writer::Happening;
+use dali_shared_tests::{GTIN_RECORDS, HEADER, expect_that};
 use std::alloc::Global;
 use std::test::Fail;
 

@@ -2,14 +2,13 @@ ghost use Rattle.std.specs.Prelude.{◌≡◌};
 ghost use Rattle.dali_gear.specs.SimState.{unit_powered};
 ghost use Rattle.dali_writer_tests.specs.HostileBus.{DoesHear, MayBeDeaf};
 
-use crate::gtin::GTIN;
-use crate::writer::case::{Deed, ENOUGH, STORED, events_of};
+use crate::writer::case::{Deed, STORED, events_of};
 use dali_bank::BLANK;
+use dali_engine::{Event, Happening, Pace, Reply, run};
 use dali_frame::Frame;
 use dali_gear::{Bus, GearFault, Unit};
 use dali_journal::Code;
-use dali_shared_tests::expect_that;
-use dali_writer::{Event, Happening, Reply, run};
+use dali_shared_tests::{ENOUGH, GTIN, expect_that};
 use std::alloc::Global;
 use std::test::Fail;
 
@@ -144,7 +143,7 @@ fn judge_ends(bus: &HostileBus, trace: &[Happening]) -> Result<bool, Fail> {
 // Runs the events on the bus of a turn, and tells whether order 1 was done.
 fn judge_turn(alloc: Global, events: &[Event], turn: u32) -> Result<bool, Fail> {
     let mut bus = hostile_bus(alloc, turn)?;
-    let outcome = run(alloc, &mut bus, 10, events)?;
+    let outcome = run(alloc, &mut bus, 10, Pace::Checked, events)?;
     judge_ends(&bus, &outcome.trace)
 }
 

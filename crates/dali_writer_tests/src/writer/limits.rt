@@ -1,7 +1,7 @@
 use crate::writer::case::{Case, PLAIN, bus_of, run_case};
+use dali_engine::RunFault;
 use dali_gear::SimBus;
 use dali_shared_tests::expect_that;
-use dali_writer::RunFault;
 use std::alloc::Global;
 use std::test::Fail;
 

@@ -1,7 +1,7 @@
 use crate::writer::case::{Case, DONE, PLAIN, TAKEN, bus_of, frames_of, judge, run_case};
+use dali_engine::{Happening, Reply};
 use dali_journal::Code;
 use dali_shared_tests::expect_that;
-use dali_writer::{Happening, Reply};
 use std::alloc::Global;
 use std::test::Fail;
 

@@ -1,9 +1,9 @@
 use crate::writer::case::{Case, STORED, bus_of};
 use dali_bank::BLANK;
+use dali_engine::Happening;
 use dali_gear::{Bus, SimBus, Unit};
 use dali_journal::{Code, Record};
 use dali_shared_tests::expect_that;
-use dali_writer::Happening;
 use std::alloc::Global;
 use std::test::Fail;
 

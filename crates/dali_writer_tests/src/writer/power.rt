@@ -1,13 +1,11 @@
-use crate::gtin::GTIN;
 use crate::writer::case::{
-    Case, DONE, Deed, ENOUGH, PLAIN, Run, TAKEN, bus_of, holds, judge_all, judge_runs, run_case,
-    unit_at,
+    Case, DONE, Deed, PLAIN, Run, TAKEN, bus_of, holds, judge_all, judge_runs, run_case, unit_at,
 };
 use crate::writer::moments::judge_moments;
+use dali_engine::{Happening, Reply};
 use dali_gear::{SimBus, Unit};
 use dali_journal::Code;
-use dali_shared_tests::expect_that;
-use dali_writer::{Happening, Reply};
+use dali_shared_tests::{ENOUGH, GTIN, expect_that};
 use std::alloc::Global;
 use std::test::Fail;
 

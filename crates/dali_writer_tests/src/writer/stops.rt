@@ -1,12 +1,11 @@
-use crate::gtin::{GTIN, HEADER};
 use crate::writer::case::{
-    Case, DONE, Deed, ENOUGH, PLAIN, Run, TAKEN, bus_of, events_of, frames_of, judge_all,
-    judge_runs, put, submit,
+    Case, DONE, Deed, PLAIN, Run, TAKEN, bus_of, events_of, frames_of, judge_all, judge_runs,
+    submit,
 };
 use crate::writer::moments::judge_moments;
+use dali_engine::{Event, Outcome, Pace, RunFault, run_sim};
 use dali_gear::{SimBus, Unit};
-use dali_shared_tests::expect_that;
-use dali_writer::{Event, Outcome, RunFault, run_sim};
+use dali_shared_tests::{ENOUGH, GTIN, HEADER, expect_that, put};
 use std::alloc::{AllocError, Global};
 use std::test::Fail;
 
@@ -154,7 +153,7 @@ fn events_with_a_stop(
 
 fn outcome_of(alloc: Global, case: &Case<'_>, events: &[Event]) -> Result<Outcome, Fail> {
     let mut bus = bus_of(alloc, case)?;
-    Ok(run_sim(alloc, &mut bus, 10, events)?)
+    Ok(run_sim(alloc, &mut bus, 10, Pace::Checked, events)?)
 }
 
 fn judge_stop(alloc: Global, submission: usize, step: usize, bytes: u16) -> Result<(), Fail> {
@@ -207,7 +206,7 @@ fn judge_left(alloc: Global, bus: &SimBus, sent: usize, events: &[Event]) -> Res
     for served in 0..=events.len() {
         let mut again = bus_of(alloc, &case)?;
         let first = events.get(..served).unwrap_or_default();
-        let outcome = run_sim(alloc, &mut again, case.limit, first)?;
+        let outcome = run_sim(alloc, &mut again, case.limit, Pace::Checked, first)?;
         if frames_of(&outcome.trace) == sent {
             return expect_that(
                 are_same(bus, &again),
@@ -219,7 +218,7 @@ fn judge_left(alloc: Global, bus: &SimBus, sent: usize, events: &[Event]) -> Res
 }
 
 fn fault_of(alloc: Global, bus: &mut SimBus, limit: u32, events: &[Event]) -> Option<RunFault> {
-    run_sim(alloc, bus, limit, events).err()
+    run_sim(alloc, bus, limit, Pace::Checked, events).err()
 }
 
 // `./test` runs this one again and again, with each allocation refused in turn: a run that ends for

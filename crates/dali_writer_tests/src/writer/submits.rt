@@ -1,11 +1,10 @@
 // Orders that are submitted at moments, and where memory is refused.
-use crate::gtin::GTIN;
-use crate::writer::case::{Case, DONE, Deed, ENOUGH, PLAIN, TAKEN, bus_of, judge, put, run_case};
+use crate::writer::case::{Case, DONE, Deed, PLAIN, TAKEN, bus_of, judge, run_case};
 use dali_bank::Order;
+use dali_engine::{Happening, Outcome, Reply, RunFault, Want, Writer};
 use dali_gear::{Bus, SimBus};
 use dali_journal::{Code, Journal, NoMemory, Record};
-use dali_shared_tests::expect_that;
-use dali_writer::{Happening, Outcome, Reply, RunFault, Want, Writer};
+use dali_shared_tests::{ENOUGH, GTIN, expect_that, put};
 use std::alloc::Global;
 use std::test::Fail;
 

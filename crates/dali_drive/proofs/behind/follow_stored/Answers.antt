@@ -17,7 +17,8 @@ returns-in-Ok-follow-clause-followed g c = record {
     whole = subst (λ (n : ℕ). IsWhole c.args.older n c.in-Ok.own c.in-Ok-joined.whole)
         c.in-Ok.ensures.journal.found.loaded.0 c.in-Ok-joined.ensures.ok;
   };
-  observed = rw (c.new.ensures.journal, c.in-Ok.ensures.only) at c.in-Ok-follow.ensures.followed;
+  observed = rw (c.with_pace.ensures.journal, c.with_pace.ensures.pace, c.in-Ok.ensures.only) at
+      c.in-Ok-follow.ensures.followed;
 }
 
 pub returns-in-Err-follow-clause-broken : goal.returns-in-Err-follow-clause-broken
@@ -34,7 +35,8 @@ returns-in-Err-follow-clause-broken g c = record {
         c.in-Ok.ensures.journal.found.loaded.0 c.in-Ok-joined.ensures.ok;
   };
   observed =
-      let o = rw (c.new.ensures.journal, c.in-Ok.ensures.only) at c.in-Err-follow.ensures.broken in record {
+      let o = rw (c.with_pace.ensures.journal, c.with_pace.ensures.pace, c.in-Ok.ensures.only) at
+      c.in-Err-follow.ensures.broken in record {
         given = o.given;
         gave_all = o.gave_all;
         breaks = breaks_less _ _ _ _ _ _ _ _ _ (λ d left. (c.in-Ok.ensures.settled, left)) o.breaks;
@@ -60,12 +62,12 @@ pub returns-in-Ok-follow-clause-any_moment : goal.returns-in-Ok-follow-clause-an
 returns-in-Ok-follow-clause-any_moment g c =
     driven_part (λ (desk : g.row.D.Denot). (g.D.Desk.look desk).streams.journal)
     (λ (desk : g.row.D.Denot). (g.D.Desk.look desk).may_leave) g.D.Desk.moment g.D.Desk.left_since
-    c.args.limits.orders c.args.limits.bytes _ _ _ _ c.in-Ok.ensures.journal c.in-Ok.ensures.holds
+    c.args.terms.orders c.args.terms.bytes _ _ _ _ c.in-Ok.ensures.journal c.in-Ok.ensures.holds
     c.in-Ok.ensures.any_moment (c.in-Ok-follow.ensures.grown.leaves c.in-Ok.ensures.settled)
 
 pub returns-in-Err-follow-clause-any_moment : goal.returns-in-Err-follow-clause-any_moment
 returns-in-Err-follow-clause-any_moment g c =
     driven_part (λ (desk : g.row.D.Denot). (g.D.Desk.look desk).streams.journal)
     (λ (desk : g.row.D.Denot). (g.D.Desk.look desk).may_leave) g.D.Desk.moment g.D.Desk.left_since
-    c.args.limits.orders c.args.limits.bytes _ _ _ _ c.in-Ok.ensures.journal c.in-Ok.ensures.holds
+    c.args.terms.orders c.args.terms.bytes _ _ _ _ c.in-Ok.ensures.journal c.in-Ok.ensures.holds
     c.in-Ok.ensures.any_moment (c.in-Err-follow.ensures.grown.leaves c.in-Ok.ensures.settled)

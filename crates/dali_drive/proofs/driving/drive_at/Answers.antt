@@ -9,14 +9,14 @@ use Rattle.dali_drive.proofs.driving.drive_at.Goals as goal
 pub returns-clause-driven : goal.returns-clause-driven
 returns-clause-driven g c =
     IfOk-weaker c.follow.result _ _
-    (λ writer is. (listed_driven {B = Nobody} (λ _ _ _ _. ⊤) (start_of c.args.writer.journal) c.args.orders.now
+    (λ writer is. (listed_driven {B = Nobody} (λ _ _ _ _. ⊤) (start_of c.args.writer) c.args.orders.now
     c.args.moment c.new-listed.result c.new-listed.ensures.state _ _ _ _ _ c.new-listed.ensures.few writer is).drive)
     c.follow.ensures.followed
 
 pub returns-clause-broken : goal.returns-clause-broken
 returns-clause-broken g c =
     IfErr-weaker c.follow.result _ _
-    (λ fault is. (listed_broken {B = Nobody} (λ _ _ _ _. ⊤) (start_of c.args.writer.journal) c.args.orders.now
+    (λ fault is. (listed_broken {B = Nobody} (λ _ _ _ _. ⊤) (start_of c.args.writer) c.args.orders.now
     c.args.moment c.new-listed.result c.new-listed.ensures.state _ _ _ _ _ (λ _ _ _ _ _ _ _. ⊤) _ fault is).breaks)
     c.follow.ensures.broken
 

@@ -10,9 +10,9 @@ invariant-loop g l = record {
   given : List Given;
   gave : g.G.Orders.gave l.fn.orders l.orders given;
   count : length given ≡ l.counter;
-  follow : IsFollowed (start_of l.fn.writer.journal) given (g.D.Desk.look l.fn.desk).streams l.writer
+  follow : IsFollowed (start_of l.fn.writer) given (g.D.Desk.look l.fn.desk).streams l.writer
       (g.D.Desk.look l.desk).streams;
-  told : g.B.Observer.told (start_of l.fn.writer.journal) l.fn.observer l.observer (happenings follow.steps);
+  told : g.B.Observer.told (start_of l.fn.writer) l.fn.observer l.observer (happenings follow.steps);
   rests : IsAtRest l.writer;
   unfailed : IsUnfailed (g.D.Desk.look l.desk).failed;
   settles : Settled (g.D.Desk.look l.fn.desk) → Settled (g.D.Desk.look l.desk);

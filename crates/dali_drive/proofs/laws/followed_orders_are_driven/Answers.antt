@@ -5,9 +5,9 @@ pub returns-clause-drive : goal.returns-clause-drive
 returns-clause-drive g = as_drive
 
 pub returns-clause-ended : goal.returns-clause-ended
-returns-clause-ended g = λ limit most given found left first writer last begun follow is held.
-    followed_ended is begun given writer last left follow held
+returns-clause-ended g = λ limit most pace given found left first writer last begun follow is held.
+    followed_ended pace is begun given writer last left follow held
 
 pub returns-clause-broken : goal.returns-clause-broken
-returns-clause-broken g = λ limit most given fault found left first last begun follow is between.
-    followed_broken is begun given fault last left follow between
+returns-clause-broken g = λ limit most pace given fault found left first last begun follow is between.
+    followed_broken pace is begun given fault last left follow between

@@ -3,10 +3,10 @@ use Rattle.dali_drive.proofs.laws.stops_behind_leave_a_part_of_the_whole.Goals a
 
 pub returns-clause-ended : goal.returns-clause-ended
 returns-clause-ended g =
-    λ older limit most room given found seen left first writer last b follow is held within part.
-    ended_stood older b found is room within given seen left last held part writer follow
+    λ older limit most room pace given found seen left first writer last b follow is held within part.
+    ended_stood older b found is pace room within given seen left last held part writer follow
 
 pub returns-clause-broken : goal.returns-clause-broken
 returns-clause-broken g =
-    λ older limit most room given fault found seen left first last b follow is held within part.
-    broke_stood older b found is room within given seen left last held part fault follow
+    λ older limit most room pace given fault found seen left first last b follow is held within part.
+    broke_stood older b found is pace room within given seen left last held part fault follow

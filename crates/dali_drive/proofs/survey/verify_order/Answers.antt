@@ -15,7 +15,8 @@ returns-then-put_all-clause-told g c =
     let silent = rw c.in_default.is at c.in_ok-bytes.ensures.silent in
     let read = read_of c.unit.result c.args.order.now.unit c.unit.ensures.value (silent refl) in
     order_verified c.args.order.now _ _ _ _ _ _ None read c.deref.result.now
-    (c.deref.ensures.0 ∙ c.order_silent_line.ensures) None refl (c.if-put_all.ensures.whole refl)
+    (c.deref.ensures.0 ∙ c.order_silent_line.ensures) None c.new.result.items (refl, c.new.ensures)
+    (c.if-put_all.ensures.whole refl)
 
 pub returns-else-put_all-clause-broken : goal.returns-else-put_all-clause-broken
 returns-else-put_all-clause-broken g c =
@@ -32,7 +33,7 @@ returns-then-put_all-2-clause-told g c =
     c.compare-finding.ensures in
     order_verified c.args.order.now _ _ _ _ _ _ (Some c.in-Some.bytes.items) read c.deref-3.result.now
     (c.compare-finding.result, found, c.deref-3.ensures.0 ∙ c.finding_line.ensures) (Some c.compare-finding.result)
-    (c.compare-finding.result, found, refl) (c.if-put_all-2.ensures.whole refl)
+    c.in-Some.bytes.items (c.compare-finding.result, found, refl, refl) (c.if-put_all-2.ensures.whole refl)
 
 pub returns-else-put_all-2-clause-broken : goal.returns-else-put_all-2-clause-broken
 returns-else-put_all-2-clause-broken g c =

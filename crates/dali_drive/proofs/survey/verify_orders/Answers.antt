@@ -83,10 +83,11 @@ loop-order-preserved g c =
           c.order-item.is i.items;
       told =
           told_more g.B.FindingObserver.told_found i.reports c.args.observer.now _ _ c.order-item.result
-          c.in_ok-found.found r.report r.item_is r.so i.told
-          (c.find.ensures c.args.observer.now i.told.found i.told.told_all);
+          c.in_ok-found.found.finding c.in_ok-found.found.bytes.items r.report r.item_is r.so i.told
+          (rw (← c.as_slice.ensures.value) (c.find.ensures c.args.observer.now i.told.found i.told.told_all));
       same = both_same _ _ _ _ i.same (same_by c.is_same-all_same.ensures
-          (same_told r.report r.report.outcome c.in_ok-found.found refl r.so));
+          (same_told r.report r.report.outcome c.in_ok-found.found.finding c.in_ok-found.found.bytes.items refl
+          r.so));
       link_out = c.in_ok-found.ensures.ends.1;
       link_in = c.in_ok-found.ensures.ends.2;
       out = c.in_ok-found.ensures.ends.3;

@@ -11,36 +11,41 @@ use Rattle.dali_trace.specs.Spared.{IsSpared, IsSimRun}
 use Rattle.dali_laws.proofs.OnsetLemmas.{all_spared}
 use Rattle.dali_laws.proofs.SaidAsDueLemmas.{says_as_due}
 use Rattle.dali_engine.proofs.runs.run_sim.Goals as goal
+use Rattle.dali_write.specs.declared.pace.Pace.{Pace}
 
 if_ok : {A E : Type 0} (result : Result A E) (P Q : A → Type 0) → ((a : A) → P a → Q a) → IfOk result P → IfOk result Q
 if_ok (Ok a) P Q f p = f a p
 if_ok (Err e) P Q f p = tt
 
 -- what is said along a run of the simulated bus is so
-spared_along : (limit : ℕ) (all : List Event) (first : SimState) (trace : List Happening) (journal : List ℕ)
-    (last : SimState) (ran : IsRun (λ state. world_of state.units) SimStep limit all first trace journal last)
+spared_along : (limit : ℕ) (pace : Pace) (all : List Event) (first : SimState) (trace : List Happening)
+    (journal : List ℕ)
+    (last : SimState) (ran : IsRun (λ state. world_of state.units) SimStep limit pace all first trace journal last)
     → NoneEnabled (world_of first.units) → IsLockedAbove (world_of first.units)
-    → AtEachState (IsSpared (fresh limit)) (reverse trace) last ran.leads.states
-spared_along limit all first trace journal last ran none locked =
-    all_spared (fresh limit) (world_of first.units) first (reverse trace) last ran.leads.states refl ran.legal
+    → AtEachState (IsSpared (fresh limit pace)) (reverse trace) last ran.leads.states
+spared_along limit pace all first trace journal last ran none locked =
+    all_spared (fresh limit pace) (world_of first.units) first (reverse trace) last ran.leads.states refl ran.legal
     ran.planned ran.leads.chain ran.asked (ran.leads.right none locked)
 
 pub returns-clause-ok : goal.returns-clause-ok
 returns-clause-ok c =
     if_ok c.run.result _ (λ outcome.
-    IsSimRun c.args.limit c.args.events.now c.args.bus.now outcome.trace.items outcome.journal.items c.run.new.bus)
+    IsSimRun c.args.limit c.args.pace c.args.events.now c.args.bus.now outcome.trace.items outcome.journal.items
+    c.run.new.bus)
     (λ outcome ran. record {
       run = ran;
       spared = record {
         states = ran.leads.states;
         chain = ran.leads.chain;
-        spared = λ none locked. spared_along c.args.limit c.args.events.now c.args.bus.now outcome.trace.items
+        spared = λ none locked. spared_along c.args.limit c.args.pace c.args.events.now c.args.bus.now
+            outcome.trace.items
             outcome.journal.items c.run.new.bus ran none locked;
         said =
             λ none locked newer middle older same.
-            says_as_due (fresh c.args.limit) (reverse c.args.events.now) newer middle older
+            says_as_due (fresh c.args.limit c.args.pace) (reverse c.args.events.now) newer middle older
             (reverse outcome.trace.items) c.run.new.bus ran.leads.states ran.legal ran.planned ran.parts
-            (spared_along c.args.limit c.args.events.now c.args.bus.now outcome.trace.items outcome.journal.items
+            (spared_along c.args.limit c.args.pace c.args.events.now c.args.bus.now outcome.trace.items
+            outcome.journal.items
             c.run.new.bus ran none locked) same;
       };
     })

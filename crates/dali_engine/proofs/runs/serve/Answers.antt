@@ -27,15 +27,16 @@ pub returns-after-branch-4-clause-ok : goal.returns-after-branch-4-clause-ok
 returns-after-branch-4-clause-ok g c =
     let after = c.push_reserved-in-Stop.new.self.items in
     let kept = c.in_ok-entry-in-Stop.field-0 in
-    let longer : reverse after ≡ stopped_after kept (reverse c.args.trace.now.items) =
+    let longer : reverse after ≡ stopped_after c.pace-pace.result kept (reverse c.args.trace.now.items) =
     elim c.match-branch-4.branch [
-      | in-Some-2 w ↦ rw w.in-Some-2.is (two_more c.args.trace.now.items _ after _ Stopped
+      | in-Some-2 w ↦ rw w.in-Some-2.is (two_more c.args.trace.now.items _ after _ (Stopped _)
           (rw c.in_ok-reserve.ensures.items at w.push_reserved-in-Some-2.ensures.items)
           (rw w.trace-is at c.push_reserved-in-Stop.ensures.items))
-      | in_default-2 w ↦ rw w.in_default-2.is (one_more c.args.trace.now.items after Stopped
+      | in_default-2 w ↦ rw w.in_default-2.is (one_more c.args.trace.now.items after (Stopped _)
           (rw c.in_ok-reserve.ensures.items at (rw w.trace-is at c.push_reserved-in-Stop.ensures.items)))
     ] in
-    stopped g.B.Bus.step c.args.event.now c.in-Stop.bytes _ _ _ c.args.trace.now.items after kept c.in-Stop.is longer
+    stopped g.B.Bus.step c.args.event.now c.in-Stop.bytes _ _ _ c.args.trace.now.items after kept c.in-Stop.is
+    (rw c.pace-pace.ensures at longer)
     c.in_ok-entry-in-Stop.ensures
 
 pub returns-in-Power-clause-ok : goal.returns-in-Power-clause-ok

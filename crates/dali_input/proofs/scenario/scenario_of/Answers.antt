@@ -10,16 +10,22 @@ returns-in_err-limit_in-clause-err c =
     rw (p.1, p.2) (needs _ (IsScenario (view c.args.json.now)) _ (λ said is. (said.limit, rw c.get.ensures is.limit))
     c.in_err-limit_in.ensures.err)
 
+pub returns-in_err-pace_in-clause-err : goal.returns-in_err-pace_in-clause-err
+returns-in_err-pace_in-clause-err c =
+    let p = err_from_is_err_and c.from_residual-in_err-pace_in.result c.from_residual-in_err-pace_in.ensures.1 in
+    rw (p.1, p.2) (needs _ (IsScenario (view c.args.json.now)) _ (λ said is. (said.pace, rw c.get-2.ensures is.pace))
+    c.in_err-pace_in.ensures.err)
+
 pub returns-in_err-unit_plans-clause-err : goal.returns-in_err-unit_plans-clause-err
 returns-in_err-unit_plans-clause-err c =
     let p = err_from_is_err_and c.from_residual-in_err-unit_plans.result c.from_residual-in_err-unit_plans.ensures.1 in
-    rw (p.1, p.2) (needs _ (IsScenario (view c.args.json.now)) _ (λ said is. (said.units, rw c.get-2.ensures is.units))
+    rw (p.1, p.2) (needs _ (IsScenario (view c.args.json.now)) _ (λ said is. (said.units, rw c.get-3.ensures is.units))
     c.in_err-unit_plans.ensures.err)
 
 pub returns-in_err-fate_plans-clause-err : goal.returns-in_err-fate_plans-clause-err
 returns-in_err-fate_plans-clause-err c =
     let p = err_from_is_err_and c.from_residual-in_err-fate_plans.result c.from_residual-in_err-fate_plans.ensures.1 in
-    rw (p.1, p.2) (needs _ (IsScenario (view c.args.json.now)) _ (λ said is. (said.fates, rw c.get-3.ensures is.fates))
+    rw (p.1, p.2) (needs _ (IsScenario (view c.args.json.now)) _ (λ said is. (said.fates, rw c.get-4.ensures is.fates))
     c.in_err-fate_plans.ensures.err)
 
 pub returns-in_err-event_plans-clause-err : goal.returns-in_err-event_plans-clause-err
@@ -27,4 +33,4 @@ returns-in_err-event_plans-clause-err c =
     let p =
     err_from_is_err_and c.from_residual-in_err-event_plans.result c.from_residual-in_err-event_plans.ensures.1 in
     rw (p.1, p.2) (needs _ (IsScenario (view c.args.json.now)) _
-    (λ said is. (said.events, rw c.get-4.ensures is.events)) c.in_err-event_plans.ensures.err)
+    (λ said is. (said.events, rw c.get-5.ensures is.events)) c.in_err-event_plans.ensures.err)

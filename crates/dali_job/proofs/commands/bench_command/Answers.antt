@@ -2,7 +2,8 @@ use Rattle.std.proofs.Common.{◌≡◌, ◌∙◌, ap, codes, true}
 use Rattle.std.proofs.lemmas.Result.{IfOk-weaker}
 use Rattle.clap.specs.Words.{App, app_of, with_subcommand}
 use Rattle.clap.specs.Simple.{app_of_fields}
-use Rattle.dali_job.specs.Jobs.{check_app, command_app, drive_app, journal_app, read_app, run_app, top_app, verify_app}
+use Rattle.dali_job.specs.Jobs.{check_app, command_app, drive_app, journal_app, read_app, run_app, scan_app}
+use Rattle.dali_job.specs.Jobs.{top_app, verify_app}
 use Rattle.dali_job.proofs.JobLemmas.{with_added}
 use Rattle.dali_job.proofs.commands.bench_command.Goals as goal
 
@@ -16,7 +17,7 @@ returns c =
     let drive = c.drive_command.ensures in
     let read = c.read_command.ensures in
     let verify = c.verify_command.ensures in
-    let scan = c.plain_command.ensures in
+    let scan = c.scan_command.ensures in
     let checks_app = with_subcommand top_app check_app.top in
     let runs_app = with_subcommand checks_app run_app.top in
     let frames_app = with_subcommand runs_app (command_app (codes "frame") (codes "HEX")).top in
@@ -53,7 +54,6 @@ returns c =
     let verifies =
     with_added _ c.verify_command.result _ c.in_ok-verifies.verifies reads_app _ verify.app verify.local reads
     c.in_ok-verifies.ensures in
-    IfOk-weaker c.subcommand.result _ _
-    (λ all added. added.shape scan.local ∙ ap (λ app. with_subcommand app (app_of c.plain_command.result).top) verifies
-    ∙ ap (λ (app : App). with_subcommand verifies_app app.top) scan.app)
-    c.subcommand.ensures
+    IfOk-weaker c.with_made-9.result _ _
+    (λ all added. with_added _ c.scan_command.result _ all verifies_app scan_app scan.app scan.local verifies added)
+    c.with_made-9.ensures

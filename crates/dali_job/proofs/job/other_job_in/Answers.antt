@@ -1,5 +1,3 @@
-use Rattle.std.proofs.Common.{◌∙◌, sym}
-use Rattle.std.proofs.lemmas.Bool.{true≢false}
 use Rattle.dali_job.proofs.JobLemmas.{no_job, none_then, option_named}
 use Rattle.dali_job.proofs.job.other_job_in.Goals as goal
 
@@ -17,14 +15,16 @@ returns-in-Some-value_of-3-clause-named c = (c.in-Some-value_of-3.ensures.found,
 
 pub returns-in-Some-value_of-4-clause-named : goal.returns-in-Some-value_of-4-clause-named
 returns-in-Some-value_of-4-clause-named c =
-    let orders = c.in-Some-value_of-4.ensures.found in
-    (orders, option_named _ _ _ _ (orders.0, orders.1) c.value_of-report.ensures.found c.value_of-report.ensures.none)
+    let orders = c.in-Some-value_of-4.ensures.found in (
+      orders,
+      option_named _ _ _ _ (orders.0, orders.1) c.value_of-report.ensures.found c.value_of-report.ensures.none,
+      c.has_flag-progress.ensures,
+    )
 
 pub returns-clause-none : goal.returns-clause-none
 returns-clause-none c =
     none_then c.read_in.result _ _
     (no_job _ c.in_default.ensures.none c.in_default-value_of.ensures.none c.in_default-value_of-2.ensures.none
     c.in_default-value_of-3.ensures.none
-    c.in_default-value_of-4.ensures.none
-    (λ entered. absurd (true≢false (sym (c.is_entered.ensures.1 entered) ∙ c.if-is_entered.false))))
+    c.in_default-value_of-4.ensures.none)
     c.read_in.ensures.none

@@ -1,8 +1,6 @@
-use Rattle.std.proofs.Common.{◌-◌, ◌≤◌, length}
+use Rattle.std.proofs.Common.{All, take}
+use Rattle.dali_journal.specs.Behind.{IsApart}
 use Rattle.dali_journal.proofs.behind.common_number.Given as goal
 
-abbrev pub invariant-loop-entry : goal.invariant-loop-entry
-invariant-loop-entry l = l.at ≤ length l.bytes
-
-abbrev pub decreases-loop-entry : goal.decreases-loop-entry
-decreases-loop-entry l = length l.bytes - l.at
+abbrev pub invariant-loop-place : goal.invariant-loop-place
+invariant-loop-place l = All (IsApart l.newer.records l.older.records) (take l.place l.newer.numbers)

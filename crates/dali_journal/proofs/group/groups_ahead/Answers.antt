@@ -1,4 +1,5 @@
 use Rattle.std.proofs.Common.{◌∙◌, subst, List, ℕ, sym}
+use Rattle.dali_journal.specs.declared.version.Version.TheVariants.{Two}
 use Rattle.dali_journal.specs.GroupAhead.{HasGroup}
 use Rattle.dali_journal.proofs.IndexLemmas.{slice_rest}
 use Rattle.dali_journal.proofs.FrontLemmas.{front_more, front_repeated}
@@ -10,7 +11,7 @@ returns-in-Ok-Some-clause-err c =
     let group = c.in-Some.group in
     front_repeated c.args.limit c.args.bytes.now l.at group.len l.orders group.id group.code l.index.entries
     c.in-Ok-Some.field-0-0 c.requires l.invariant
-    (subst (λ (bs : List ℕ). HasGroup group.id group.code group.len bs) (slice_rest l.at c.args.bytes.now)
+    (subst (λ (bs : List ℕ). HasGroup Two group.id group.code group.len bs) (slice_rest l.at c.args.bytes.now)
     c.in-Some.ensures)
     (sym c.in-Ok-Some.ensures.old ∙ c.in-Ok-Some.field-0-is)
 
@@ -21,7 +22,7 @@ loop-orders-preserved c =
     front_more c.args.limit c.args.bytes.now l.at group.len l.orders group.id group.code l.index.entries
     c.insert.new.self.entries
     l.invariant c.loop-orders-test.true
-    (subst (λ (bs : List ℕ). HasGroup group.id group.code group.len bs) (slice_rest l.at c.args.bytes.now)
+    (subst (λ (bs : List ℕ). HasGroup Two group.id group.code group.len bs) (slice_rest l.at c.args.bytes.now)
     c.in-Some.ensures)
     (sym c.in-Ok-None.ensures.old ∙ c.in-Ok-None.field-0-is)
     c.in-Ok-None.ensures.updates.0

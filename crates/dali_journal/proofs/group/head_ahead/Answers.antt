@@ -1,4 +1,5 @@
 use Rattle.std.proofs.Common.{◌+◌, ◌*◌, sym, subst, arith, get_or}
+use Rattle.dali_journal.specs.declared.version.Version.TheVariants.{Two}
 use Rattle.dali_journal.specs.GroupAhead.{HasBegan}
 use Rattle.dali_journal.proofs.PairLemmas.{are-bytes}
 use Rattle.dali_journal.proofs.AheadLemmas.{began_there}
@@ -10,8 +11,8 @@ returns c =
     let number = c.in-Some-split_first_chunk in
     let moment = c.in-Some-split_first_chunk-2 in
     let two = c.in-Some-split_first_chunk-3 in
-    subst (λ n. HasBegan c.from_be_bytes.result (get_or two.field-0-0.now 0 0) (n + 2 * get_or two.field-0-0.now 1 0)
-    c.args.bytes.now) (sym c.began_head_len.ensures)
+    subst (λ n. HasBegan Two c.from_be_bytes.result (get_or two.field-0-0.now 0 0)
+    (n + 2 * get_or two.field-0-0.now 1 0) c.args.bytes.now) (sym c.began_head_len.ensures)
     (began_there first.letter.now c.from_be_bytes.result c.args.bytes.now first.rest.now number.number.now
     number.rest.now moment._moment.now moment.rest.now two.field-0-0.now two.rest.now
     (are-bytes c.args.bytes.now (λ i. omega (arith, c.type_inv.bytes i)))

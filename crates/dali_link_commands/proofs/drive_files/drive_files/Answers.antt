@@ -11,7 +11,8 @@ use Rattle.dali_link_commands.proofs.drive_files.drive_files.Goals as goal
 pub returns-in-Ok-opened : goal.returns-in-Ok-opened
 returns-in-Ok-opened g c = record {
   driven =
-      let answers = IsAnswerBehind c.in-Ok.older g.N.Write.contents c.args.task.moment c.args.task.required
+      let answers = IsAnswerBehind c.in-Ok.older g.N.Write.contents c.args.task.moment c.args.task.pace
+      c.args.task.required
       c.args.report.now c.drive_input.new.report in
       let unreported = c.drive_input.new.report ≡ c.args.report.now in (
         behind_named _ c.in-Ok.older _ _ c.in-Ok.ensures.none c.in-Ok.ensures.some c.in-Ok.ensures.rests

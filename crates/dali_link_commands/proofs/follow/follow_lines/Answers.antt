@@ -8,43 +8,45 @@ use Rattle.dali_link_commands.proofs.BehindLemmas.{break_told}
 use Rattle.dali_link_commands.proofs.follow.follow_lines.Goals as goal
 
 pub returns-in-Ok-clause-answer : goal.returns-in-Ok-clause-answer
-returns-in-Ok-clause-answer g c = (
-  inl (record {
-    lost = has_failed c.follow_stored.new.desk.out.output;
-    replies = held g.W.Write.contents c.follow_stored.new.desk.out.output;
-    follows = record {
-      writer = c.in-Ok._writer;
-      followed = c.in-Ok.ensures.followed;
-      unfailed = c.in-Ok.ensures.ready.1;
-      settled = c.in-Ok.ensures.settled;
-    };
-    told =
-        subst (λ (o : Outcome). TellsFollowed (g.R.Source.failed (state_of c.follow_stored.new.orders).source)
-        (state_of c.follow_stored.new.orders).has_refused c.args.task.required o c.tell_followed.result
-        (held g.W.Write.contents c.follow_stored.new.desk.out.output)
-        (held g.W.Write.contents c.tell_followed.new.lines.output))
-        (c.outcome.ensures ∙ c.in-Ok.ensures.followed.observed.told_all.outcome_is)
-        c.tell_followed.ensures.told;
-  }),
-  search rules,
-)
+returns-in-Ok-clause-answer g c =
+    let followed = rw c.terms.ensures at c.in-Ok.ensures.followed in (
+      inl (record {
+        lost = has_failed c.follow_stored.new.desk.out.output;
+        replies = held g.W.Write.contents c.follow_stored.new.desk.out.output;
+        follows = record {
+          writer = c.in-Ok._writer;
+          followed = followed;
+          unfailed = c.in-Ok.ensures.ready.1;
+          settled = c.in-Ok.ensures.settled;
+        };
+        told =
+            subst (λ (o : Outcome). TellsFollowed (g.R.Source.failed (state_of c.follow_stored.new.orders).source)
+            (state_of c.follow_stored.new.orders).has_refused c.args.task.required o c.tell_followed.result
+            (held g.W.Write.contents c.follow_stored.new.desk.out.output)
+            (held g.W.Write.contents c.tell_followed.new.lines.output))
+            (c.outcome.ensures ∙ followed.observed.told_all.outcome_is)
+            c.tell_followed.ensures.told;
+      }),
+      search rules,
+    )
 
 pub returns-in-Err-clause-answer : goal.returns-in-Err-clause-answer
 returns-in-Err-clause-answer g c =
     let desk = c.follow_stored.new.desk in
     rw c.tell_broken.ensures.only (
-      inr (break_told (Gave g.R.Source.left g.R.Source.failed) g.N.Write.contents c.args.older c.args.report.now
+      inr (break_told (Gave g.R.Source.left g.R.Source.failed) g.N.Write.contents c.args.older c.args.task.pace
+          c.args.report.now
           c.follow_stored.new.observer _ _
           (bench g.S.Store.seen g.S.Store.failed g.S.Store.may_leave g.L.Sink.held g.L.Sink.failed g.I.Source.left
           g.I.Source.failed g.W.Write.contents c.args.desk.now)
           (bench g.S.Store.seen g.S.Store.failed g.S.Store.may_leave g.L.Sink.held g.L.Sink.failed g.I.Source.left
           g.I.Source.failed g.W.Write.contents (record desk { out = c.tell_broken.new.desk.out }))
           (held g.W.Write.contents desk.out.output) (has_failed desk.out.output) c.tell_broken.result c.in-Err.fault
-          c.in-Err.ensures.broken c.in-Err.ensures.err c.tell_broken.ensures.told),
+          (rw c.terms.ensures at c.in-Err.ensures.broken) c.in-Err.ensures.err c.tell_broken.ensures.told),
       search rules,
     )
 
 pub returns-in-Err-clause-any_moment : goal.returns-in-Err-clause-any_moment
 returns-in-Err-clause-any_moment g c =
-    let left = c.follow_stored.ensures.any_moment in
+    let left = rw c.terms.ensures at c.follow_stored.ensures.any_moment in
     rw c.tell_broken.ensures.only (record { later = left.later; each = left.each; before = left.before })

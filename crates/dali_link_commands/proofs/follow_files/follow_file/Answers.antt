@@ -19,7 +19,7 @@ returns-in-Ok-opened g c = record {
           c.new.ensures.failed,
       kept_journal g.L.Write.contents g.I.Read.remaining g.O.Write.contents c.args.desk.now c.keep_journal.new.self
           (λ (first : Look). IsLinesBehind (source_left file_contents) source_failed g.N.Write.contents c.in-Ok.older
-          c.args.task.required c.args.report.now c.follow_lines.new.report c.new-orders.result
+          c.args.task.pace c.args.task.required c.args.report.now c.follow_lines.new.report c.new-orders.result
           c.follow_lines.new.orders first c.follow_lines.result
           (std_bench g.L.Write.contents g.I.Read.remaining g.O.Write.contents c.follow_lines.new.desk))
           c.keep_journal.ensures c.follow_lines.ensures.answer.0,

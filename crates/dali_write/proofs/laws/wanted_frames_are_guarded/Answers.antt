@@ -7,8 +7,8 @@ pub returns-clause-opened : goal.returns-clause-opened
 returns-clause-opened c = opened_guarded
 
 pub returns-clause-fresh : goal.returns-clause-fresh
-returns-clause-fresh c = λ told unit updates frame.
-    calm_guarded unit (read_length updates) told frame (length_calm unit updates)
+returns-clause-fresh c = λ told unit pace updates frame.
+    calm_guarded unit (read_length pace updates) told frame (length_calm unit pace updates)
 
 pub returns-clause-closing : goal.returns-clause-closing
 returns-clause-closing c = closing_guarded

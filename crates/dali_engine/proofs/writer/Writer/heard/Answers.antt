@@ -17,27 +17,39 @@ pub returns-clause-described : goal.returns-clause-described
 returns-clause-described c = λ start past frame want d. elim c.match-self.branch [
   | in-Checks w ↦
       let before : Describes start past
-      (record { journal = c.self.inside.journal; phase = Checks w.in-Checks.field-0 w.in-Checks.session }) =
+      (record {
+        journal = c.self.inside.journal;
+        phase = Checks w.in-Checks.field-0 w.in-Checks.session;
+        pace =
+            c.self.inside.pace;
+      }) =
       rw (← w.in-Checks.is) (rw (← c.self.view_is) at d) in
-      let ready : IsReady (Checks w.in-Checks.field-0 w.in-Checks.session) c.self.inside.journal =
+      let ready : IsReady c.self.inside.pace (Checks w.in-Checks.field-0 w.in-Checks.session) c.self.inside.journal =
       rw w.in-Checks.is at c.self.invariant.ready in
       let wanted : check_of w.in-Checks.field-0.unit (aim_of w.in-Checks.session) ≡ Send frame =
       rw w.in-Checks.is at (rw (← c.self.view_is) at want) in
       let aim : aim_of w.in-Checks.session ≡ asks.Send frame =
       check_sends w.in-Checks.field-0.unit (aim_of w.in-Checks.session) frame wanted in
-      rw w.self-inside-is (checks_on start past c.self.inside.journal w.in-Checks.field-0 w.in-Checks.session _ frame
+      rw w.self-inside-is
+      (checks_on c.self.inside.pace start past c.self.inside.journal w.in-Checks.field-0 w.in-Checks.session _ frame
       c.args.answer before ready aim
       (λ told is_told. w.heard.ensures.told told frame aim is_told))
   | in-Writes w ↦
       let before : Describes start past
-      (record { journal = c.self.inside.journal; phase = Writes w.in-Writes.field-0 w.in-Writes.session }) =
+      (record {
+        journal = c.self.inside.journal;
+        phase = Writes w.in-Writes.field-0 w.in-Writes.session;
+        pace =
+            c.self.inside.pace;
+      }) =
       rw (← w.in-Writes.is) (rw (← c.self.view_is) at d) in
-      let ready : IsReady (Writes w.in-Writes.field-0 w.in-Writes.session) c.self.inside.journal =
+      let ready : IsReady c.self.inside.pace (Writes w.in-Writes.field-0 w.in-Writes.session) c.self.inside.journal =
       rw w.in-Writes.is at c.self.invariant.ready in
       let wanted : write_of (aim_of w.in-Writes.session) ≡ Send frame =
       rw w.in-Writes.is at (rw (← c.self.view_is) at want) in
       let aim : aim_of w.in-Writes.session ≡ asks.Send frame = write_sends (aim_of w.in-Writes.session) frame wanted in
-      rw w.self-inside-is (writes_on start past c.self.inside.journal w.in-Writes.field-0 w.in-Writes.session _ frame
+      rw w.self-inside-is
+      (writes_on c.self.inside.pace start past c.self.inside.journal w.in-Writes.field-0 w.in-Writes.session _ frame
       c.args.answer before ready aim
       (λ told is_told. w.heard-in-Writes.ensures.told told frame aim is_told))
   | in-Closes w ↦
@@ -45,16 +57,19 @@ returns-clause-described c = λ start past frame want d. elim c.match-self.branc
       (record {
         journal = c.self.inside.journal;
         phase = Closes w.in-Closes.field-0 w.in-Closes.field-1 w.in-Closes.session;
+        pace = c.self.inside.pace;
       }) =
       rw (← w.in-Closes.is) (rw (← c.self.view_is) at d) in
-      let ready : IsReady (Closes w.in-Closes.field-0 w.in-Closes.field-1 w.in-Closes.session) c.self.inside.journal =
+      let ready : IsReady c.self.inside.pace (Closes w.in-Closes.field-0 w.in-Closes.field-1 w.in-Closes.session)
+      c.self.inside.journal =
       rw w.in-Closes.is at c.self.invariant.ready in
       let wanted : closing_of w.in-Closes.field-0.id (unit_of w.in-Closes.session) (aim_of w.in-Closes.session)
       ≡ Send frame =
       rw w.in-Closes.is at (rw (← c.self.view_is) at want) in
       let aim : aim_of w.in-Closes.session ≡ asks.Send frame =
       closing_sends_it w.in-Closes.field-0.id (unit_of w.in-Closes.session) (aim_of w.in-Closes.session) frame wanted in
-      rw w.self-inside-is (closes_on start past c.self.inside.journal w.in-Closes.field-0 w.in-Closes.field-1
+      rw w.self-inside-is
+      (closes_on c.self.inside.pace start past c.self.inside.journal w.in-Closes.field-0 w.in-Closes.field-1
       w.in-Closes.session _ frame
       c.args.answer before ready aim
       (λ told is_told. w.heard-in-Closes.ensures.told told frame aim is_told))
@@ -67,33 +82,55 @@ pub returns-clause-follows : goal.returns-clause-follows
 returns-clause-follows c = λ start past frame want d f. elim c.match-self.branch [
   | in-Checks w ↦
       let before : Describes start past
-      (record { journal = c.self.inside.journal; phase = Checks w.in-Checks.field-0 w.in-Checks.session }) =
+      (record {
+        journal = c.self.inside.journal;
+        phase = Checks w.in-Checks.field-0 w.in-Checks.session;
+        pace =
+            c.self.inside.pace;
+      }) =
       rw (← w.in-Checks.is) (rw (← c.self.view_is) at d) in
       let follows : Follows start past
-      (record { journal = c.self.inside.journal; phase = Checks w.in-Checks.field-0 w.in-Checks.session }) =
+      (record {
+        journal = c.self.inside.journal;
+        phase = Checks w.in-Checks.field-0 w.in-Checks.session;
+        pace =
+            c.self.inside.pace;
+      }) =
       rw (← w.in-Checks.is) (rw (← c.self.view_is) at f) in
-      let ready : IsReady (Checks w.in-Checks.field-0 w.in-Checks.session) c.self.inside.journal =
+      let ready : IsReady c.self.inside.pace (Checks w.in-Checks.field-0 w.in-Checks.session) c.self.inside.journal =
       rw w.in-Checks.is at c.self.invariant.ready in
       let wanted : check_of w.in-Checks.field-0.unit (aim_of w.in-Checks.session) ≡ Send frame =
       rw w.in-Checks.is at (rw (← c.self.view_is) at want) in
       let aim : aim_of w.in-Checks.session ≡ asks.Send frame =
       check_sends w.in-Checks.field-0.unit (aim_of w.in-Checks.session) frame wanted in
-      rw w.self-inside-is (checks_follow start past c.self.inside.journal w.in-Checks.field-0 w.in-Checks.session _
+      rw w.self-inside-is
+      (checks_follow c.self.inside.pace start past c.self.inside.journal w.in-Checks.field-0 w.in-Checks.session _
       frame c.args.answer before follows ready aim
       (λ told is_told. w.heard.ensures.told told frame aim is_told))
   | in-Writes w ↦
       let before : Describes start past
-      (record { journal = c.self.inside.journal; phase = Writes w.in-Writes.field-0 w.in-Writes.session }) =
+      (record {
+        journal = c.self.inside.journal;
+        phase = Writes w.in-Writes.field-0 w.in-Writes.session;
+        pace =
+            c.self.inside.pace;
+      }) =
       rw (← w.in-Writes.is) (rw (← c.self.view_is) at d) in
       let follows : Follows start past
-      (record { journal = c.self.inside.journal; phase = Writes w.in-Writes.field-0 w.in-Writes.session }) =
+      (record {
+        journal = c.self.inside.journal;
+        phase = Writes w.in-Writes.field-0 w.in-Writes.session;
+        pace =
+            c.self.inside.pace;
+      }) =
       rw (← w.in-Writes.is) (rw (← c.self.view_is) at f) in
-      let ready : IsReady (Writes w.in-Writes.field-0 w.in-Writes.session) c.self.inside.journal =
+      let ready : IsReady c.self.inside.pace (Writes w.in-Writes.field-0 w.in-Writes.session) c.self.inside.journal =
       rw w.in-Writes.is at c.self.invariant.ready in
       let wanted : write_of (aim_of w.in-Writes.session) ≡ Send frame =
       rw w.in-Writes.is at (rw (← c.self.view_is) at want) in
       let aim : aim_of w.in-Writes.session ≡ asks.Send frame = write_sends (aim_of w.in-Writes.session) frame wanted in
-      rw w.self-inside-is (writes_follow start past c.self.inside.journal w.in-Writes.field-0 w.in-Writes.session _
+      rw w.self-inside-is
+      (writes_follow c.self.inside.pace start past c.self.inside.journal w.in-Writes.field-0 w.in-Writes.session _
       frame c.args.answer before follows ready aim
       (λ told is_told. w.heard-in-Writes.ensures.told told frame aim is_told))
   | in-Closes w ↦
@@ -101,22 +138,26 @@ returns-clause-follows c = λ start past frame want d f. elim c.match-self.branc
       (record {
         journal = c.self.inside.journal;
         phase = Closes w.in-Closes.field-0 w.in-Closes.field-1 w.in-Closes.session;
+        pace = c.self.inside.pace;
       }) =
       rw (← w.in-Closes.is) (rw (← c.self.view_is) at d) in
       let follows : Follows start past
       (record {
         journal = c.self.inside.journal;
         phase = Closes w.in-Closes.field-0 w.in-Closes.field-1 w.in-Closes.session;
+        pace = c.self.inside.pace;
       }) =
       rw (← w.in-Closes.is) (rw (← c.self.view_is) at f) in
-      let ready : IsReady (Closes w.in-Closes.field-0 w.in-Closes.field-1 w.in-Closes.session) c.self.inside.journal =
+      let ready : IsReady c.self.inside.pace (Closes w.in-Closes.field-0 w.in-Closes.field-1 w.in-Closes.session)
+      c.self.inside.journal =
       rw w.in-Closes.is at c.self.invariant.ready in
       let wanted : closing_of w.in-Closes.field-0.id (unit_of w.in-Closes.session) (aim_of w.in-Closes.session)
       ≡ Send frame =
       rw w.in-Closes.is at (rw (← c.self.view_is) at want) in
       let aim : aim_of w.in-Closes.session ≡ asks.Send frame =
       closing_sends_it w.in-Closes.field-0.id (unit_of w.in-Closes.session) (aim_of w.in-Closes.session) frame wanted in
-      rw w.self-inside-is (closes_follow start past c.self.inside.journal w.in-Closes.field-0 w.in-Closes.field-1
+      rw w.self-inside-is
+      (closes_follow c.self.inside.pace start past c.self.inside.journal w.in-Closes.field-0 w.in-Closes.field-1
       w.in-Closes.session _
       frame c.args.answer before follows ready aim
       (λ told is_told. w.heard-in-Closes.ensures.told told frame aim is_told))

@@ -8,7 +8,8 @@ use Rattle.dali_engine.proofs.writer.Writer.kept.Goals as goal
 pub invariant_of-self-in-Ended : goal.invariant_of-self-in-Ended
 invariant_of-self-in-Ended c = record {
   ready =
-      ready_checked c.self.inside.journal c.append-in-Ended.new.self c.in-Checks.order c.in-Checks.session
+      ready_checked c.self.inside.pace c.self.inside.journal c.append-in-Ended.new.self c.in-Checks.order
+      c.in-Checks.session
       c.in-Ended.verdict c.after_check-self-inside.result
       (rw (← c.in-Checks.ensures.value) at c.self.invariant.ready) c.after_check-self-inside.ensures
       (rw (c.check_record.ensures.record, c.unit.ensures.value) at c.append-in-Ended.ensures.records);
@@ -17,7 +18,8 @@ invariant_of-self-in-Ended c = record {
 pub invariant_of-self-in-Ended-want : goal.invariant_of-self-in-Ended-want
 invariant_of-self-in-Ended-want c = record {
   ready =
-      rw (c.id.ensures, c.write_code-code.ensures) (ready_written c.self.inside.journal c.append-in-Ended-want.new.self
+      rw (c.id.ensures, c.write_code-code.ensures)
+      (ready_written c.self.inside.pace c.self.inside.journal c.append-in-Ended-want.new.self
       c.in-Writes.order c.in-Writes.session c.in-Ended-want.verdict
       (rw (← c.in-Writes.ensures.value) at c.self.invariant.ready)
       (rw c.write_code-code.ensures at c.append-in-Ended-want.ensures.records));
@@ -25,7 +27,8 @@ invariant_of-self-in-Ended-want c = record {
 
 pub invariant_of-self-in-Closes : goal.invariant_of-self-in-Closes
 invariant_of-self-in-Closes c = record {
-  ready = ready_closed c.self.inside.journal c.append-in-Closes.new.self c.in-Closes.order c.in-Closes.moment
+  ready = ready_closed c.self.inside.pace c.self.inside.journal c.append-in-Closes.new.self c.in-Closes.order
+      c.in-Closes.moment
       c.in-Closes.session
       (rw (← c.in-Closes.ensures.value) at c.self.invariant.ready)
       (rw c.unit-in-Closes.ensures.value at c.append-in-Closes.ensures.records)
@@ -34,7 +37,8 @@ invariant_of-self-in-Closes c = record {
 
 pub returns-in-Begins-clause-described : goal.returns-in-Begins-clause-described
 returns-in-Begins-clause-described c = λ start past entry want d.
-    keeps_begun start past c.self.inside.journal c.append.new.self c.self.inside.phase c.in-Begins.order
+    keeps_begun c.self.inside.pace start past c.self.inside.journal c.append.new.self c.self.inside.phase
+    c.in-Begins.order
     c.in-Begins.moment
     c.fresh-session.result entry
     c.in-Begins.ensures.value (rw (← c.self.view_is) at d) c.self.invariant.ready (rw (← c.self.view_is) at want)
@@ -43,8 +47,8 @@ returns-in-Begins-clause-described c = λ start past entry want d.
 
 pub returns-in-Ended-clause-described : goal.returns-in-Ended-clause-described
 returns-in-Ended-clause-described c = λ start past entry want d.
-    keeps_checked start past c.self.inside.journal c.append-in-Ended.new.self c.self.inside.phase c.in-Checks.order
-    c.in-Checks.session c.in-Ended.verdict
+    keeps_checked c.self.inside.pace start past c.self.inside.journal c.append-in-Ended.new.self c.self.inside.phase
+    c.in-Checks.order c.in-Checks.session c.in-Ended.verdict
     c.after_check-self-inside.result entry c.in-Checks.ensures.value (rw (← c.self.view_is) at d) c.self.invariant.ready
     (rw (← c.self.view_is) at want)
     (sym c.in-Ended.ensures.aim) c.after_check-self-inside.ensures
@@ -53,7 +57,7 @@ returns-in-Ended-clause-described c = λ start past entry want d.
 
 pub returns-in-Ended-want-clause-described : goal.returns-in-Ended-want-clause-described
 returns-in-Ended-want-clause-described c = λ start past entry want d.
-    rw (c.id.ensures, c.write_code-code.ensures) (keeps_written start past c.self.inside.journal
+    rw (c.id.ensures, c.write_code-code.ensures) (keeps_written c.self.inside.pace start past c.self.inside.journal
     c.append-in-Ended-want.new.self c.self.inside.phase c.in-Writes.order c.in-Writes.session
     c.in-Ended-want.verdict entry c.in-Writes.ensures.value (rw (← c.self.view_is) at d) c.self.invariant.ready
     (rw (← c.self.view_is) at want)
@@ -62,35 +66,36 @@ returns-in-Ended-want-clause-described c = λ start past entry want d.
 
 pub returns-in-Closes-clause-described : goal.returns-in-Closes-clause-described
 returns-in-Closes-clause-described c = λ start past entry want d.
-    keeps_closed start past c.self.inside.journal c.append-in-Closes.new.self c.self.inside.phase c.in-Closes.order
-    c.in-Closes.moment
+    keeps_closed c.self.inside.pace start past c.self.inside.journal c.append-in-Closes.new.self c.self.inside.phase
+    c.in-Closes.order c.in-Closes.moment
     c.in-Closes.session entry
     c.in-Closes.ensures.value (rw (← c.self.view_is) at d) c.self.invariant.ready (rw (← c.self.view_is) at want)
     (rw c.unit-in-Closes.ensures.value at c.append-in-Closes.ensures.records) c.append-in-Closes.ensures.limit
 
 pub returns-in-Ended-clause-falls : goal.returns-in-Ended-clause-falls
 returns-in-Ended-clause-falls c = rw (← c.self.view_is)
-    (check_falls c.in-Checks.order c.in-Checks.session c.in-Ended.verdict c.self.inside.phase
+    (check_falls c.self.inside.pace c.in-Checks.order c.in-Checks.session c.in-Ended.verdict c.self.inside.phase
     c.after_check-self-inside.result c.in-Checks.ensures.value c.after_check-self-inside.ensures)
 
 pub returns-in-Begins-clause-follows : goal.returns-in-Begins-clause-follows
 returns-in-Begins-clause-follows c = λ start past entry want d f.
-    begun_follows start past c.self.inside.journal c.append.new.self c.self.inside.phase c.in-Begins.order
+    begun_follows c.self.inside.pace start past c.self.inside.journal c.append.new.self c.self.inside.phase
+    c.in-Begins.order
     c.in-Begins.moment
     c.fresh-session.result entry
     c.in-Begins.ensures.value (rw (← c.self.view_is) at f) (rw (← c.self.view_is) at want) c.fresh-session.ensures.told
 
 pub returns-in-Ended-clause-follows : goal.returns-in-Ended-clause-follows
 returns-in-Ended-clause-follows c = λ start past entry want d f.
-    checked_follows start past c.self.inside.journal c.append-in-Ended.new.self c.self.inside.phase c.in-Checks.order
-    c.in-Checks.session c.in-Ended.verdict
+    checked_follows c.self.inside.pace start past c.self.inside.journal c.append-in-Ended.new.self c.self.inside.phase
+    c.in-Checks.order c.in-Checks.session c.in-Ended.verdict
     c.after_check-self-inside.result entry c.in-Checks.ensures.value (rw (← c.self.view_is) at d)
     (rw (← c.self.view_is) at f) c.self.invariant.ready (rw (← c.self.view_is) at want)
     (sym c.in-Ended.ensures.aim) c.after_check-self-inside.ensures
 
 pub returns-in-Ended-want-clause-follows : goal.returns-in-Ended-want-clause-follows
 returns-in-Ended-want-clause-follows c = λ start past entry want d f.
-    rw (c.id.ensures, c.write_code-code.ensures) (written_follows start past c.self.inside.journal
+    rw (c.id.ensures, c.write_code-code.ensures) (written_follows c.self.inside.pace start past c.self.inside.journal
     c.append-in-Ended-want.new.self c.self.inside.phase c.in-Writes.order c.in-Writes.session
     c.in-Ended-want.verdict entry c.in-Writes.ensures.value (rw (← c.self.view_is) at d) (rw (← c.self.view_is) at f)
     c.self.invariant.ready (rw (← c.self.view_is) at want)
@@ -98,8 +103,8 @@ returns-in-Ended-want-clause-follows c = λ start past entry want d f.
 
 pub returns-in-Closes-clause-follows : goal.returns-in-Closes-clause-follows
 returns-in-Closes-clause-follows c = λ start past entry want d f.
-    closed_follows start past c.self.inside.journal c.append-in-Closes.new.self c.self.inside.phase c.in-Closes.order
-    c.in-Closes.moment
+    closed_follows c.self.inside.pace start past c.self.inside.journal c.append-in-Closes.new.self c.self.inside.phase
+    c.in-Closes.order c.in-Closes.moment
     c.in-Closes.session entry
     c.in-Closes.ensures.value (rw (← c.self.view_is) at d) (rw (← c.self.view_is) at f) c.self.invariant.ready
     (rw (← c.self.view_is) at want)

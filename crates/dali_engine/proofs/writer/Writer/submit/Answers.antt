@@ -11,14 +11,15 @@ returns-in-Some-clause-described c = λ start past d.
 
 pub returns-then-not-is_idle-clause-described : goal.returns-then-not-is_idle-clause-described
 returns-then-not-is_idle-clause-described c = λ start past d.
-    rw (← c.self.view_is) (busy_on start past c.self.inside.journal c.self.inside.phase c.args.order c.args.moment
+    rw (← c.self.view_is)
+    (busy_on c.self.inside.pace start past c.self.inside.journal c.self.inside.phase c.args.order c.args.moment
     (rw (← c.self.view_is) at d) c.self.invariant.ready
     (c.in_default.ensures.none refl) (sym c.is_idle.ensures ∙ c.if-not-is_idle.true))
 
 pub invariant_of-self-2 : goal.invariant_of-self-2
 invariant_of-self-2 c = record {
   ready =
-      ready_taken c.self.inside.journal c.reserve.new.self c.self.inside.phase
+      ready_taken c.self.inside.pace c.self.inside.journal c.reserve.new.self c.self.inside.phase
       c.first_phase-self-inside.result c.args.order c.args.moment
       (rw c.in_ok-reserve.ensures.records at c.standing.ensures.journal.kept.whole.0) c.self.invariant.ready
       (c.in_default.ensures.none refl) (sym c.is_idle.ensures ∙ c.if-not-is_idle.false)
@@ -30,7 +31,7 @@ invariant_of-self-2 c = record {
 
 pub returns-clause-described : goal.returns-clause-described
 returns-clause-described c = λ start past d.
-    taken_on start past c.self.inside.journal c.reserve.new.self c.self.inside.phase
+    taken_on c.self.inside.pace start past c.self.inside.journal c.reserve.new.self c.self.inside.phase
     c.first_phase-self-inside.result c.args.order c.args.moment c.standing.result
     (rw (← c.self.view_is) at d) c.self.invariant.ready
     (c.in_default.ensures.none refl) (sym c.is_idle.ensures ∙ c.if-not-is_idle.false)
@@ -57,7 +58,8 @@ returns-clause-follows c = λ start past f.
 
 pub returns-then-is_full-clause-described : goal.returns-then-is_full-clause-described
 returns-then-is_full-clause-described c = λ start past d.
-    rw (← c.self.view_is) (full_on start past c.self.inside.journal c.self.inside.phase c.args.order c.args.moment
+    rw (← c.self.view_is)
+    (full_on c.self.inside.pace start past c.self.inside.journal c.self.inside.phase c.args.order c.args.moment
     (rw (← c.self.view_is) at d) c.self.invariant.ready
     (c.in_default.ensures.none refl) (sym c.is_idle.ensures ∙ c.if-not-is_idle.false)
     (c.is_full.ensures.0 c.if-is_full.true))

@@ -25,14 +25,14 @@ invariant_of-self c =
       c.replace-standing.ensures.value,
       c.orders_begun.ensures,
     )
-    (sound_next inside.bytes.items inside.standing inside.orders inside.limit _ _ _ _ c.len.result inside.index.entries
-    c.note.new.index.entries c.args.entry
+    (sound_next inside.bytes.items inside.standing inside.orders inside.limit _ _ _ _ inside.front _
+    inside.settled.items inside.index.entries c.note.new.index.entries c.args.entry
     c.self.invariant
     (subst (λ (j : JournalState). Allows (standing_of j.records) c.args.entry) (sym c.self.view_is) c.requires.allowed)
     (begins_in_range c.args.entry c.bytes-bytes.ensures.in_range)
     (subst (λ (j : JournalState). MayBegin j c.args.entry) (sym c.self.view_is) c.requires.may_begin)
     c.note.ensures.index_entries
-    (c.len.ensures ∙ inside.bytes.ok.0)
+    (omega (arith, c.len.ensures, inside.bytes.ok.0))
     (rw (← c.replace-standing.ensures.value, ← after.value) after.short)
     (omega (arith, put.len, put.capacity, more)))
 
@@ -41,7 +41,8 @@ returns-clause-records c =
     let inside = c.self.inside in
     ap (records_in Two) (c.put_in_room.ensures.items
     ∙ ap (λ (more : List ℕ). inside.bytes.items ++ more) (c.deref.ensures.0 ∙ c.bytes-bytes.ensures.spelled))
-    ∙ records_more inside.bytes.items inside.standing inside.orders inside.limit _ _ inside.index.entries c.args.entry
+    ∙ records_more inside.bytes.items inside.standing inside.orders inside.limit _ _ inside.front
+    inside.settled.items inside.index.entries c.args.entry
     c.self.invariant
     (subst (λ (j : JournalState). Allows (standing_of j.records) c.args.entry) (sym c.self.view_is) c.requires.allowed)
     (begins_in_range c.args.entry c.bytes-bytes.ensures.in_range)

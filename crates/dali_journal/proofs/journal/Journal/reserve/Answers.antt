@@ -2,7 +2,7 @@ use Rattle.std.proofs.Common.{◌≡◌, ◌∙◌, sym, ap, subst, arith, ◌-�
 use Rattle.std.specs.List.{list_any}
 use Rattle.std.specs.Map.{keys_of, lookup}
 use Rattle.dali_journal.specs.JournalState.{JournalState}
-use Rattle.dali_journal.proofs.JournalLemmas.{found_in, reserved, room_kept}
+use Rattle.dali_journal.proofs.JournalLemmas.{found_in, reserved, reserved_sound, room_kept}
 use Rattle.dali_journal.proofs.journal.Journal.reserve.Goals as goal
 
 pub returns-in_err-enter-clause-kept_room : goal.returns-in_err-enter-clause-kept_room
@@ -45,3 +45,23 @@ returns-clause-kept_room c =
     c.enter.new.index.entries
     r.items (ap (λ (j : JournalState). j.records) c.self.view_is) (ap (λ (j : JournalState). j.numbers) c.self.view_is)
     (omega (arith, room, r.len, r.capacity)) c.enter.ensures.stays
+
+pub invariant_of-self-in_err-enter : goal.invariant_of-self-in_err-enter
+invariant_of-self-in_err-enter c =
+    let inside = c.self.inside in
+    let bytes = c.reserve.new.self in
+    let r = c.reserve.ensures in
+    reserved_sound inside.bytes.items bytes.items inside.standing inside.orders inside.limit
+    (vec_capacity inside.bytes - vec_len inside.bytes) (vec_capacity bytes - vec_len bytes) _ _ inside.front
+    inside.settled.items inside.index.entries c.enter.new.index.entries r.items c.self.invariant
+    (omega (arith, r.len, r.capacity)) c.enter.ensures.same
+
+pub invariant_of-self-2 : goal.invariant_of-self-2
+invariant_of-self-2 c =
+    let inside = c.self.inside in
+    let bytes = c.reserve.new.self in
+    let r = c.reserve.ensures in
+    reserved_sound inside.bytes.items bytes.items inside.standing inside.orders inside.limit
+    (vec_capacity inside.bytes - vec_len inside.bytes) (vec_capacity bytes - vec_len bytes) _ _ inside.front
+    inside.settled.items inside.index.entries c.enter.new.index.entries r.items c.self.invariant
+    (omega (arith, r.len, r.capacity)) c.enter.ensures.same

@@ -35,10 +35,10 @@ pub returns-in_default-clause-told : goal.returns-in_default-clause-told
 returns-in_default-clause-told c told frame aim was =
     let s = c.args.self.now in
     let none : request_at_hand s ≡ None = sym c.request.ensures ∙ not_some c.request.result c.in_default.not-Some in
-    absurd (none_sent s.unit (plan_at s.task s.stage) s.number frame none s.going aim)
+    absurd (none_sent s.unit (plan_at s.task s.stage) s.misses s.number frame none s.going aim)
 
 pub returns-in_default-clause-falls : goal.returns-in_default-clause-falls
 returns-in_default-clause-falls c frame aim =
     let s = c.args.self.now in
     let none : request_at_hand s ≡ None = sym c.request.ensures ∙ not_some c.request.result c.in_default.not-Some in
-    absurd (none_sent s.unit (plan_at s.task s.stage) s.number frame none s.going aim)
+    absurd (none_sent s.unit (plan_at s.task s.stage) s.misses s.number frame none s.going aim)

@@ -1,0 +1,19 @@
+//! Tests of drives and of stores in files through their public calls alone, as whoever uses them calls them.
+#![tactic(auto)]
+
+#[cfg(test)]
+mod driving;
+#[cfg(test)]
+mod failing_store;
+#[cfg(test)]
+mod following;
+#[cfg(test)]
+mod stops;
+#[cfg(test)]
+mod store_files;
+#[cfg(test)]
+mod streams;
+#[cfg(test)]
+mod sweeps;
+#[cfg(test)]
+mod worked_drives;

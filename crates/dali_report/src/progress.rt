@@ -1,0 +1,300 @@
+// What a person watches of a command over a link: one line on standard error, drawn again in place. Nothing hangs on
+// it, and no contract tells what it shows.
+ghost use Rattle.std.specs.Prelude.{◌≡◌, is_some};
+
+use crate::course::Course;
+use crate::expected::{drive_frames, verify_frames};
+use crate::progress_line::{Now, Totals};
+use dali_bank::Order;
+use dali_journal::{Code, Journal, Record};
+use dali_read::Finding;
+use dali_trace::{Happening, Reply};
+use dali_write::Pace;
+use std::alloc::{AllocError, Global};
+use std::cell::Cell;
+use std::io::{IsTerminal, Write};
+
+// The line is drawn again at most every so many frames.
+const FRAMES_BETWEEN: u64 = 16;
+
+// The columns of a terminal of which no number is told.
+const COLUMNS: usize = 80;
+
+// The cursor goes to the beginning of its line, and the line is cleared.
+const CLEARED: &str = "\r\x1B[K";
+
+// What is written behind the last column stays there, and doesn't go to the next line; and again as it was.
+const UNWRAPPED: &str = "\x1B[?7l";
+
+const WRAPPED: &str = "\x1B[?7h";
+
+/// Of what a person watches how far it is.
+#[derive(Clone, Copy, Debug, PartialEq, Eq)]
+pub enum Watched {
+    /// Orders are carried out by this plan.
+    Drive(Pace),
+    /// Units are compared with orders.
+    Verify,
+    /// A unit is read.
+    Read,
+    /// So many addresses are asked whether a unit answers.
+    Scan(u64),
+}
+
+/// What a person watches of a command over a link. On a terminal it is one line, drawn again in place at most every 16
+/// frames and never wider than the terminal; there and elsewhere, at the end, it is a line of totals.
+#[derive(Drop)]
+pub struct Progress {
+    rt: HostRuntime,
+    watched: Watched,
+    // How wide the terminal is, where standard error is one.
+    columns: Option<usize>,
+    course: Cell<Course>,
+    screen: Cell<Screen>,
+}
+
+// What stands on the screen.
+#[derive(Clone, Copy)]
+struct Screen {
+    // Whether the line does.
+    is_drawn: bool,
+    // The frames since it was drawn last.
+    since: u64,
+    // Whether the command came to its work, so that there are totals.
+    has_begun: bool,
+}
+
+/// What a person watches, where that is asked for.
+pub fn progress_of(rt: HostRuntime, asked: bool, watched: Watched) -> Option<Progress>
+    ensures { is_some result ≡ asked }
+{
+    if asked {
+        Some(Progress::new(rt, watched))
+    } else {
+        None
+    }
+}
+
+impl Progress {
+    fn new(rt: HostRuntime, watched: Watched) -> Progress {
+        let columns = if rt.stderr().is_terminal() {
+            Some(columns(rt))
+        } else {
+            None
+        };
+        Progress {
+            rt,
+            watched,
+            columns,
+            course: Cell::new(Course::new()),
+            screen: Cell::new(Screen {
+                is_drawn: false,
+                since: FRAMES_BETWEEN,
+                has_begun: false,
+            }),
+        }
+    }
+
+    // These are all orders of the command.
+    pub(crate) fn expect(&self, orders: &[Order]) {
+        let mut course = self.course.get();
+        course.orders = Some(orders.len() as u64);
+        for order in orders {
+            course.ahead = course.ahead.saturating_add(self.frames_of(order));
+        }
+        self.course.set(course);
+        if self.watched == Watched::Verify {
+            self.begin();
+        }
+    }
+
+    // The frames that an order should take.
+    fn frames_of(&self, order: &Order) -> u64 {
+        match self.watched {
+            Watched::Drive(pace) => drive_frames(order, pace),
+            _ => verify_frames(order),
+        }
+    }
+
+    // The command came to its work.
+    fn begin(&self) {
+        let mut screen = self.screen.get();
+        screen.has_begun = true;
+        self.screen.set(screen);
+    }
+
+    // A drive begins with this journal.
+    pub(crate) fn resume(&self, journal: &Journal) {
+        let mut course = self.course.get();
+        course.resume(&journal.standing());
+        course.meter.start(&self.rt);
+        self.course.set(course);
+        self.begin();
+    }
+
+    // This happened in a drive, and the journal stands so after it.
+    pub(crate) fn see(&self, happening: &Happening, journal: &Journal) {
+        let Watched::Drive(pace) = self.watched else {
+            return;
+        };
+        let mut course = self.course.get();
+        match happening {
+            Happening::Asked(order, _) => {
+                course.ask(order, journal, pace);
+                course.meter.start(&self.rt);
+            }
+            Happening::Sent(frame, answer) => course.exchange(frame, *answer),
+            Happening::Kept(Record::Ended(_)) => course.end(),
+            Happening::Answered(_, Reply::Taken) => {}
+            Happening::Answered(id, reply) => {
+                course.meter.look(&self.rt);
+                course.answer(*id, matches!(reply, Reply::Kept(Code::Done)));
+            }
+            Happening::Kept(_) | Happening::Stopped(_) | Happening::Powered(_) => {}
+        }
+        self.course.set(course);
+        if let Happening::Sent(_, _) = happening {
+            self.draw_in_turn();
+        }
+    }
+
+    // This was found of an order.
+    pub(crate) fn find(&self, order: &Order, found: Option<Finding>) {
+        let mut course = self.course.get();
+        course.meter.look(&self.rt);
+        course.compare(order, found == Some(Finding::Same));
+        self.course.set(course);
+    }
+
+    // These bytes of frames went to the link. What a drive sends it is told by its report.
+    pub(crate) fn send(&self, bytes: &[u8]) {
+        if let Watched::Drive(_) = self.watched {
+            return;
+        }
+        self.begin();
+        let mut course = self.course.get();
+        if course.meter.is_new() {
+            course.meter.start(&self.rt);
+        }
+        course.count();
+        course.meet(unit_in(bytes));
+        self.course.set(course);
+        self.draw_in_turn();
+    }
+
+    // One more frame was sent.
+    fn draw_in_turn(&self) {
+        let mut screen = self.screen.get();
+        screen.since = screen.since.saturating_add(1);
+        let is_due = screen.since >= FRAMES_BETWEEN;
+        if is_due {
+            screen.since = 0;
+        }
+        self.screen.set(screen);
+        if is_due {
+            self.draw();
+        }
+    }
+
+    // Draws the line, where there is a terminal, and memory for it.
+    fn draw(&self) {
+        let Some(columns) = self.columns else {
+            return;
+        };
+        let mut course = self.course.get();
+        course.meter.look(&self.rt);
+        self.course.set(course);
+        let line = Now {
+            watched: self.watched,
+            course,
+        };
+        if let Ok(text) = drawn(self.rt.alloc(), line, columns) {
+            let mut screen = self.screen.get();
+            screen.is_drawn = true;
+            self.screen.set(screen);
+            let _ = self.rt.stderr().write_all(text.as_slice());
+        }
+    }
+
+    // Clears the line, where it is drawn: another one takes its place.
+    pub(crate) fn clear(&self) {
+        let mut screen = self.screen.get();
+        if screen.is_drawn {
+            screen.is_drawn = false;
+            self.screen.set(screen);
+            let _ = self.rt.stderr().write_all(CLEARED.as_bytes());
+        }
+    }
+
+    /// The command has ended: its line is cleared, and where it came to its work a line of totals is written.
+    pub fn end(&self) {
+        self.clear();
+        if !self.screen.get().has_begun {
+            return;
+        }
+        let mut course = self.course.get();
+        if course.is_at_work() {
+            course.meter.look(&self.rt);
+        }
+        course.close();
+        let totals = Totals {
+            watched: self.watched,
+            course,
+        };
+        if let Ok(text) = ended(self.rt.alloc(), totals, self.columns) {
+            let _ = self.rt.stderr().write_all(text.as_slice());
+        }
+    }
+}
+
+// The unit to which a frame's line goes, if it goes to one: its address byte is odd and below 80h.
+fn unit_in(line: &[u8]) -> Option<u8> {
+    let [high, low, ..] = line else {
+        return None;
+    };
+    let high = char::from(*high).to_digit(16)?;
+    let low = char::from(*low).to_digit(16)?;
+    if high < 8 && low % 2 == 1 {
+        Some((high * 8 + low / 2) as u8)
+    } else {
+        None
+    }
+}
+
+// What draws a line in the place of the one before.
+fn drawn(alloc: Global, line: Now, columns: usize) -> Result<Vec<u8>, AllocError> {
+    let line = format!(in alloc; "{line}")?;
+    let mut text = Vec::new(alloc);
+    text.extend_from_slice(CLEARED.as_bytes())?;
+    text.extend_from_slice(UNWRAPPED.as_bytes())?;
+    text.extend_from_slice(cut(line.as_bytes(), Some(columns)))?;
+    text.extend_from_slice(WRAPPED.as_bytes())?;
+    Ok(text)
+}
+
+// The line of totals.
+fn ended(alloc: Global, totals: Totals, columns: Option<usize>) -> Result<Vec<u8>, AllocError> {
+    let line = format!(in alloc; "{totals}")?;
+    let mut text = Vec::from_slice(alloc, cut(line.as_bytes(), columns))?;
+    text.push(b'\n')?;
+    Ok(text)
+}
+
+// As much of a line as fits before the last column.
+fn cut(line: &[u8], columns: Option<usize>) -> &[u8] {
+    match columns {
+        Some(columns) if columns <= line.len() => &line[..columns.saturating_sub(1)],
+        _ => line,
+    }
+}
+
+// How many columns the terminal has, as the environment tells.
+fn columns(rt: HostRuntime) -> usize {
+    let Ok(told) = std::env::var(&rt, "COLUMNS") else {
+        return COLUMNS;
+    };
+    match told.as_str().parse::<usize>() {
+        Ok(columns) if columns > 0 => columns,
+        _ => COLUMNS,
+    }
+}

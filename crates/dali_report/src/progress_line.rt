@@ -1,0 +1,174 @@
+// The lines that a person watches.
+use crate::course::{AtHand, Course};
+use crate::progress::Watched;
+use std::fmt;
+
+/// How far a command is.
+#[derive(Clone, Copy)]
+pub(crate) struct Now {
+    pub(crate) watched: Watched,
+    pub(crate) course: Course,
+}
+
+impl fmt::Display for Now {
+    fn fmt<W: fmt::Write>(&self, f: &mut fmt::Formatter<W>) -> fmt::Result {
+        match self.watched {
+            Watched::Drive(_) => self.write_order(f),
+            Watched::Verify => self.write_compared(f),
+            Watched::Read => self.write_unit(f),
+            Watched::Scan(units) => self.write_asked(f, units),
+        }
+    }
+}
+
+impl Now {
+    fn write_order<W: fmt::Write>(&self, f: &mut fmt::Formatter<W>) -> fmt::Result {
+        let Some(order) = self.course.at_hand else {
+            return Ok(());
+        };
+        self.write_place(f, &order)?;
+        let id = order.id;
+        let unit = order.unit;
+        let frames = order.tally.frames;
+        write!(f, "order {id} unit {unit}, frame {frames}")?;
+        if let Some(expected) = order.expected {
+            write!(f, " of {expected}")?;
+        }
+        let misses = order.tally.misses;
+        write!(f, ", misses {misses}")?;
+        match order.expected {
+            Some(_) => self.write_left(f, order.left().saturating_add(self.course.ahead)),
+            None => Ok(()),
+        }
+    }
+
+    // Which of the orders it is.
+    fn write_place<W: fmt::Write>(&self, f: &mut fmt::Formatter<W>, order: &AtHand) -> fmt::Result {
+        let given = self.course.given;
+        match self.course.orders {
+            _ if order.is_resumed => f.write_str("left unfinished: "),
+            Some(orders) => write!(f, "{given} of {orders}: "),
+            None => write!(f, "{given}: "),
+        }
+    }
+
+    fn write_compared<W: fmt::Write>(&self, f: &mut fmt::Formatter<W>) -> fmt::Result {
+        let order = self.course.given.saturating_add(1);
+        let orders = self.course.orders.unwrap_or(order);
+        write!(f, "{order} of {orders}: ")?;
+        self.write_unit(f)?;
+        let expected = self.course.expected();
+        write!(f, " of {expected}")?;
+        self.write_left(f, expected.saturating_sub(self.course.frames))
+    }
+
+    fn write_asked<W: fmt::Write>(&self, f: &mut fmt::Formatter<W>, units: u64) -> fmt::Result {
+        let asked = self.course.units.max(1);
+        write!(f, "{asked} of {units}: ")?;
+        self.write_unit(f)?;
+        let to_ask = units.saturating_sub(asked);
+        self.write_left(f, self.course.frames.saturating_mul(to_ask) / asked)
+    }
+
+    fn write_unit<W: fmt::Write>(&self, f: &mut fmt::Formatter<W>) -> fmt::Result {
+        if let Some(unit) = self.course.unit {
+            write!(f, "unit {unit}, ")?;
+        }
+        let frames = self.course.frames;
+        write!(f, "frame {frames}")
+    }
+
+    // The time that so many more frames should take.
+    fn write_left<W: fmt::Write>(&self, f: &mut fmt::Formatter<W>, frames: u64) -> fmt::Result {
+        match self.course.meter.seconds_for(frames) {
+            Some(seconds) => {
+                let left = Seconds(seconds);
+                write!(f, ", left {left}")
+            }
+            None => Ok(()),
+        }
+    }
+}
+
+/// What a command came to.
+#[derive(Clone, Copy)]
+pub(crate) struct Totals {
+    pub(crate) watched: Watched,
+    pub(crate) course: Course,
+}
+
+impl fmt::Display for Totals {
+    fn fmt<W: fmt::Write>(&self, f: &mut fmt::Formatter<W>) -> fmt::Result {
+        let frames = self.course.frames;
+        match self.watched {
+            Watched::Drive(_) => {
+                self.write_undone(f, "not done")?;
+                let good = self.course.good;
+                let known = self.course.known;
+                let misses = self.course.misses;
+                write!(f, "written now {good}, known before {known}, ")?;
+                write!(f, "frames {frames}, misses {misses}")?;
+            }
+            Watched::Verify => {
+                self.write_undone(f, "not the same")?;
+                let good = self.course.good;
+                write!(f, "the same {good}, frames {frames}")?;
+            }
+            Watched::Read | Watched::Scan(_) => write!(f, "frames {frames}")?,
+        }
+        match self.course.meter.seconds() {
+            Some(seconds) => {
+                let seconds = Seconds(seconds);
+                write!(f, ", time {seconds}")
+            }
+            None => Ok(()),
+        }
+    }
+}
+
+impl Totals {
+    // How many orders are so, which ones, and how many weren't reached.
+    fn write_undone<W: fmt::Write>(&self, f: &mut fmt::Formatter<W>, name: &str) -> fmt::Result {
+        let count = self.course.undone.count;
+        write!(f, "{name} {count}")?;
+        self.write_named(f)?;
+        let left = self.course.unreached();
+        if left > 0 {
+            write!(f, ", not reached {left}")?;
+        }
+        f.write_str(", ")
+    }
+
+    // The numbers of the first ones.
+    fn write_named<W: fmt::Write>(&self, f: &mut fmt::Formatter<W>) -> fmt::Result {
+        let named = self.course.undone.named();
+        if named.is_empty() {
+            return Ok(());
+        }
+        f.write_char(':')?;
+        for id in named {
+            write!(f, " {id}")?;
+        }
+        if self.course.undone.count > named.len() as u64 {
+            f.write_str(" ..")?;
+        }
+        Ok(())
+    }
+}
+
+// A time, as 1:05 or 1:00:05.
+#[derive(Clone, Copy)]
+struct Seconds(u64);
+
+impl fmt::Display for Seconds {
+    fn fmt<W: fmt::Write>(&self, f: &mut fmt::Formatter<W>) -> fmt::Result {
+        let seconds = self.0 % 60;
+        let minutes = self.0 / 60 % 60;
+        let hours = self.0 / 3600;
+        if hours > 0 {
+            write!(f, "{hours}:{minutes:02}:{seconds:02}")
+        } else {
+            write!(f, "{minutes}:{seconds:02}")
+        }
+    }
+}

@@ -10,7 +10,7 @@ import sys
 import threading
 import time
 
-from adapter_desk import ADAPTERS, player, run, want_named_descriptors
+from adapter_desk import ADAPTERS, player, run, shown_frames, want_link_without_frames, want_named_descriptors
 from drive_desk import want
 from driven import load
 
@@ -140,6 +140,23 @@ def test_daliserver_slow_answers(folder):
     turns = [[1, NONE], ["02", 0.3, "01", 0.3, "5A", 0.3, "00"], [1, "02016000"], ["02016100"]]
     want(over_server(turns, "C301 0B9C 0B98 0BC5".split(), "--time-limit", 4)[:3],
          (7, "-- 5A 60 61".split(), ["0200c301", "02000b9c", "02000b98", "02000bc5"]))
+
+
+def test_daliserver_frames_are_shown(folder):
+    words = "C301 0B9C 0B98".split()
+    status, answers, heard, told = over_server([[NONE], [0.5, ONE], ["02FF0000"]], words, "--frames")
+    want((status, answers, heard), (4, ["--", "01", "end"], ["0200c301", "02000b9c", "02000b98"]))
+    shown, _, took = shown_frames(told)
+    want(shown, list(zip(words, "-- 01 ??".split())))
+    assert 500 <= took[1] < 1000 * LIMIT, took
+
+
+def test_daliserver_goes_on_where_frames_cannot_be_shown(folder):
+    for told_to in ("/dev/full", "&-"):
+        server = Server([[], [NONE], [ONE]])
+        found = want_link_without_frames(DALISERVER, options_for(server.port), told_to, "C301 0B9C".split(), folder)
+        server.close()
+        want((told_to, found, server.heard), (told_to, ["--", "01"], [["0200c301", "02000b9c"]]))
 
 
 # What closes the link

@@ -1,6 +1,7 @@
 """What the tests of the adapters share: a stand-in command, a run of an adapter with it, and how tests are run."""
 
 import concurrent.futures
+import datetime
 import os
 import pathlib
 import re
@@ -44,6 +45,11 @@ os.write(2, ("answers " + " ".join(answers) + "\\n").encode())
 sys.exit(4 if answers[-1:] == ["end"] else 7)
 """
 
+# A command that sends frames, and writes what it reads into a file.
+WRITER = 'file=$1; shift; for it do echo "$it"; read -r answer; echo "$answer" >>"$file"; done'
+# A line of --frames.
+SHOWN = re.compile(r"frame ([0-9]+) ([0-9A-F]{4}) (\S\S) at (\d{4}-\d\d-\d\dT\d\d:\d\d:\d\d\.\d{3}) took (\d+\.\d) ms")
+
 # A command that tells which descriptors it has besides the standard streams, and what stands in the first that it names.
 HOLDER = """
 import os, sys
@@ -86,6 +92,27 @@ def want_named_descriptors(script, options):
         os.close(other)
         wanted = f"{reads} {other} given" if is_all else f"{reads} given"
         want((ended.communicate(timeout=20), ended.returncode), (("", wanted), 0))
+
+
+def shown_frames(told):
+    """Give the lines of --frames: the frames with their answers, their moments, and the milliseconds that each took."""
+    lines = [line for line in told.splitlines() if line.startswith("frame ")]
+    found = [SHOWN.fullmatch(line) for line in lines]
+    assert None not in found, lines
+    want([int(it[1]) for it in found], list(range(1, len(found) + 1)))
+    moments = [datetime.datetime.fromisoformat(it[4]) for it in found]
+    return [(it[2], it[3]) for it in found], moments, [float(it[5]) for it in found]
+
+
+def want_link_without_frames(script, options, told_to, frames, folder):
+    """Raise unless a link answers the frames where --frames can't be written to what standard error is led to."""
+    answers = folder / "answers"
+    answers.write_text("")
+    words = [sys.executable, script, *map(str, options), "--frames", "--", "sh", "-c", WRITER, "sh", answers, *frames]
+    ended = subprocess.run(["sh", "-c", f'exec "$@" 2>{told_to}', "sh", *words], stdin=subprocess.DEVNULL,
+                           stdout=subprocess.PIPE, timeout=20)
+    want((told_to, ended.returncode, ended.stdout), (told_to, 0, b""))
+    return answers.read_text().split()
 
 
 def passes(name, test):

@@ -15,7 +15,7 @@ import threading
 import time
 import tty
 
-from adapter_desk import ADAPTERS, player, run, want_named_descriptors
+from adapter_desk import ADAPTERS, player, run, shown_frames, want_link_without_frames, want_named_descriptors
 from drive_desk import want
 from driven import ROOT
 
@@ -101,6 +101,25 @@ def test_serial_answers(folder):
     words = "C301 0B9C 0B98 0BC5 C712".split()
     heard = [f"S{word}\r" for word in words]
     want(over_serial(replies, words), (7, "-- 01 -- aF --".split(), heard, "answers -- 01 -- aF --\n"))
+
+
+def test_serial_frames_are_shown(folder):
+    replies = [[b"N\r"], [b"J01\r"], [0.2, b"X\r"], []]
+    words = "C301 0B9C 0B98 A303 0BC5".split()
+    status, answers, heard, told = over_serial(replies, words, ["--frames"])
+    want((status, answers, heard), (4, "-- 01 -- end".split(), [f"S{word}\r" for word in words[:4]]))
+    shown, _, took = shown_frames(told)
+    # Of the last one nothing is known: the interface was silent.
+    want(shown, list(zip(words, "-- 01 -- ??".split())))
+    assert 200 <= took[2] < 500 <= took[3], took
+
+
+def test_serial_goes_on_where_frames_cannot_be_shown(folder):
+    for told_to in ("/dev/full", "&-"):
+        interface = Interface([[b"N\r"], [b"J01\r"]])
+        found = want_link_without_frames(SERIAL, [interface.device], told_to, "C301 0B9C".split(), folder)
+        interface.close()
+        want((told_to, found, interface.heard), (told_to, ["--", "01"], ["SC301\r", "S0B9C\r"]))
 
 
 def test_serial_silence(folder):

@@ -217,9 +217,11 @@ def test_reports_of_verify(folder):
     path = reporting(desk)
     ended = desk.over(bus)
     want((ended.status, ended.told), (1, "order 1 unit 5 same\norder 2 unit 6 other 13 FF\norder 3 unit 7 silent\n"))
-    blank = {"byte": None, "location": None}
-    want(lines_of(path), [{**blank, "found": "same", "order": 1, "unit": 5},
-                          {"byte": 255, "found": "other", "location": 0x13, "order": 2, "unit": 6},
-                          {**blank, "found": "silent", "order": 3, "unit": 7}])
+    blank = {"byte": None, "differs": [], "location": None}
+    year = {"field": "year", "has": "unknown", "wants": "24"}
+    want(lines_of(path), [
+        {**blank, "found": "same", "order": 1, "unit": 5},
+        {"byte": 255, "differs": [year], "found": "other", "location": 0x13, "order": 2, "unit": 6},
+        {**blank, "found": "silent", "order": 3, "unit": 7}])
     desk.options = ["--report", "/dev/full"]
     want(last_line(desk.over(bus))[2], UNTOLD.format("/dev/full", "no storage space").rstrip("\n"))

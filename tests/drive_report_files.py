@@ -28,7 +28,9 @@ BEFORE = kept(1, 5, 0, "before", 0, 0)
 # A line of each kind, of the third run.
 LAST = {**BEFORE, "run": 3}
 END = {"answer": "zz", "fault": 3, "frame": "C301", "name": "Line", "run": 3}
-FOUND = {"byte": None, "found": "same", "location": None, "order": 1, "run": 3, "unit": 5}
+FOUND = {"byte": None, "differs": [], "found": "same", "location": None, "order": 1, "run": 3, "unit": 5}
+# A line of a verification as the version before wrote it.
+EARLIER_FOUND = {key: FOUND[key] for key in FOUND if key != "differs"}
 
 
 def test_runs_are_counted(folder):
@@ -61,11 +63,15 @@ def test_runs_are_counted(folder):
 def test_a_report_of_an_earlier_version(folder):
     desk = desk_of(folder, PRESENT, DONE_JOURNAL)
     path = reporting(desk)
-    earlier = text_of(*({key: line[key] for key in line if key != "run"} for line in (LAST, END, FOUND)))
+    earlier = text_of(*({key: line[key] for key in line if key != "run"} for line in (LAST, END, EARLIER_FOUND)))
     path.write_text(earlier)
     for runs in ([1], [1, 2]):
         want(desk.over(blank_bus(5)).status, 0)
         want(path.read_text(), earlier + text_of(*({**BEFORE, "run": run} for run in runs)))
+    # One that has a run already, and no fields.
+    path.write_text(earlier + text_of(EARLIER_FOUND))
+    want(desk.over(blank_bus(5)).status, 0)
+    want(path.read_text(), earlier + text_of(EARLIER_FOUND, {**BEFORE, "run": 4}))
 
 
 def test_a_line_is_torn_at_each_byte(folder):
@@ -93,6 +99,16 @@ def test_a_torn_line_in_the_middle(folder):
         want(path.read_text(), text.rstrip("\n") + "\n" + text_of({**BEFORE, "run": run}))
 
 
+def most_differences():
+    """Give all fields, each with the longest texts that a unit may have and an order may want."""
+    sizes = {"gtin": 6, "identification": 8, "year": 1, "week": 1, "input_power": 2, "min_dim_power": 2,
+             "min_voltage": 2, "max_voltage": 2, "light_output": 3, "cri": 1, "cct": 2, "distribution": 1}
+    texts = {field: max("raw " + "00" * size, "unknown", key=len) for field, size in sizes.items()}
+    texts.update(identification="0" * 16, distribution="unknown", colour="text " + '"' * 24,
+                 luminaire="text " + "\\" * 60)
+    return [{"field": field, "has": text, "wants": text} for field, text in texts.items()]
+
+
 def test_the_longest_lines(folder):
     desk = desk_of(folder, PRESENT, DONE_JOURNAL)
     path = reporting(desk)
@@ -100,7 +116,10 @@ def test_the_longest_lines(folder):
     long = {"code": 255, "ended": "before", "frames": most, "misses": most, "moment": most, "name": "DoubtOpen",
             "order": most, "reply": "kept 5 DoubtOpen", "run": 1, "unit": 63}
     answer = {**END, "answer": "\\xFF" * 9, "name": "TooLong", "run": 1}
-    text = text_of(long, answer) * 500
+    found = {"byte": 255, "differs": most_differences(), "found": "other", "location": 0x77, "order": most, "run": 1,
+             "unit": 63}
+    want(len(text_of({**found, "run": most})), 1277)
+    text = text_of(long, answer, found) * 500
     path.write_text(text)
     want((desk.give(b"").status, path.read_text()), (0, text + text_of({**BEFORE, "run": 2})))
 
@@ -195,10 +214,11 @@ def test_files_that_are_no_report(folder):
         # One key less, one more, another one, and one of another kind.
         text_of({key: LAST[key] for key in LAST if key != "unit"}), text_of({**LAST, "more": 1}),
         text_of({**{key: LAST[key] for key in LAST if key != "unit"}, "more": 1}), text_of({**FOUND, "code": 0}),
+        text_of({**EARLIER_FOUND, "differ": []}), text_of({key: FOUND[key] for key in FOUND if key != "run"}),
         '{"code":0}\n', '{"answer":"--"}\n', '{"byte":1}\n',
         # A run that is no count, and lines that are too long or begin otherwise.
         text_of({**LAST, "run": "3"}), text_of({**LAST, "run": -1}), text_of({**LAST, "run": 1.5}),
-        text_of({**LAST, "run": None}), '{"code":' + " " * 505, '{"codes":', '{ "code":', "{}\n", '{"ab', "}\n",
+        text_of({**LAST, "run": None}), '{"code":' + " " * 2041, '{"codes":', '{ "code":', "{}\n", '{"ab', "}\n",
     ]
     for text in foreign:
         for held in (text, good + text, good + text.rstrip("\n") + "\n" + good):

@@ -161,8 +161,10 @@ def scenario(rng):
     }
     if rng.random() < 0.6:
         made["fates"] = [fate(rng) for _ in range(rng.randint(0, 5))]
+    if rng.random() < 0.5:
+        made["plan"] = rng.choice(["checked", "short", "short"])
     if rng.random() < 0.03:
-        made[rng.choice(["limit", "units", "events", "fates", "unit"])] = rng.choice(ODD_VALUES)
+        made[rng.choice(["limit", "plan", "units", "events", "fates", "unit"])] = rng.choice(ODD_VALUES)
     return as_json(rng, made)
 
 

@@ -64,6 +64,7 @@ def case_of(rng, program, folder):
     command, addresses = rng.choice(COMMANDS), rng.choice([[5], [5, 6], [5, 6, 9], []])
     orders = [fuzz_inputs.good_order(rng, number) for number in range(rng.randint(0, 4))]
     desk = Reading(folder, command, rng.choice([5, 5, 5, 6, 9]), orders, program)
+    desk.units, desk.with_gtin = rng.choice([(), (5,), (9, 5), (6, 5, 63, 9)]), rng.random() < 0.5
     units = [unit_of(rng, address) for address in addresses]
     for unit in units:
         for order in orders if rng.random() < 0.7 else []:

@@ -24,7 +24,6 @@ from driven import DONE, PATIENCE, ROOT, groups_of, possible_bytes, simulated_li
 
 PROGRAM = ROOT / "line_computer"
 ADAPTER = ROOT / "adapters" / "simulated_link.py"
-SLOW = ROOT / "tests" / "line_slow.py"
 CRASHING = ROOT / "tests" / "line_crash.py"
 YEAR, WEEK = 0x13, 0x14
 # The units of a bus: two as they should be, one whose year is fixed, one whose bank 1 ends before it; 9 isn't there.
@@ -118,8 +117,8 @@ class Bench:
     def run_words(self, bus, *options, adapter=None, crash=()):
         """Give the words of a bus's process, over simulated units that lose frames."""
         units = [word for unit in (*GOOD, FIXED, SHORT) for word in ("--unit", str(unit))]
-        fates = ["--fixed", f"{FIXED}:{YEAR:02X}", "--lose-frame", LOSSES]
-        adapter = adapter or [*([SLOW, str(self.pace)] if self.pace else [ADAPTER]), "--folder", bus, *units, *fates]
+        fates = ["--fixed", f"{FIXED}:{YEAR:02X}", "--lose-frame", LOSSES, "--frame-time", str(self.pace)]
+        adapter = adapter or [ADAPTER, "--folder", bus, *units, *fates]
         return self.words("run", "--bus", bus, "--longest-wait", "0.2", *options, "--", *adapter, crash=crash)
 
     def start(self, bus="bus1", *options, adapter=None, crash=()):
@@ -153,7 +152,10 @@ class Bench:
             finally:
                 connection.close()
         words = ["psql", "-X", "-q", "--csv", "-t", "-c", statement, self.store]
-        text = subprocess.run(words, check=True, capture_output=True, text=True).stdout
+        # A server that was killed comes up again: status 2 says that there is no connection.
+        asked = wait_for(lambda: (it := subprocess.run(words, capture_output=True, text=True)).returncode != 2 and it)
+        asked.check_returncode()
+        text = asked.stdout
         return [tuple(int(it) if re.fullmatch("-?[0-9]+", it) else it or None for it in row)
                 for row in csv.reader(io.StringIO(text))]
 

@@ -14,7 +14,7 @@ import time
 
 from drive_desk import Skipped, parts, want
 from driven import HEADER, PATIENCE, ROOT, groups_of
-from line_bench import (ABSENT, ADAPTER, FIXED, SHORT, SLOW, Bench, Server, judge, processes_of, stop, wait_for)
+from line_bench import (ABSENT, ADAPTER, FIXED, SHORT, Bench, Server, judge, processes_of, stop, wait_for)
 
 PLUGGED = ROOT / "tests" / "line_adapter.py"
 ABSENT_RECORD = bytes.fromhex("09 01 1318 4503")
@@ -73,7 +73,7 @@ def test_orders_come_while_it_runs(folder):
 def test_how_far_an_order_is(folder):
     bench = Bench(folder)
     bench.does("add", "-", given=b'[{"unit":5,"luminaire":"' + b"x" * 60 + b'"}]')
-    process = bench.start(adapter=[SLOW, "5", "--folder", "bus1"])
+    process = bench.start(adapter=[ADAPTER, "--frame-time", "5", "--folder", "bus1"])
     said = []
     wait_for(lambda: said.append(bench.rows("select frames from bench_states")[0][0]) or bench.states()[1] == "ended")
     want(stop(process), 0)

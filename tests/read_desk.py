@@ -68,6 +68,8 @@ class Reading(driven.Desk):
         self.program = program or settings["program"]
         self.folder = pathlib.Path(folder)
         self.command, self.unit, self.given_orders = command, unit, orders
+        self.units, self.with_gtin = (), False
+        self.options = []
         self.orders = self.folder / "orders.json"
         self.bank = self.folder / "bank.hex"
         if command == "verify":
@@ -75,8 +77,9 @@ class Reading(driven.Desk):
 
     def words(self):
         """Give the command line."""
-        behind = {"read": [str(self.unit), self.bank], "verify": [self.orders], "scan": []}
-        return [self.program, self.command, *behind[self.command]]
+        behind = {"read": [str(self.unit), self.bank], "verify": [self.orders],
+                  "scan": ["--gtin"] * self.with_gtin + [str(unit) for unit in self.units]}
+        return [self.program, self.command, *self.options, *behind[self.command]]
 
     def new(self):
         """Give the path of the file that is to take the place of HEXFILE."""
@@ -105,7 +108,9 @@ class Reading(driven.Desk):
         """Give how the command has to end over a link."""
         if self.command == "read":
             return wanted_read(carry, self.unit)
-        return wanted_scan(carry) if self.command == "scan" else wanted_verify(carry, self.given_orders)
+        if self.command == "scan":
+            return wanted_scan(carry, self.units, self.with_gtin)
+        return wanted_verify(carry, self.given_orders)
 
     def run(self, bus):
         """Run the command over a bus, in a folder without HEXFILE; it has to end as it ends by the plan. Give that."""

@@ -171,14 +171,35 @@ def wanted_verify(carry, orders):
     return wanted_of(carry, course)
 
 
-def wanted_scan(carry):
-    """Give how `scan` has to end over a link."""
+def gtin_text(held):
+    """Give the text of a GTIN whose six bytes are these: its last digit makes the weighted sum a multiple of ten."""
+    digits = f"{int.from_bytes(held, 'big'):014}"
+    if held == b"\xFF" * 6:
+        return "unknown"
+    total = sum(int(digit) * (1 if at % 2 else 3) for at, digit in enumerate(digits[:14]))
+    return digits if len(digits) == 14 and total % 10 == 0 else f"raw {held.hex().upper()}"
+
+
+def unit_text(unit, last, known):
+    """Give the line of a unit with this last location, and these bytes from 03h to 10h, if they were read."""
+    if known is None:
+        return f"unit {unit} last {last:02X}"
+    identification = "unknown" if known[6:] == b"\xFF" * 8 else known[6:].hex().upper()
+    return f"unit {unit} last {last:02X} gtin {gtin_text(known[:6])} identification {identification}"
+
+
+def wanted_scan(carry, units=(), with_gtin=False):
+    """Give how `scan` has to end over a link, of these units or of all."""
 
     def course(reader, told):
-        for unit in range(64):
-            last = reader.block(unit, 0x00, 1)
+        for unit in units or range(64):
+            last, known = reader.block(unit, 0x00, 1), None
+            if last is not None and with_gtin and last[0] >= 0x10:
+                known = reader.block(unit, 0x03, 14)
+                if known is None:
+                    continue
             if last is not None:
-                told.append(f"unit {unit} last {last[0]:02X}")
+                told.append(unit_text(unit, last[0], known and bytes(known)))
         told.append(f"units {len(told)}")
         return 0, None
 

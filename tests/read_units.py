@@ -226,6 +226,81 @@ def test_scans(folder):
         want(scan(folder, bus_of(*units), frames), [*lines, f"units {len(units)}"])
 
 
+def scan_some(folder, bus, frames, units, with_gtin=False):
+    """Scan some units of a bus, or all where none is named, and give the lines; it has to take so many frames."""
+    desk = Reading(folder, "scan")
+    desk.units, desk.with_gtin = units, with_gtin
+    wanted = desk.run(bus)
+    want((wanted.status, bus.frames), (0, frames))
+    return wanted.told.splitlines()
+
+
+def test_scans_of_some_addresses(folder):
+    here = [unit_of(17, 5), unit_of(120, 9), unit_of(255, 63)]
+    for units, frames, lines in [((9, 5), 14, ["unit 9 last 77", "unit 5 last 10"]), ((6,), 16, []),
+                                 ((63, 0, 5), 30, ["unit 63 last FE", "unit 5 last 10"]),
+                                 (tuple(range(63, -1, -1)), 21 + 61 * 16,
+                                  ["unit 63 last FE", "unit 9 last 77", "unit 5 last 10"])]:
+        want((units, scan_some(folder, bus_of(*here), frames, units)), (units, [*lines, f"units {len(lines)}"]))
+
+
+def known_unit(address, length, known):
+    """Make a unit whose bank 1 has these bytes from 03h on."""
+    bank = bytearray(varied_bank(length))
+    bank[0x03:0x03 + len(known)] = known
+    return simulated_link.Unit(address, bytes(bank))
+
+
+# What stands from 03h to 10h: a GTIN with its check digit, one with another, one that is blank, and one of fifteen digits.
+IDENTITIES = {
+    "03A4CEEFADAB 0102030405060708": "gtin 04006381333931 identification 0102030405060708",
+    "03A4CEEFADAC FFFFFFFFFFFFFF00": "gtin raw 03A4CEEFADAC identification FFFFFFFFFFFFFF00",
+    "FFFFFFFFFFFF FFFFFFFFFFFFFFFF": "gtin unknown identification unknown",
+    "000000000000 0000000000000000": "gtin 00000000000000 identification 0000000000000000",
+    "FFFFFFFFFFFE FFFFFFFFFFFFFFFF": "gtin raw FFFFFFFFFFFE identification unknown",
+}
+
+
+def test_what_each_unit_is(folder):
+    for known, told in IDENTITIES.items():
+        for length in (17, 120):
+            bus = bus_of(known_unit(5, length, bytes.fromhex(known)), unit_of(60, 7))
+            lines = scan_some(folder, bus, 27, (5,), True)
+            want((known, lines), (known, [f"unit 5 last {length - 1:02X} {told}", "units 1"]))
+
+
+def test_a_bank_that_ends_before_the_identification(folder):
+    # A simulated bank reaches 10h: of unit 5 location 00h changes.
+    bus = bus_of(Changing(5, varied_bank(120), {1: (0x00, 0x0F)}), known_unit(7, 120, b"\xFF" * 14))
+    want(scan_some(folder, bus, 7 + 27 + 16, (5, 6, 7), True),
+         ["unit 5 last 0F", "unit 7 last 77 gtin unknown identification unknown", "units 2"])
+
+
+def test_what_all_units_are(folder):
+    units = [known_unit(at, 120, bytes.fromhex("03A4CEEFADAB") + bytes([at] * 8)) for at in (0, 31, 63)]
+    lines = [f"unit {at} last 77 gtin 04006381333931 identification {at:02X}" + f"{at:02X}" * 7 for at in (0, 31, 63)]
+    want(scan_some(folder, bus_of(*units), 3 * 27 + 61 * 16, (), True), [*lines, "units 3"])
+
+
+def test_what_a_unit_is_with_losses(folder):
+    # The block from 03h on takes the frames 8 to 27: one miss of it, seven and eight.
+    for misses, frames, lines in [(1, 47, 1), (7, 167, 1), (8, 167, 0)]:
+        lost = [7 + 20 * turn for turn in range(1, misses + 1)]
+        bus = bus_of(known_unit(5, 120, b"\xFF" * 14), lost_answers=lost)
+        told = ["unit 5 last 77 gtin unknown identification unknown"] * lines + [f"units {lines}"]
+        want((misses, scan_some(folder, bus, frames, (5,), True)), (misses, told))
+
+
+def test_units_that_are_no_addresses(folder):
+    desk = Reading(folder, "scan")
+    for units, told in [((64,), "64 is not in 0..=63"), (("a",), "invalid digit found in string"),
+                        ((5, 6, 5), "error: unit 5 is named twice: name each unit once\n")]:
+        desk.units = units
+        ended = subprocess.run(desk.words(), stdin=subprocess.DEVNULL, capture_output=True, text=True)
+        want((units, ended.returncode, ended.stdout), (units, 1, ""))
+        assert told in ended.stderr, ended
+
+
 def test_scans_with_losses(folder):
     all_of_them = ["unit 0 last 10", "unit 2 last 77", "units 2"]
     for lost, frames, lines in [([7, 14], 1024 - 18 + 14, all_of_them), (range(2, 16, 2), 1006 + 14, all_of_them),

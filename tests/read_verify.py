@@ -1,6 +1,7 @@
 """Tests of `verify` over simulated units: each finding, its frames, with losses, and behind `drive` with its kills."""
 
 import copy
+import json
 import subprocess
 
 import driven
@@ -57,6 +58,33 @@ def line_by_bank(order, units):
     else:
         word = compared(updates, bank)
     return f"order {order['order']} unit {order['unit']} {word}"
+
+
+# An order of many fields, and each of them with what the order wants of it, as `show` prints it.
+SEVERAL = {"gtin": GTIN, "identification": "0011223344556677", "year": 4, "week": None, "input_power": 40, "cri": 80,
+           "colour": "RAL 9016", "luminaire": 'Panel "A\\B"'}
+WANTED = {"gtin": "04006381333931", "identification": "0011223344556677", "year": "4", "week": "unknown",
+          "input_power": "40", "cri": "80", "colour": "text RAL 9016", "luminaire": 'text Panel "A\\B"'}
+
+
+def differing(folder, orders, bus):
+    """Give what the report tells of each order: its word, and each field that differs, as its key and two texts."""
+    desk = Reading(folder, "verify", orders=orders)
+    report = desk.folder / "report"
+    report.unlink(missing_ok=True)
+    desk.options = ["--report", report]
+    desk.over(bus)
+    values = [json.loads(line) for line in report.read_text().splitlines()]
+    assert all(list(one) == ["field", "has", "wants"] for value in values for one in value["differs"]), values
+    return [(value["found"], [tuple(one.values()) for one in value["differs"]]) for value in values]
+
+
+def with_bytes(bank, changes):
+    """Give a bank with these bytes from each location on: {location: bytes}."""
+    held = bytearray(bank)
+    for location, changed in changes.items():
+        held[location:location + len(changed)] = changed
+    return bytes(held)
 
 
 def verify(folder, orders, bus, lines=None, frames=None):
@@ -161,6 +189,63 @@ def test_over_the_simulated_adapter(folder):
             (desk.words(), 1, "order 1 unit 5 same\norder 2 unit 9 silent\n")]:
         ended = subprocess.run([*adapter, *words], capture_output=True, text=True, timeout=driven.PATIENCE)
         want((ended.returncode, ended.stdout, ended.stderr), (status, "", told))
+
+
+# The fields of a report
+
+
+def test_fields_that_differ(folder):
+    order = order_of(**SEVERAL)
+    same = held_by(BLANK, order)
+    cases = [
+        # A number that is no GTIN, FFh in every byte, and numbers and bytes of no number.
+        ({0x03: bytes(5) + b"\x01"}, [("gtin", "raw 000000000001")]),
+        ({0x03: bytes(6)}, [("gtin", "00000000000000")]),
+        ({0x03: b"\xFF" * 6, 0x09: b"\xFF" * 8}, [("gtin", "unknown"), ("identification", "unknown")]),
+        ({0x10: b"\x78"}, [("identification", "0011223344556678")]),
+        ({0x13: b"\x63\x36"}, [("year", "99"), ("week", "raw 36")]),
+        ({0x14: b"\x05", 0x15: b"\xFF\xFF", 0x20: b"\x65"},
+         [("week", "5"), ("input_power", "unknown"), ("cri", "raw 65")]),
+        # A text with another character, one that goes on, one with nothing in it, and bytes of no text.
+        ({0x2B: b"7"}, [("colour", "text RAL 9017")]),
+        ({0x2C: b"\\"}, [("colour", "text RAL 9016\\")]),
+        ({0x24: bytes(24)}, [("colour", "raw " + "00" * 24)]),
+        ({0x3C: b"p"}, [("luminaire", 'text panel "A\\B"')]),
+        ({0x77: b"\x01"}, [("luminaire", "raw " + b'Panel "A\\B"'.hex().upper() + "00" * 48 + "01")]),
+        # What the order doesn't write is of no matter.
+        ({0x17: bytes(9), 0x21: bytes(3)}, []),
+    ]
+    for changes, wanted in cases:
+        found = differing(folder, [order], bus_of(simulated_link.Unit(5, with_bytes(same, changes))))
+        wanted = [(field, text, WANTED[field]) for field, text in wanted]
+        want((changes, found), (changes, [("other" if wanted else "same", wanted)]))
+    unknown = [(field, "unknown", text) for field, text in WANTED.items() if field != "week"]
+    want(differing(folder, [order], bus_of(simulated_link.Unit(5))), [("other", unknown)])
+
+
+def test_no_field_differs_where_none_was_read(folder):
+    year, gtin = order_of(year=24), order_of(2, gtin=GTIN)
+    bus = bus_of(simulated_link.Unit(5, bank_of(0x13)))
+    want(differing(folder, [year, gtin], bus), [("short", []), ("other", [("gtin", "unknown", "04006381333931")])])
+    bus = bus_of(simulated_link.Unit(5, bank_of(0x78, x12=0x04)))
+    want(differing(folder, [year, gtin], bus), [("format", []), ("other", [("gtin", "unknown", "04006381333931")])])
+    # Silent from the start, and at the block of its last field, behind other bytes of the first.
+    want(differing(folder, [order_of(unit=6, gtin=GTIN)], bus_of(simulated_link.Unit(5))), [("silent", [])])
+    bus = bus_of(simulated_link.Unit(5), lost_answers=[27 + 2 * turn for turn in range(1, 9)])
+    want(differing(folder, [order_of(gtin=GTIN, week=53)], bus), [("silent", [])])
+
+
+def test_each_field_alone(folder):
+    # Each byte of a unit that holds the order is changed in turn, and then its field alone differs.
+    fields = [(0x03, "gtin"), (0x09, "identification"), (0x13, "year"), (0x14, "week"), (0x15, "input_power"),
+              (0x17, "min_dim_power"), (0x19, "min_voltage"), (0x1B, "max_voltage"), (0x1D, "light_output"),
+              (0x20, "cri"), (0x21, "cct"), (0x23, "distribution"), (0x24, "colour"), (0x3C, "luminaire")]
+    held = held_by(BLANK, *FULL)
+    for location in sorted(bytes_of(FULL[0])):
+        field = [name for first, name in fields if first <= location][-1]
+        bus = bus_of(simulated_link.Unit(5, with_bytes(held, {location: bytes([held[location] ^ 0x40])})))
+        [(word, differs)] = differing(folder, FULL, bus)
+        want((location, word, [one[0] for one in differs]), (location, "other", [field]))
 
 
 # Behind `drive`

@@ -5,16 +5,20 @@ The last line is `N passed, M failed`, and the status is 0 only where none faile
 """
 
 import contextlib
+import datetime
 import os
 import re
 import signal
 import subprocess
 import sys
+import time
 
 sys.dont_write_bytecode = True
 
 import adapter_desk  # noqa: E402
-from adapter_desk import ADAPTERS, player, run, want_named_descriptors  # noqa: E402
+from adapter_desk import (ADAPTERS, player, run, shown_frames, want_link_without_frames,  # noqa: E402
+                          want_named_descriptors)
+from cases import case_of  # noqa: E402
 from drive_desk import want  # noqa: E402
 from driven import ROOT, simulated_link  # noqa: E402
 
@@ -142,7 +146,7 @@ def test_units_that_cannot_be(folder):
 def test_stored_runs(folder):
     for name, options in [("run_gtin_frames", []), ("run_retry_frames", ["--lose-answer", "21"]),
                           ("run_power_frames", ["--lose-power", "5:6"])]:
-        sent = re.findall("^send (....) (..)$", (ROOT / "examples" / f"{name}.stdout").read_text(), re.MULTILINE)
+        sent = re.findall("^send (....) (..)$", case_of(name).wanted.decode(), re.MULTILINE)
         assert len(sent) > 90
         status, answers, _ = run(SIMULATED, ["--folder", folder, *options], [frame for frame, _ in sent])
         want((status, answers), (7, [answer for _, answer in sent]))
@@ -181,8 +185,83 @@ def test_options(folder):
     status, answers, told = run(SIMULATED, options, words)
     want((status, answers[5:]), (7, "01 02 -- -- -- -- -- 06 -- 09".split()))
     want((saved(folder), saved(folder, 6)), (blank(x03=1, x04=2, x05=3, x08=6), blank()))
-    for line in ["frame 6 C701 01\n", "frame 8 0B98 --\n", "frame 15 0B98 09\n"]:
-        assert line in told, told
+    want(shown_frames(told)[0], list(zip(words, answers)))
+
+
+def test_frames_have_their_times(folder):
+    words = "C301 0B9C A303 0B98".split()
+    first = datetime.datetime.now() - datetime.timedelta(milliseconds=1)
+    status, answers, told = run(SIMULATED, ["--folder", folder, "--frames", "--frame-time", "40.5"], words)
+    last = datetime.datetime.now()
+    shown, moments, took = shown_frames(told)
+    want((status, answers, shown), (7, "-- 01 -- 03".split(), list(zip(words, answers))))
+    assert first <= moments[0] and moments[-1] <= last, (first, moments, last)
+    for before, behind in zip(moments, moments[1:]):
+        assert (behind - before).total_seconds() >= 0.039, moments
+    assert 40.4 <= min(took) and max(took) < 2000, took
+
+
+def test_a_command_waits_for_its_frames(folder):
+    for milliseconds, seconds in (("0", 0), ("50", 1)):
+        began = time.monotonic()
+        status, _, told = run(SIMULATED, ["--folder", folder, "--frame-time", milliseconds], 20 * ["A312"])
+        want((status, "frame " in told), (7, False))
+        assert time.monotonic() - began >= seconds, milliseconds
+
+
+def test_a_link_goes_on_where_frames_cannot_be_shown(folder):
+    for told_to in ("/dev/full", "&-"):
+        found = want_link_without_frames(SIMULATED, ["--folder", folder], told_to, "C301 0B9C".split(), folder)
+        want((told_to, found), (told_to, ["--", "01"]))
+
+
+def test_frames_that_nobody_reads_are_waited_for(folder):
+    # More than a pipe holds.
+    words = [*2000 * ["A312"]]
+    command = [SIMULATED, "--folder", folder, "--frames", "--", *player(words)]
+    link = subprocess.Popen(command, stderr=subprocess.PIPE, text=True)
+    time.sleep(2)
+    want(link.poll(), None)
+    told = link.communicate(timeout=20)[1]
+    want((link.returncode, len(shown_frames(told)[0])), (7, 2000))
+
+
+def lost_by_chance(loss, seed, short_address):
+    """Give which of 20000 frames one unit doesn't hear, and the answers to which don't come."""
+    unit = simulated_link.Unit(short_address)
+    bus = simulated_link.Bus([unit], loss=loss, seed=seed)
+    unheard, unanswered = [], []
+    for number in range(10000):
+        unit.registers[0] = 0xAA
+        bus.carry(0xA355)
+        if unit.registers[0] == 0xAA:
+            unheard.append(number)
+        if bus.carry(0x0198 + 0x200 * short_address) is None:
+            unanswered.append(number)
+    return unheard, unanswered
+
+
+def test_losses_by_chance(folder):
+    want(lost_by_chance(0, 1, 5), ([], []))
+    want(lost_by_chance(1, 1, 5), (list(range(10000)), list(range(10000))))
+    found = {seed: lost_by_chance(0.1, seed, 5) for seed in (1, 2, 3)}
+    for unheard, unanswered in found.values():
+        # A query goes unanswered by its own loss, or by that of its answer. Five deviations are allowed.
+        assert abs(len(unheard) - 1000) < 150 and abs(len(unanswered) - 1900) < 200, (len(unheard), len(unanswered))
+    assert found[1] != found[2] != found[3] != found[1]
+    # The same seed takes the same ones, whichever units are there.
+    want(lost_by_chance(0.1, 2, 60), found[2])
+
+
+def test_options_of_chance(folder):
+    words = [*OPENED, *20 * ["C712", "0B98"]]
+    lost = run(SIMULATED, ["--folder", folder, "--loss", "1"], words)
+    want((lost[:2], saved(folder)), ((7, 45 * ["--"]), blank()))
+    options = ["--folder", folder, "--loss", "0.2"]
+    first = run(SIMULATED, options, words)[1]
+    assert 5 < first.count("--") < 40, first
+    want(run(SIMULATED, [*options, "--seed", "1"], words)[1] == first, True)
+    want(run(SIMULATED, [*options, "--seed", "2"], words)[1] == first, False)
 
 
 def test_a_killed_command(folder):
@@ -204,6 +283,8 @@ def test_what_cannot_start(folder):
     (folder / "unit_8.hex").write_text("77 FF")
     for options in [["--unit", "64"], ["--unit", "5", "--unit", "5"], ["--unit", "7"], ["--unit", "8"],
                     ["--fixed", "6:03"], ["--fixed", "5:02"], ["--fixed", "503"], ["--lose-frame", "0"],
+                    ["--loss", "1.01"], ["--loss", "-0.1"], ["--loss", "nan"], ["--loss", "x"], ["--seed", "x"],
+                    ["--seed", "0.5"], ["--frame-time", "-1"], ["--frame-time", "10001"], ["--frame-time", "inf"],
                     ["--refuse", "x"], ["--lose-power", "6:3"], ["--lose-power", "5"], ["--lose-power", "5:0"],
                     ["--folder", folder / "none"]]:
         status, answers, told = run(SIMULATED, ["--folder", folder, *options], ["A312"])
@@ -219,7 +300,10 @@ def test_words_for_a_person(folder):
         blank_one = "it holds no bytes in hexadecimal: without this file the unit is a blank one"
         want(told, f"simulated_link: {folder}/unit_{number}.hex: {blank_one}\n")
     none = folder / "none"
-    for options, words, told in [(["--folder", none], ["A312"], f"the folder {none} isn't there: make it first\n")]:
+    for options, words, told in [
+            (["--folder", none], ["A312"], f"the folder {none} isn't there: make it first\n"),
+            (["--loss", "2"], ["A312"], "argument --loss: '2' is no chance, 0 to 1\n"),
+            (["--frame-time", "x"], ["A312"], "argument --frame-time: 'x' is no time, 0 to 10000\n")]:
         want(run(SIMULATED, options, words)[2].splitlines(True)[-1].split("error: ")[1], told)
     ended = subprocess.run([SIMULATED, "--folder", folder, "--", "/none"], capture_output=True, text=True)
     want((ended.returncode, ended.stderr), (2, "simulated_link: /none: No such file or directory\n"))

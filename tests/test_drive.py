@@ -17,6 +17,8 @@ import drive_calls  # noqa: E402
 import drive_follow  # noqa: E402
 import drive_older  # noqa: E402
 import drive_places  # noqa: E402
+import drive_plans  # noqa: E402
+import drive_progress  # noqa: E402
 import drive_report  # noqa: E402
 import drive_report_files  # noqa: E402
 import drive_streams  # noqa: E402
@@ -27,8 +29,10 @@ import suite  # noqa: E402
 MODULES = (
     drive_streams,
     drive_units,
+    drive_plans,
     drive_calls,
     drive_places,
+    drive_progress,
     drive_report,
     drive_report_files,
     drive_follow,

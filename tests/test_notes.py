@@ -7,6 +7,7 @@ The last line is `N passed, M failed`, and the status is 0 only where none faile
 """
 
 import os
+import pty
 import subprocess
 import sys
 import tempfile
@@ -369,6 +370,41 @@ def fails_on_streams(program):
     yield None if slow.stdout.split() == [b"1000"] else f"standard error read slowly: {slow}"
 
 
+def at_a_terminal(words, given, is_output, is_error):
+    """Run a command with a terminal for standard output, standard error or both. Give what each of the three got."""
+    main, other = pty.openpty()
+    output, error = (other if is_output else subprocess.PIPE), (other if is_error else subprocess.PIPE)
+    running = subprocess.Popen(words, stdin=subprocess.PIPE, stdout=output, stderr=error)
+    os.close(other)
+    running.stdin.write(given)
+    running.stdin.close()
+    shown = b""
+    while True:
+        try:
+            part = os.read(main, 65536)
+        except OSError:  # Nobody writes there any more.
+            break
+        shown += part
+    os.close(main)
+    piped = [it.read().decode() if it else None for it in (running.stdout, running.stderr)]
+    running.wait(60)
+    return (*piped, shown.decode().replace("\r\n", "\n"))
+
+
+def fails_at_a_terminal(program):
+    """Give what is wrong where standard output and standard error, or one of both, are a terminal."""
+    words, whole = [program, "check", "-"], run(program, "check", REFUSED)
+    output, error = whole.stdout.decode(), whole.stderr.decode()
+    lines = output.splitlines()
+    second = lines.index("item 2 order 8 unit 5 bytes 1")
+    third = lines.index("item 3 fault 1 Unit")
+    both = [*lines[:second], *REFUSED_FIRST, *lines[second:third + 1], *REFUSED_THIRD, *lines[third + 1:]]
+    for is_output, is_error, wanted in ((True, True, (None, None, "".join(line + "\n" for line in both))),
+                                        (True, False, (None, error, output)), (False, True, (output, None, error))):
+        found = at_a_terminal(words, REFUSED, is_output, is_error)
+        yield None if found == wanted else f"at a terminal, {is_output} {is_error}: {found}"
+
+
 def fails_on_many(program):
     """Give what is wrong where more than a thousand lines could be told, of many items or of one."""
     told = "item {0}: the number 7, and an order is an object with order, unit and fields"
@@ -475,7 +511,7 @@ def fails_on_causes(program):
 
 def main(program):
     """Run all, tell what failed, and return the status."""
-    parts = (fails_on_lines, fails_on_streams, fails_on_many, fails_on_readers, fails_on_causes, fails_on_words,
+    parts = (fails_on_lines, fails_on_streams, fails_at_a_terminal, fails_on_many, fails_on_readers, fails_on_causes, fails_on_words,
              fails_on_command_lines, fails_on_drives)
     told = [it for part in parts for it in part(program)]
     failed = [it for it in told if it]

@@ -1,5 +1,7 @@
 #!/usr/bin/env python3
-"""Test what `believe` finds that contracts reach, and `unused` that nothing uses, in a repository made for it."""
+"""Test what `believe` finds that contracts reach, `unused` that nothing uses, and `where` of a rule, in a repository made
+for it.
+"""
 
 import pathlib
 import shutil
@@ -182,9 +184,25 @@ fn a_test() {
 
 fn helper() {}
 """
-EDIT = """file: src/parts.rt
+EDITS = """file: src/parts.rt
+
+rule: the next one is proved
+
+edit: most_in_an_edit
 old:         0..Held::most();
 new:         0..crate::parts::in_an_edit();
+
+edit: one_more
+old:         3
+new:         4
+
+rule: kinds are weighed
+
+edit: weighed_beside_the_code
+by: main::law
+file: specs/Top.antt
+old: Bare (size ∷ sizes) = Bare sizes
+new: Bare (size ∷ sizes) = Bare []
 """
 LINE_EDIT = """file: specs/Top.antt
 old: Weighed other = 3 ≡ 3
@@ -231,8 +249,8 @@ FILES = {
     "crates/top/src/main.rt": CODE,
     "crates/top/src/parts.rt": PARTS,
     "crates/top_tests/src/lib.rt": TESTS,
-    "crates/top/wrong-bodies/another.edit": EDIT,
-    "crates/top/wrong-lines/another.edit": LINE_EDIT,
+    "crates/top/wrong-bodies/parts.edits": EDITS,
+    "crates/top/must-fail/another.edit": LINE_EDIT,
     "docs/PROMISES.md": PROMISES.format(limit=13),
 }
 
@@ -304,7 +322,7 @@ def outcomes_of_unused(root):
     told = ran(root, "unused")[1]
     yield "what tests used is unused without them", "top/src/main.rt:30 only_tested" in told
     shutil.rmtree(root / "crates" / "top" / "wrong-bodies")
-    shutil.rmtree(root / "crates" / "top" / "wrong-lines")
+    shutil.rmtree(root / "crates" / "top" / "must-fail")
     told = ran(root, "unused")[1]
     yield "what an edit of the code names", "top/src/parts.rt:32 in_an_edit" in told
     yield "what an edit of a definition names", "low/specs/Base.antt:29 Edited" in told
@@ -316,10 +334,44 @@ def outcomes_of_unused(root):
     yield "nothing is unused", ran(root, "unused") == (0, [])
 
 
+def outcomes_of_where(root):
+    """Give what is tested of `where`, and whether it is so."""
+    status, told = ran(root, "where", "Weighed")
+    yield "a definition", status == 0 and told == [
+        "definition  crates/top/specs/Top.antt:5 Weighed, which reaches 3, of 9 lines",
+        "  named by  crates/top/src/main.rt:8 law (law)",
+        "edit        top/another: must fail",
+    ]
+    yield "a function", ran(root, "where", "Held::next") == (0, [
+        "function    crates/top/src/parts.rt:9 Held::next",
+        "  clauses   the only one",
+        "  reaches   1 definitions of 2 lines: Proved",
+        "edit        top/most_in_an_edit: the next one is proved",
+    ])
+    yield "what a test names", "test        crates/top_tests/src/lib.rt:5 only_tested();" in ran(root, "where", "only_tested")[1]
+    yield "a rule", ran(root, "where", "kinds", "weighed") == (0, ["edit        top/weighed_beside_the_code: kinds are weighed"])
+    yield "a book", ran(root, "where", "most", "lines") == (0, ["book        docs/PROMISES.md:5: What has to be believed"])
+    yield "nothing", ran(root, "where", "nowhere") == (1, [])
+    yield "no words", ran(root, "where") == (2, [])
+
+
+def outcomes_of_edits(root):
+    """Give what is tested of whether edits can be applied, and whether it is so."""
+    yield "all can be", ran(root, "wrong_bodies", "--apply") == (0, ["4 passed, 0 failed"])
+    changed(root, "crates/top/src/parts.rt", "0..Held::most();", "0..2;")
+    changed(root, "crates/top/wrong-bodies/parts.edits", "new:         4", "new:         3")
+    failed = [
+        "FAILED: top/most_in_an_edit: the text of pair 1 stands 0 times in its file, and not once",
+        "FAILED: top/one_more: it changes nothing",
+        "2 passed, 2 failed",
+    ]
+    yield "what is gone, and what is the same", ran(root, "wrong_bodies", "--apply") == (1, failed)
+
+
 def main():
     """Test, tell what failed, and return the status."""
     passed = failed = 0
-    for outcomes in (outcomes_of_believe, outcomes_of_unused):
+    for outcomes in (outcomes_of_believe, outcomes_of_where, outcomes_of_edits, outcomes_of_unused):
         with tempfile.TemporaryDirectory() as folder:
             root = pathlib.Path(folder) / "root"
             repository(root)

@@ -45,10 +45,10 @@ def change(path):
 
 def outcomes(root):
     """Give what is tested, and whether it is so."""
-    from edits import Edit
+    from edits import edits_in
     from refused import Refused
 
-    first, second = [Edit(it) for it in sorted((root / "crates" / CRATE / "wrong-bodies").glob("*.edit"))[:2]]
+    first, second = list(edits_in(root / "crates" / CRATE / "wrong-bodies" / "unit.edits"))[:2]
 
     def known(edit):
         return edit in Refused().of(CRATE, [edit])

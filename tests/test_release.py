@@ -27,10 +27,8 @@ from test_bench import run_commands  # noqa: E402
 
 RELEASE = ROOT / "scripts" / "release"
 STAND_IN = '#!/bin/sh\nif [ "$*" = --version ]; then echo "stand-in 1.0"; else echo "ran $*"; fi\n'
-# What README names and only the repository has: it says so itself.
-KIT_ONLY = {"test", "scripts/release", "scripts/believe"}
 LAUNCHED = ("crates.txt", "HANDLES", "dali_bench", "scripts/built.sh", "scripts/start.sh", "scripts/build",
-            "scripts/crates.py", "scripts/sums.py")
+            "scripts/crates.py", "scripts/progress.py", "scripts/sums.py")
 SEEN_BY_ALL = 0o755
 
 
@@ -162,6 +160,7 @@ def test_launcher_tells_the_commit(folder):
     want(run([*git, "commit", "-qm", "all"])[0], 0)
     commit = run([*git, "rev-parse", "HEAD"])[1][:12]
     want(run([root / "dali_bench", "--version"]), (0, f"stand-in 1.0, commit {commit}\n", ""))
+    want(run([root / "dali_bench", "-V"]), (0, f"stand-in 1.0, commit {commit}\n", ""))
     want(run([root / "dali_bench", "--version", "b"]), (0, "ran --version b\n", ""))
     outer = {**os.environ, "GIT_DIR": str(folder / ".git")}
     want(run([root / "dali_bench", "--version"], env=outer), (0, f"stand-in 1.0, commit {commit}\n", ""))
@@ -176,11 +175,16 @@ def test_launcher_tells_the_commit(folder):
     want((gone.returncode, gone.stderr), (2, b""))
 
 
-def unpacked(folder):
-    """Make the archive and unpack it; give its folder."""
+def made(folder):
+    """Make the archive and the package; give their paths."""
     status, output, complaint = run([RELEASE, folder])
     want((status, complaint), (0, ""))
-    path = pathlib.Path(output.strip())
+    return [pathlib.Path(line) for line in output.splitlines()]
+
+
+def unpacked(folder):
+    """Make the archive and unpack it; give its folder."""
+    path = made(folder)[0]
     want(run(["tar", "xzf", path, "-C", folder]), (0, "", ""))
     return folder / path.name.removesuffix(".tar.gz")
 
@@ -193,6 +197,7 @@ def test_archive_is_named_by_its_commit(folder):
     date = run([*git, "log", "-1", "--format=%cs"])[1].strip()
     want(top.name, f"dali_bench-{date}-{commit}{changed}-x86_64-linux")
     line = run([settings["program"], "--version"])[1].strip()
+    want(run([settings["program"], "-V"]), (0, f"{line}\n", ""))
     want(run([top / "dali_bench", "--version"]), (0, f"{line}, commit {commit}{changed}\n", ""))
     packed = top.with_name(f"{top.name}.tar.gz")
     before = packed.read_bytes()
@@ -219,14 +224,31 @@ def test_archive_has_what_readme_names(folder):
     text = (top / "README.md").read_text()
     words = {word.removeprefix("./").rstrip(".") for word in re.findall(r"[\w./*-]+", text)}
     # Cases of examples/ are named without their folder and their ending.
-    words |= {f"examples/{word}.{ending}" for word in words for ending in ("json", "stdout")}
+    words |= {f"examples/{word}.{ending}" for word in words for ending in ("json", "cases")}
     named = {word for word in words if (ROOT / word).is_file() and ".." not in word and not word.startswith("/")}
     adapters = {"adapters/serial_link.py", "adapters/daliserver_link.py", "adapters/simulated_link.py"}
-    assert {"docs/LINK.md", "examples/run_left.json", *adapters, *KIT_ONLY} <= named, named
-    want(sorted(name for name in named if not (top / name).is_file() and not name.startswith("crates/")),
-         sorted(KIT_ONLY))
+    assert {"docs/LINK.md", "examples/run_left.json", *adapters} <= named, named
+    want([name for name in named if not (top / name).is_file()], [])
     links = set(re.findall(r"\]\(([^)#]+)\)", text))
     want([link for link in links if not (top / link).is_file()], [])
+
+
+def test_archive_has_the_readme_of_who_has_it(folder):
+    text = (unpacked(folder) / "README.md").read_text()
+    for words in ("## Set up\n", "### The Debian package\n", "### The archive\n", "x86-64", "glibc, 2.34 or later",
+                  "Python 3.9 or later", "**Not in it**", "](docs/BENCH.md#a-pipe-as-a-service)"):
+        assert words in text, words
+    found = re.findall(r"./test\b|scripts/\w+|\brt\b|minutes on four cores|C compiler|](?:BENCH|LINE_COMPUTER).md", text)
+    want(found, [])
+    # All but how it is set up is as in the repository.
+    ours = (ROOT / "README.md").read_text()
+    want(text[text.index("## Write to a unit"):], ours[ours.index("## Write to a unit"):])
+    want(text[:text.index("## Set up")], ours[:ours.index("## Set up")])
+
+
+def test_program_needs_the_c_library_that_is_said(folder):
+    versions = {tuple(map(int, it)) for it in re.findall(rb"GLIBC_(\d+)\.(\d+)", settings["program"].read_bytes())}
+    want(max(versions), (2, 34))
 
 
 def test_archive_runs_from_anywhere(folder):

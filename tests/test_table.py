@@ -17,6 +17,7 @@ import sys
 sys.dont_write_bytecode = True
 
 import suite  # noqa: E402
+from cases import case_of  # noqa: E402
 from drive_desk import settings, want  # noqa: E402
 from driven import ROOT  # noqa: E402
 
@@ -264,7 +265,7 @@ def test_check_takes_a_full_order(folder):
     for separator in ",;":
         table = separator.join(order) + "\r\n" + separator.join(map(str, order.values())) + "\r\n"
         ended = checked(table.encode())
-        want((ended.returncode, ended.stdout), (0, (ROOT / "examples" / "full.stdout").read_bytes()))
+        want((ended.returncode, ended.stdout), (0, case_of("full").wanted))
 
 
 def test_check_takes_each_key(folder):

@@ -1,0 +1,63 @@
+"""The cases of examples/: words of a command line, what goes in, and what has to come out.
+
+A file COMMAND.cases has cases with a blank line between them, each of lines of a word, a colon and a text:
+
+    case: NAME
+    run: WORDS          as a shell reads them; ROOM in them is a folder of the test's own
+    status: NUMBER      0 where there is none
+    in: LINE            of standard input; `in: nothing` alone where that is empty
+    answers: FF -- 01   the same, several lines in one
+    out: LINE           of standard output
+    frames: A301 C300   the same, several lines in one
+    err: LINE           of standard error, which isn't looked at where there is no such line
+"""
+
+import pathlib
+import shlex
+
+ROOT = pathlib.Path(__file__).resolve().parent.parent
+
+
+class Case:
+    """A case: its words and what belongs to them, as bytes; `error` is None where standard error isn't looked at."""
+
+    def __init__(self, rows):
+        self.name = text_of(rows, "case")[0]
+        self.words = shlex.split(text_of(rows, "run")[0])
+        self.status = int((text_of(rows, "status") or ["0"])[0])
+        self.given = lines_of(rows, "in", "answers")
+        self.wanted = lines_of(rows, "out", "frames")
+        self.error = lines_of(rows, "err") if text_of(rows, "err") else None
+
+    def words_in(self, room):
+        """Give the words, with a folder for ROOM."""
+        return [word.replace("ROOM", str(room)) for word in self.words]
+
+
+def text_of(rows, word):
+    """Give the texts of the lines that begin with a word."""
+    return [rest for first, rest in rows if first == word]
+
+
+def lines_of(rows, word, several=None):
+    """Give the lines of a stream, whole or several in one."""
+    lines = []
+    for first, rest in rows:
+        if first == word and rest != "nothing":
+            lines.append(rest)
+        elif first == several:
+            lines += rest.split()
+    return "".join(f"{line}\n" for line in lines).encode()
+
+
+def all_cases():
+    """Give all cases."""
+    for path in sorted((ROOT / "examples").glob("*.cases")):
+        for text in path.read_text(encoding="utf-8").strip("\n").split("\n\n"):
+            rows = [line.partition(":") for line in text.split("\n")]
+            yield Case([(word, rest.removeprefix(" ")) for word, _, rest in rows])
+
+
+def case_of(name):
+    """Give the case of a name."""
+    return next(it for it in all_cases() if it.name == name)

@@ -1,0 +1,158 @@
+"""Tests of the short plan: its frames, losses, units that don't do as asked, and drives that are killed and go on by the
+other plan."""
+
+import json
+import signal
+import subprocess
+
+import driven
+from drive_desk import DONE_JOURNAL, DONE_TOLD, GTIN, GTIN_BYTES, PRESENT, desk_of, parts, settings, want
+from drive_units import ALL_FIELDS, BLANK, DOUBTFUL, LEFT, LOSSY, SCENES, bank_of, finish
+from driven import Desk, judge, simulated_link
+
+FULL = ALL_FIELDS.orders[0]
+YEAR = {"order": 1, "unit": 5, "year": 24}
+# An order, its frames by each plan, and the rows that it is read back in.
+COUNTS = [
+    ({"order": 1, "unit": 5, "gtin": GTIN}, 112, 62),  # 02h to 08h
+    (YEAR, 56, 46),  # 02h; 13h
+    ({"order": 1, "unit": 5, "year": 24, "week": 53}, 70, 52),  # 02h; 13h and 14h
+    ({"order": 1, "unit": 5, "gtin": GTIN, "identification": "0011223344556677"}, 224, 110),  # 02h to 10h
+    (FULL, 1652, 766),
+]
+# What a miss costs at most: all frames of a block read of sixteen locations.
+MOST_OF_A_MISS = 22
+DONE = "reply 1 kept 0 Done"
+
+
+class Turned(Desk):
+    """A desk whose runs go by the short plan and the checked one in turn."""
+
+    is_short = False
+
+    def words(self):
+        """Give the command line."""
+        self.is_short = not self.is_short
+        return [self.program, "drive", *(["--short-plan"] if self.is_short else []), self.orders, self.journal]
+
+
+def short_desk(folder, orders, journal=None):
+    """Make a desk that drives by the short plan."""
+    desk = desk_of(folder, orders, journal)
+    desk.options = ["--short-plan"]
+    return desk
+
+
+def played(order, plan="short", bank=None, fixed=(), fates=(), events=None):
+    """Run an order in a scenario; give the lines that are told."""
+    unit = {"address": 5, "fixed": list(fixed)} | ({"bank": bank.hex()} if bank else {})
+    scenario = {"limit": 1, "plan": plan, "units": [unit], "fates": list(fates),
+                "events": events or [{"submit": order}, {"steps": 14000}]}
+    told = subprocess.run([settings["program"], "run", "/dev/stdin"], input=json.dumps(scenario), capture_output=True,
+                          text=True, check=True).stdout
+    return told.splitlines()
+
+
+def frames_of(lines):
+    """Give how many frames a run sent."""
+    return next(int(line[6:]) for line in lines if line.startswith("total "))
+
+
+def test_frames_of_both_plans(folder):
+    for order, checked, short in COUNTS:
+        desk = desk_of(folder, [order], b"")
+        for options, frames in ([], checked), (["--short-plan"], short):
+            desk.options, bus = options, simulated_link.Bus([simulated_link.Unit(5)])
+            desk.journal.write_bytes(b"")
+            want((desk.over(bus).told, bus.frames), (DONE_TOLD, frames))
+            judge(bus, {5: BLANK}, desk.held())
+        want([frames_of(played(order, plan)) for plan in ("checked", "short")], [checked, short])
+
+
+def test_what_the_short_plan_writes(folder):
+    desk, bus = short_desk(folder, PRESENT), simulated_link.Bus([simulated_link.Unit(5)])
+    desk.over(bus)
+    want((bytes(bus.units[0].banks[1]), desk.held()), (BLANK[:3] + GTIN_BYTES + BLANK[9:], DONE_JOURNAL))
+
+
+@parts(4)
+def test_each_frame_and_answer_lost(folder, part, count):
+    for order, _, short in COUNTS[::4]:
+        done = [line for line in played(order) if line.startswith("bank ")]
+        for frame in range(part, short, count):
+            for loss in {"lost": [5]}, {"answer_lost": True}:
+                lines = played(order, fates=[{"times": frame}] * (frame > 0) + [loss])
+                assert DONE in lines and done == [line for line in lines if line.startswith("bank ")], (frame, loss)
+                assert short <= frames_of(lines) <= short + MOST_OF_A_MISS, (frame, loss, frames_of(lines))
+
+
+def test_power_lost_behind_each_step(folder):
+    codes = set()
+    for steps in range(1, 67):
+        lines = played(PRESENT[0], events=[{"submit": PRESENT[0]}, {"steps": steps}, {"power": 5}, {"steps": 2000}])
+        code = next(line for line in lines if line.startswith("reply 1 kept"))
+        bank = next(line for line in lines if line.startswith("bank 5 00"))
+        assert any(line.startswith("unit 5 ") and line.endswith("enabled no") for line in lines), (steps, lines)
+        assert code != DONE or bank.startswith("bank 5 00 77FFFF03A4CEEFADAB"), (steps, bank)
+        codes.add(code)
+    want(codes, {DONE, "reply 1 kept 4 Doubt"})
+
+
+# An order, its unit's bank and fixed locations, what befalls, and the code that it ends with by either plan.
+UNSUITED = [
+    (PRESENT[0], BLANK, [5], [], "4 Doubt"),
+    (FULL, bank_of(0x3C), [], [], "1 Short"),
+    (YEAR, bank_of(0x78, x12=0x04), [], [], "2 Format"),
+    (PRESENT[0], BLANK, [], [{"times": 30}, {"times": 8, "refuse": True}], "0 Done"),
+]
+
+
+def test_units_that_do_not_suit(folder):
+    for order, bank, fixed, fates, code in UNSUITED:
+        for plan in "checked", "short":
+            lines = played(order, plan, bank, fixed, fates)
+            want((plan, [line for line in lines if " kept " in line]), (plan, [f"reply 1 kept {code}"]))
+
+
+class Forgetful(simulated_link.Unit):
+    """A unit that is write-enabled for one write alone."""
+
+    def _write(self, byte, refusing):
+        """Do what a unit does, and be enabled no longer."""
+        is_stored = super()._write(byte, refusing)
+        self.is_enabled = False
+        return is_stored
+
+
+def test_a_unit_that_drops_write_enable(folder):
+    # Each of the seven writes behind the first one takes seven frames more: the try that misses has five.
+    desk, bus = short_desk(folder, PRESENT), simulated_link.Bus([Forgetful(5)])
+    want((desk.over(bus).told, bus.frames), (DONE_TOLD, 62 + 7 * 7))
+    judge(bus, {5: BLANK}, desk.held())
+
+
+def test_scenes_by_the_short_plan(folder):
+    for name, scene in SCENES.items():
+        (folder / name).mkdir()
+        finish(short_desk(folder / name, scene.orders), scene, scene.bus(),
+               scene.codes if scene in (LOSSY, DOUBTFUL, ALL_FIELDS) else None)
+
+
+def turned_run(folder, scene, stops):
+    """Kill drives by the one plan and the other at each of the stops; judge each moment, and then go on."""
+    desk, bus = Turned(settings["program"], folder, scene.orders), scene.bus()
+    desk.journal.write_bytes(b"")
+    for stop in stops:
+        ended = desk.over(bus, stop)
+        assert ended.status in (-signal.SIGKILL, 0), ended
+        judge(bus, scene.banks(), desk.held())
+    finish(desk, scene, bus)
+
+
+@parts(4)
+def test_kills_with_the_plan_turned(folder, part, count):
+    for scene in LOSSY, LEFT:
+        total = len(desk_of(folder, scene.orders, b"").over(scene.bus()).sent) // 5
+        for frame in range(1 + part, total + 1, count):
+            moment = ("sent", "carried")[frame % 2]
+            turned_run(folder, scene, [(frame, moment), (1 + frame % 23, "sent"), (1 + frame % 7, "carried")])

@@ -10,6 +10,8 @@ import re
 import subprocess
 import sys
 
+import frames
+
 FRAME_LINE = re.compile(rb"([0-9A-F]{4})\n")
 NO_ANSWER = b"--"
 # A name by which a command opens a descriptor that it was started with.
@@ -89,12 +91,14 @@ def serve(carry, words):
 
 def main(parser, open_interface, arguments):
     """Carry a command's frames over the interface that the options name, and return the status to end with."""
+    frames.add_option(parser)
     end = arguments.index("--") if "--" in arguments else len(arguments)
     options, words = parser.parse_args(arguments[:end]), arguments[end + 1:]
     if not words:
         parser.error("there is no command: put -- and its words behind the options")
     try:
-        return serve(open_interface(options), words)
+        carry = open_interface(options)
+        return serve(frames.shown(carry) if options.frames else carry, words)
     except (Broken, OSError) as fault:
         tell(fault)
         return 2

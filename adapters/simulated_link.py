@@ -12,14 +12,16 @@ import argparse
 import functools
 import os
 import pathlib
+import random
 import re
 import signal
 import subprocess
 import sys
+import time
 
-from adapter import handed_on
+import frames
+from adapter import FRAME_LINE, NO_ANSWER, handed_on
 
-FRAME_LINE = re.compile(rb"[0-9A-F]{4}\n")
 LONGEST_LINE = 64
 
 # Address bytes of special commands, which every unit hears, with the number of the register that they set.
@@ -111,64 +113,76 @@ class Unit:
 class Bus:
     """A bus with its units. What it loses and refuses is named by the numbers of frames, counted from 1."""
 
-    def __init__(self, units, lost_frames=(), lost_answers=(), refused=(), lost_power=()):
+    def __init__(self, units, lost_frames=(), lost_answers=(), refused=(), lost_power=(), loss=0, seed=1):
         """Make a bus. At a lost frame no unit hears, at a refused one no unit stores a write.
 
         Lost power is pairs of a short address and a frame: that unit loses its power and gets it back just before it.
+        The loss is the chance by which each frame is lost besides, and each answer: which ones, says the seed.
         """
         self.units = list(units)
         self.lost_frames = set(lost_frames)
         self.lost_answers = set(lost_answers)
         self.refused = set(refused)
         self.lost_power = set(lost_power)
+        self.loss, self.chance = loss, random.Random(seed)
         self.frames = 0
 
     def carry(self, word):
         """Carry a forward frame to the units; return the answer where exactly one came back, and else None."""
         self.frames += 1
+        # Two draws for each frame, so that which ones are lost hangs on the seed and on their number alone.
+        is_unheard, is_unanswered = (self.chance.random() < self.loss for _ in range(2))
         for unit in self.units:
             if (unit.short_address, self.frames) in self.lost_power:
                 unit.power_up()
-        if self.frames in self.lost_frames:
+        if is_unheard or self.frames in self.lost_frames:
             return None
         refusing = self.frames in self.refused
         answers = [unit.hear(word, refusing) for unit in self.units]
         answers = [answer for answer in answers if answer is not None]
-        return answers[0] if len(answers) == 1 and self.frames not in self.lost_answers else None
+        is_unanswered = is_unanswered or self.frames in self.lost_answers
+        return answers[0] if len(answers) == 1 and not is_unanswered else None
 
 
 class FiledBus(Bus):
-    """A bus whose units have each byte in their files once it is written, so that a kill takes but their power."""
+    """A bus on which a frame takes its time, in milliseconds.
 
-    def __init__(self, folder, *arguments):
+    Its units have each byte in their files once it is written, so that a kill takes but their power.
+    """
+
+    def __init__(self, folder, *arguments, frame_time=0):
         super().__init__(*arguments)
-        self.folder = folder
+        self.folder, self.frame_time = folder, frame_time
         save_units(folder, self.units)
 
     def carry(self, word):
         """Carry a forward frame; save the units that it changed before its answer is known."""
+        time.sleep(self.frame_time / 1000)
         before = [bytes(unit.banks[1]) for unit in self.units]
         answer = super().carry(word)
         save_units(self.folder, [unit for unit, bank in zip(self.units, before) if unit.banks[1] != bank])
         return answer
 
 
+def answer_to(bus, frame):
+    """Carry a frame over a bus; return the answer as the command reads it."""
+    answer = bus.carry(int(frame, 16))
+    return NO_ANSWER if answer is None else b"%02X" % answer
+
+
 def answer_lines(bus, read_line, write_line, show_frames=False):
     """Answer the frames of one command until its output ends or it reads no more.
 
     `read_line()` returns a line with its line feed, or what is left at the end; `write_line(line)` writes one.
-    Each frame is shown on standard error with its number and its answer, if they are to be shown.
     """
+    carry = functools.partial(answer_to, bus)
+    carry = frames.shown(carry) if show_frames else carry
     while (line := read_line()).endswith(b"\n") or len(line) >= LONGEST_LINE:
-        if not FRAME_LINE.fullmatch(line):
+        if not (known := FRAME_LINE.fullmatch(line)):
             raise BadLine(f"the command's line {line!r} isn't four upper-case hexadecimal digits")
-        word = int(line, 16)
-        answer = bus.carry(word)
-        text = "--" if answer is None else f"{answer:02X}"
-        if show_frames:
-            print(f"frame {bus.frames} {word:04X} {text}", file=sys.stderr, flush=True)
+        answer = carry(known[1])
         try:
-            write_line(text.encode() + b"\n")
+            write_line(answer + b"\n")
         except BrokenPipeError:
             return
 
@@ -238,8 +252,22 @@ def power_losses(text):
     return [(int(short_address), number) for number in frame_numbers(numbers)]
 
 
-def options_and_words(arguments):
-    """Read the command line: the options, and behind -- the words of the command."""
+def number_up_to(most, what):
+    """Give what reads a number from 0 on."""
+    def read(text):
+        try:
+            number = float(text)
+        except ValueError:
+            number = -1
+        if not 0 <= number <= most:
+            raise argparse.ArgumentTypeError(f"{text!r} is no {what}, 0 to {most}")
+        return number
+
+    return read
+
+
+def parser_of_options():
+    """Make the reader of the options."""
     parser = argparse.ArgumentParser(usage="%(prog)s [options] -- COMMAND WORDS..", allow_abbrev=False,
                                      description="Play units on a DALI bus for a command, over a pair of pipes.")
     parser.add_argument("--unit", metavar="A", type=int, action="append",
@@ -254,7 +282,19 @@ def options_and_words(arguments):
                         help="unit A loses its power, and gets it back, just before the frame of this number")
     parser.add_argument("--fixed", metavar="A:LL", type=fixed_location, action="append", default=[],
                         help="location LL (hexadecimal) of unit A can't be written; may be repeated")
-    parser.add_argument("--frames", action="store_true", help="print each frame and its answer to standard error")
+    parser.add_argument("--loss", metavar="P", type=number_up_to(1, "chance"), default=0,
+                        help="each frame is lost by this chance, 0 to 1, and each answer too (default: %(default)s)")
+    parser.add_argument("--seed", metavar="S", type=int, default=1,
+                        help="a whole number, which says which ones --loss takes (default: %(default)s)")
+    parser.add_argument("--frame-time", metavar="MS", type=number_up_to(10000, "time"), default=0,
+                        help="milliseconds that each frame takes with its answer, as 29 (default: %(default)s)")
+    frames.add_option(parser)
+    return parser
+
+
+def options_and_words(arguments):
+    """Read the command line: the options, and behind -- the words of the command."""
+    parser = parser_of_options()
     end = arguments.index("--") if "--" in arguments else len(arguments)
     options, words = parser.parse_args(arguments[:end]), arguments[end + 1:]
     options.unit = options.unit or [5]
@@ -279,7 +319,7 @@ def main(arguments):
         units = [load_unit(options.folder, unit, [location for at, location in options.fixed if at == unit])
                  for unit in options.unit]
         bus = FiledBus(options.folder, units, options.lose_frame, options.lose_answer, options.refuse,
-                       options.lose_power)
+                       options.lose_power, options.loss, options.seed, frame_time=options.frame_time)
         return serve(bus, words, options.frames)
     except (BadLine, OSError, ValueError) as fault:
         words = f"{fault.filename}: {fault.strerror}" if isinstance(fault, OSError) and fault.filename else fault

@@ -84,10 +84,16 @@ def copy_parts(name, to):
             shutil.copytree(CRATES / name / part, to / part)
 
 
+def free_memory():
+    """Give how much memory is free, in bytes, or None where the system doesn't tell."""
+    found = re.search(r"MemAvailable:\s+(\d+)", text_of(pathlib.Path("/proc/meminfo")))
+    return int(found[1]) * 1024 if found else None
+
+
 def has_memory():
     """Tell whether there is memory for one more check."""
-    found = re.search(r"MemAvailable:\s+(\d+)", text_of(pathlib.Path("/proc/meminfo")))
-    return not found or int(found[1]) * 1024 >= ONE_CHECK
+    free = free_memory()
+    return free is None or free >= ONE_CHECK
 
 
 def wait_for_memory():

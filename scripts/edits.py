@@ -1,48 +1,63 @@
-"""The edits of crates/NAME/wrong-bodies and of the folders beside it: what they change, and in which functions."""
+"""The edits of crates/NAME/wrong-bodies and must-fail: what they change, and in which functions.
+
+A file `writer.edits` of wrong-bodies has the edits that begin in one file, which its first line names:
+
+    file: src/writer.rt
+
+    rule: what all edits down to the next rule break
+
+    edit: name_of_an_edit
+    old: a line, or a part of one, that stands once in the file
+    new: what stands there in the edit
+
+An edit has as many pairs of texts as it needs. A line `file: PATH` before a pair moves on to another file of the crate,
+and a line `by: FUNCTION` names a function that refuses the edit, where its lines aren't within functions. In must-fail
+each edit has a file of its own, as the kit has it.
+"""
 
 import hashlib
 import pathlib
 import re
 
-from crates import text_of
+from crates import CRATES, text_of
 
+WORDS = ("file", "rule", "edit", "by", "old", "new")
 HEAD = re.compile(r"(\s*)(?:pub(?:\([^)]*\))? )?(?:const )?(?:unsafe )?fn (\w+)")
 IMPL = re.compile(r"impl(?:<[^{]*?>)? (?:(?P<trait>[^{]*?) for )?(?P<type>\w+)")
 
 
 class Edit:
-    """A wrong body or a wrong line: its crate, the sum of its text, the lines that it changes, by file and number from
-    1, and the functions that these are within, by the ends of their names, none where a line is in no function.
+    """A wrong body, or a wrong line of a definition: its crate, the rule that it breaks, where that is said, its pairs of
+    texts with their files, the lines that it changes, by file and number from 1, and the functions that these are within,
+    by the ends of their names, none where a line is in no function.
     """
 
-    def __init__(self, path):
-        self.crate = path.parent.parent
-        self.name = f"{self.crate.name}/{path.stem}"
-        self.lines, self.by = {}, None
-        text = path.read_text(encoding="utf-8")
-        self.sum = hashlib.sha256(text.encode()).hexdigest()
-        self.why = self.read(text)
+    def __init__(self, crate, name, rule, rows):
+        self.crate, self.name, self.rule = crate, f"{crate.name}/{name}", rule
+        self.lines, self.pairs, self.by = {}, [], None
+        self.sum = hashlib.sha256("\n".join(": ".join(it) for it in rows).encode()).hexdigest()
+        self.why = self.read(rows)
         found = {function_at(self.crate / file, line) for file, line in self.lines}
         self.functions = found if found and None not in found else set()
 
-    def read(self, text):
+    def read(self, rows):
         """Read the pairs of texts, and tell why they can't be applied, or give None."""
-        texts, file, old, pairs = {}, None, None, 0
-        for line in text.split("\n"):
-            word, _, rest = line.partition(": ")
+        texts, file, old = {}, None, None
+        for word, rest in rows:
             if word == "by":
-                self.by = rest.strip()
+                self.by = rest
             elif word == "file":
-                file = rest.strip()
-                texts.setdefault(file, text_of(self.crate / file))
+                file = rest
             elif word == "old":
                 old = rest
-            elif word in ("new", "new:"):
-                pairs += 1
-                found = texts[file].count(old) if file and old else 0
-                if found != 1:
-                    return f"the text of pair {pairs} stands {found} times in its file, and not once"
-                texts[file] = texts[file].replace(old, rest)
+            elif word == "new":
+                self.pairs.append((file, old, rest))
+        for number, (file, old, new) in enumerate(self.pairs, 1):
+            text = texts.setdefault(file, text_of(self.crate / file)) if file else ""
+            found = text.count(old) if old else 0
+            if found != 1:
+                return f"the text of pair {number} stands {found} times in its file, and not once"
+            texts[file] = text.replace(old, new)
         for file, text in texts.items():
             for at, (was, made) in enumerate(zip(text_of(self.crate / file).split("\n"), text.split("\n")), 1):
                 if was != made:
@@ -52,6 +67,40 @@ class Edit:
     def asked(self):
         """Give the functions that a check has to prove of it, none where that is the whole crate."""
         return self.functions or ({self.by} if self.by else set())
+
+
+def all_edits(*kinds):
+    """Give the edits of all crates: those that are wrong bodies, and those that must fail, in the form of the kit."""
+    for kind in kinds or ("must-fail", "wrong-bodies"):
+        for path in sorted(CRATES.glob(f"*/{kind}/*.edit*")):
+            yield from edits_in(path)
+
+
+def edits_in(path):
+    """Give the edits of a file: one, or several that begin in the file that it names first."""
+    crate, rows = path.parent.parent, rows_of(path)
+    if path.suffix == ".edit":
+        yield Edit(crate, path.stem, None, rows)
+        return
+    rule, own = None, []
+    for row in [*rows[1:], ("edit", None)]:
+        if row[0] in ("rule", "edit") and own:
+            yield Edit(crate, own[0][1], rule, [rows[0], *own[1:]])
+            own = []
+        if row[0] == "rule":
+            rule = row[1]
+        else:
+            own.append(row)
+
+
+def rows_of(path):
+    """Give the lines of a file of edits, each as its first word and the text behind that."""
+    rows = []
+    for line in text_of(path).split("\n"):
+        word, _, rest = line.partition(":")
+        if word in WORDS:
+            rows.append((word, rest.removeprefix(" ") if word in ("old", "new") else rest.strip()))
+    return rows
 
 
 def function_at(path, line):

@@ -1,0 +1,70 @@
+"""How far a build is, and how long the rest takes by what each library took where that was measured."""
+
+import shutil
+import time
+
+from crates import ONE_CHECK, free_memory
+
+# Minutes after which each library was done from nothing, on four cores of 2.5 GHz, where nothing else was at work.
+DONE_AFTER = {
+    "dali_bank": 1, "dali_frame": 1, "dali_bus": 1.7, "dali_gear": 1.7, "dali_journal": 2.7, "dali_write": 2.7,
+    "dali_job": 2.7, "dali_trace": 3.4, "dali_read": 3.4, "dali_laws": 3.7, "dali_store": 4.4, "dali_engine": 4.9,
+    "dali_text": 6.5, "dali_input": 6.5, "dali_faults": 7.1, "dali_drive": 7.7, "dali_follow": 8.7, "dali_report": 8.7,
+    "dali_notes": 9.9, "dali_link_commands": 10.8, "dali_file_commands": 11.4,
+}
+# What the program itself takes behind them.
+PROGRAM_TAKES = 1.6
+# What stands on the disk behind a build from nothing, in bytes.
+DISK = 1_900_000_000
+
+
+def shares():
+    """Give by how many minutes each library makes a build longer."""
+    found, before = {}, 0
+    for after in sorted(set(DONE_AFTER.values())):
+        names = [name for name, its in DONE_AFTER.items() if its == after]
+        found.update(dict.fromkeys(names, (after - before) / len(names)))
+        before = after
+    return found
+
+
+def minutes_of(libraries):
+    """Give the minutes that these libraries take, and the program behind them."""
+    return sum(shares().get(name, 0) for name in libraries) + PROGRAM_TAKES
+
+
+def about(minutes):
+    """Give minutes in words."""
+    return "a minute" if round(minutes) < 2 else f"some {round(minutes)} minutes"
+
+
+def needed(count, what, free):
+    """Give in words how many bytes of something are needed, and how many there are, where that is known."""
+    return f"{count / 1e9:.1f} GB of {what}" + (f" ({free / 1e9:.1f} GB are free)" if free is not None else "")
+
+
+def needs(libraries, folder):
+    """Give what a build takes that has these libraries to prove."""
+    disk, memory = needed(DISK, "disk", shutil.disk_usage(folder).free), needed(ONE_CHECK, "memory", free_memory())
+    names = "1 library" if len(libraries) == 1 else f"{len(libraries)} libraries"
+    return (f"{names} and the program take {about(minutes_of(libraries))} on four cores of"
+            f" 2.5 GHz, up to {disk} and at least {memory}")
+
+
+class Progress:
+    """How many of the libraries are done, and what time is left by what those took that were proved now."""
+
+    def __init__(self, libraries, known, clock=time.monotonic):
+        """Begin to prove these libraries, but for those that are known to be proved: None where nobody knows which."""
+        self.count, self.left, self.known = len(libraries), set(libraries), known
+        self.clock, self.begun, self.proved = clock, clock(), 0
+
+    def done(self, name):
+        """Give what is told of a library that is done."""
+        self.left.remove(name)
+        line = f"{self.count - len(self.left)} of {self.count} libraries"
+        if self.known is None:
+            return line
+        self.proved += 0 if name in self.known else shares().get(name, 0)
+        slower = (self.clock() - self.begun) / 60 / self.proved if self.proved else 1
+        return f"{line}, {about(minutes_of(self.left - self.known) * slower)} left"

@@ -7,9 +7,12 @@ A file COMMAND.cases has cases with a blank line between them, each of lines of 
     status: NUMBER      0 where there is none
     in: LINE            of standard input; `in: nothing` alone where that is empty
     answers: FF -- 01   the same, several lines in one
+    bytes: 44 42        the same, of bytes in hexadecimal digits
     out: LINE           of standard output
     frames: A301 C300   the same, several lines in one
     err: LINE           of standard error, which isn't looked at where there is no such line
+    each: GIVEN | OUT   a case by itself: with GIVEN in the place of EACH in its words, or as the line of standard input
+                        where no EACH stands there, and these lines of standard output, a bar between them
 """
 
 import pathlib
@@ -25,7 +28,7 @@ class Case:
         self.name = text_of(rows, "case")[0]
         self.words = shlex.split(text_of(rows, "run")[0])
         self.status = int((text_of(rows, "status") or ["0"])[0])
-        self.given = lines_of(rows, "in", "answers")
+        self.given = lines_of(rows, "in", "answers") + bytes.fromhex("".join(text_of(rows, "bytes")))
         self.wanted = lines_of(rows, "out", "frames")
         self.error = lines_of(rows, "err") if text_of(rows, "err") else None
 
@@ -50,12 +53,27 @@ def lines_of(rows, word, several=None):
     return "".join(f"{line}\n" for line in lines).encode()
 
 
+def singly(rows):
+    """Give the rows of the cases that these rows are: one, or one for each of its lines `each`."""
+    common = [(word, rest) for word, rest in rows if word != "each"]
+    if len(common) == len(rows):
+        yield rows
+    for number, row in enumerate(text_of(rows, "each"), 1):
+        given, *told = row.split(" | ")
+        words = {"case": f"{text_of(rows, 'case')[0]} {number}", "run": text_of(rows, "run")[0].replace("EACH", given)}
+        is_input = "EACH" not in text_of(rows, "run")[0]
+        yield [(word, words.get(word, rest)) for word, rest in common] + [("in", given)] * is_input + [
+            ("out", line) for line in told
+        ]
+
+
 def all_cases():
     """Give all cases."""
     for path in sorted((ROOT / "examples").glob("*.cases")):
         for text in path.read_text(encoding="utf-8").strip("\n").split("\n\n"):
             rows = [line.partition(":") for line in text.split("\n")]
-            yield Case([(word, rest.removeprefix(" ")) for word, _, rest in rows])
+            for single in singly([(word, rest.removeprefix(" ")) for word, _, rest in rows]):
+                yield Case(single)
 
 
 def case_of(name):

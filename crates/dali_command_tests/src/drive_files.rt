@@ -1,9 +1,13 @@
-use dali_commands::drive::DriveTask;
-use dali_commands::drive_files::drive_files;
-use dali_commands::lines::Lines;
-use dali_commands::required::Required;
-use dali_commands::{FileStore, Output, Report, Status, StdSink, StdSource, StoreDesk};
+use dali_drive::{StdSink, StdSource, StoreDesk};
+use dali_faults::Status;
+use dali_link_commands::drive::DriveTask;
+use dali_link_commands::drive_files::drive_files;
+use dali_link_commands::lines::Lines;
+use dali_link_commands::required::Required;
+use dali_report::Report;
 use dali_shared_tests::expect_that;
+use dali_store::FileStore;
+use dali_text::Output;
 use dali_writer::Pace;
 use std::fs::{File, Files};
 use std::test::Fail;

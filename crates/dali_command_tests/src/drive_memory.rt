@@ -1,10 +1,15 @@
 // `drive` with everything in memory: the orders, the link, the journal and the lines.
 use crate::drive_files::{BEGAN, ORDER, PAIR, REFUSED, SILENT, TAKEN};
-use dali_commands::drive::{DriveTask, drive_input};
-use dali_commands::lines::Lines;
-use dali_commands::required::Required;
-use dali_commands::{Input, MemoryStore, Output, Report, Status, StdSink, StdSource, StoreDesk};
+use dali_drive::{StdSink, StdSource, StoreDesk};
+use dali_faults::Status;
+use dali_input::Input;
+use dali_link_commands::drive::{DriveTask, drive_input};
+use dali_link_commands::lines::Lines;
+use dali_link_commands::required::Required;
+use dali_report::Report;
 use dali_shared_tests::expect_that;
+use dali_store::MemoryStore;
+use dali_text::Output;
 use dali_writer::Pace;
 use std::alloc::{AllocError, Global};
 use std::test::Fail;

@@ -2,14 +2,17 @@
 use crate::drive_files::{BEGAN, SILENT};
 use crate::drive_memory::{NONE_16, SILENT_AT_7};
 use crate::streams::{Behind, TestReader};
-use dali_commands::drive::DriveTask;
-use dali_commands::follow::follow_lines;
-use dali_commands::lines::Lines;
-use dali_commands::required::Required;
-use dali_commands::{
-    MemoryStore, OrderLines, Output, Report, Status, StdSink, StdSource, StoreDesk,
-};
+use dali_drive::{StdSink, StdSource, StoreDesk};
+use dali_faults::Status;
+use dali_follow::OrderLines;
+use dali_link_commands::drive::DriveTask;
+use dali_link_commands::follow::follow_lines;
+use dali_link_commands::lines::Lines;
+use dali_link_commands::required::Required;
+use dali_report::Report;
 use dali_shared_tests::expect_that;
+use dali_store::MemoryStore;
+use dali_text::Output;
 use dali_writer::{Got, Pace, Source};
 use std::alloc::{AllocError, Global};
 use std::io;

@@ -1,5 +1,5 @@
 use clap::error::ErrorKind;
-use dali_commands::{Job, job_of};
+use dali_job::{Job, job_of};
 use dali_shared_tests::expect_that;
 use std::alloc::{AllocError, Global};
 use std::test::Fail;

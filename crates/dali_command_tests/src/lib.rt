@@ -5,30 +5,16 @@
 #![tactic(auto)]
 
 #[cfg(test)]
-mod check;
-#[cfg(test)]
 mod drive_files;
 #[cfg(test)]
 mod drive_memory;
 #[cfg(test)]
-mod follow_memory;
+mod file_streams;
 #[cfg(test)]
-mod frame;
+mod follow_memory;
 #[cfg(test)]
 mod job;
 #[cfg(test)]
-mod journal;
-#[cfg(test)]
 mod older_memory;
 #[cfg(test)]
-mod run_scenario;
-#[cfg(test)]
-mod run_text;
-#[cfg(test)]
-mod scenario;
-#[cfg(test)]
-mod show;
-#[cfg(test)]
 mod streams;
-#[cfg(test)]
-mod tried;

@@ -5,15 +5,18 @@ ghost use Rattle.dali_journal.specs.Sentence.{standing_of};
 
 use crate::drive_files::{BEGAN, HEADER, OLD_SILENT, ORDER, SILENT};
 use crate::drive_memory::{OTHER, SILENT_AT_7};
-use dali_commands::drive::{DriveTask, drive_input};
-use dali_commands::lines::Lines;
-use dali_commands::older::{OlderFault, Unusable, joined_behind, joined_older};
-use dali_commands::required::Required;
-use dali_commands::{
-    Fault, Input, MemoryStore, Output, Report, Status, StdSink, StdSource, StoreDesk,
-};
+use dali_drive::{StdSink, StdSource, StoreDesk};
+use dali_faults::{Fault, Status};
+use dali_input::Input;
 use dali_journal::{JoinFault, Journal, JournalFault};
+use dali_link_commands::drive::{DriveTask, drive_input};
+use dali_link_commands::lines::Lines;
+use dali_link_commands::older::{OlderFault, Unusable, joined_behind, joined_older};
+use dali_link_commands::required::Required;
+use dali_report::Report;
 use dali_shared_tests::expect_that;
+use dali_store::MemoryStore;
+use dali_text::Output;
 use dali_writer::Pace;
 use std::alloc::{AllocError, Global};
 use std::test::Fail;

@@ -1,1 +1,0 @@
-pub use Rattle.dali_link_commands.specs.LinkCommands

@@ -248,6 +248,17 @@ def test_bank(program, _room):
     return differs("a bank of 255 bytes", (0, text_of(wanted), b""), run(program, ["show", "-"], given))
 
 
+def test_texts_of_banks(program, _room):
+    """The limits of a bank's text and of its bytes: which of two stands is told by the order of the tests."""
+    cases = [(b" " * 4096, 0, None), (b"0" * 510, 0, None), (b" " * 4097, 1, b"fault 13 TooBig\n"),
+             (b"0" * 512, 1, b"fault 13 TooBig\n"), (b"g" * 4097, 1, b"fault 13 TooBig\n"), (b"0" * 513, 1, b"fault 14 Hex\n")]
+    for given, status, line in cases:
+        ended = run(program, ["show", "-"], given)
+        if ended[0] != status or line not in (None, ended[1]):
+            return f"a bank's text of {len(given)} bytes: {ended[:2]}"
+    return None
+
+
 def main(program):
     """Run all, tell what failed, and return the status."""
     told = []

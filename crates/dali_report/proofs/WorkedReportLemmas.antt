@@ -19,7 +19,7 @@ use Rattle.dali_report.specs.declared.report.Report.{Report}
 use Rattle.dali_report.specs.declared.tally.Tally.{Tally}
 use Rattle.dali_drive.specs.Found.{Found, was_found}
 use Rattle.dali_report.specs.Lines.{end_data, escaped, found_data, is_plain, last_data}
-use Rattle.dali_report.specs.Reports.{all_done, exchanges, is_ended_now, outcome_of, report_text, resumed, spoken_of}
+use Rattle.dali_report.specs.Reports.{all_done, exchanges, is_ended_now, outcome_of, IsReportText, resumed, spoken_of}
 use Rattle.dali_report.specs.Reports.{told_at}
 use Rattle.dali_report.specs.Tallies.{IsTally}
 use Rattle.dali_report.specs.Told.{HasWritten, IsTold, IsToldEnd, IsToldFound, has_failed, report_held, spoken}
@@ -90,8 +90,8 @@ done_and_taken_are_well = refl
 pub one_in_doubt_is_not : all_done (Answered 2 (replies.Kept Done) ∷ Answered 1 (replies.Kept Doubt) ∷ []) ≡ false
 one_in_doubt_is_not = refl
 
-pub taken_has_no_line : report_text 1 new_start (Answered 1 replies.Taken ∷ []) ≡ []
-taken_has_no_line = refl
+pub taken_has_no_line : (text : List ℕ) → IsReportText 1 new_start (Answered 1 replies.Taken ∷ []) text → text ≡ []
+taken_has_no_line text is = is
 
 -- ---- what all last replies come to
 
@@ -138,7 +138,7 @@ not_done_in_doubt = refl
 pub run_is_told :
     (run : ℕ) → (get (codes "run") (found_data run (was_found first None []) []) ≡ Some (number (unsigned run)))
     × (get (codes "run") (end_data run faults.End (Enable 5) []) ≡ Some (number (unsigned run)))
-    × (get (codes "run") (last_data (told_at run new_start [] 1 replies.Busy)) ≡ Some (number (unsigned run)))
+    × (get (codes "run") (last_data (told_at run new_start [] 1 replies.Busy None)) ≡ Some (number (unsigned run)))
 run_is_told run = (refl, refl, refl)
 
 -- ---- which bytes stand for themselves

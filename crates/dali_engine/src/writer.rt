@@ -21,7 +21,7 @@ ghost use Rattle.dali_engine.specs.WorkLeft.{work_left};
 ghost use Rattle.dali_engine.specs.Describes.{Describes};
 ghost use Rattle.dali_engine.specs.Follows.{Follows};
 ghost use Rattle.dali_trace.specs.Next.{IsNext, IsDone};
-ghost use Rattle.dali_trace.specs.Causes.{IsCauseAt};
+ghost use Rattle.dali_trace.specs.Causes.{IsCauseBeside};
 
 use crate::phase::{Phase, after_check, check_record, resumed_phase, write_code};
 use dali_bank::Order;
@@ -147,10 +147,12 @@ impl Writer {
     }
 
     /// Why the order at hand comes to no good end, as far as its session was told: its first access that failed, or that
-    /// read another byte back than the one that was written. None where all went well so far, or no order is at work.
+    /// read another byte back than the one that was written. None where all went well so far, or no order is at work; some
+    /// where it ends as `Silent`, `Doubt` or `DoubtOpen`.
     pub fn cause(&self) -> Option<Cause>
-        ensures { (start : Start) (past : List Happening) → Describes start past self.now → Follows start past self.now
-            → IsCauseAt start past result }
+        ensures { (start : Start) (past : List Happening) (entry : Record) → Describes start past self.now
+            → Follows start past self.now → want_of self.now.phase ≡ Want.Keep entry
+            → IsCauseBeside start past (happenings.Kept entry) result }
     {
         self.phase.cause()
     }

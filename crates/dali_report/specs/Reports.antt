@@ -19,7 +19,7 @@ use Rattle.dali_trace.specs.declared.happening.Happening.{Happening}
 use Rattle.dali_trace.specs.declared.happening.Happening.TheVariants.{Asked, Answered, Kept}
 use Rattle.dali_trace.specs.Cut.{since, frames_in}
 use Rattle.dali_trace.specs.Trace.{Start, records_of}
-use Rattle.dali_trace.specs.Causes.{IsCauseAt}
+use Rattle.dali_trace.specs.Causes.{IsCauseBeside}
 use Rattle.dali_trace.specs.declared.fault.DriveFault.{DriveFault}
 use Rattle.dali_drive.specs.Found.{Found}
 use Rattle.dali_report.specs.Lines.{counted, last_data, end_data, line_of, IsFoundLine}
@@ -76,7 +76,7 @@ exchanges past = frames_in (since is_last_reply past)
 abbrev pub IsCauseTold : Start → List Happening → Option Cause → Type 0
 IsCauseTold start [] cause = cause ≡ None
 IsCauseTold start (Asked order moment ∷ past) cause = cause ≡ None
-IsCauseTold start (Kept (Ended code) ∷ past) cause = IsCauseAt start past cause
+IsCauseTold start (Kept (Ended code) ∷ past) cause = IsCauseBeside start past (Kept (Ended code)) cause
 IsCauseTold start (other ∷ past) cause = IsCauseTold start past cause
 
 -- what is told in this run of the order of this number at this reply

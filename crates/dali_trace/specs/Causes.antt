@@ -1,5 +1,8 @@
 -- Why an order comes to no good end.
-use Rattle.std.specs.Prelude.{◌≡◌, List, Option, None}
+use Rattle.std.specs.Prelude.{◌≡◌, Bool, true, false, List, Option, None, IsSome}
+use Rattle.dali_journal.specs.declared.record.Code.TheVariants as codes
+use Rattle.dali_journal.specs.declared.record.Record.{Record}
+use Rattle.dali_journal.specs.declared.record.Record.TheVariants.{Ended}
 use Rattle.dali_journal.specs.declared.standing.Standing.{Standing}
 use Rattle.dali_journal.specs.declared.standing.Standing.TheVariants.{Began, Opened}
 use Rattle.dali_write.specs.Exchanges.{Exchange}
@@ -23,7 +26,14 @@ HasCause pace other told cause = cause ≡ None
 abbrev pub IsCauseAt : Start → List Happening → Option Cause → Type 0
 IsCauseAt start past cause = HasCause (pace_at start past) (standing_at start past) (told_in past) cause
 
--- that beside what happens next: a record that is kept
+-- the end is no good one: an access failed, or another byte was read back
+abbrev pub is_ill : Record → Bool
+is_ill (Ended codes.Silent) = true
+is_ill (Ended codes.Doubt) = true
+is_ill (Ended codes.DoubtOpen) = true
+is_ill other = false
+
+-- that beside what happens next, a record that is kept: there is one where it is such an end
 abbrev pub IsCauseBeside : Start → List Happening → Happening → Option Cause → Type 0
-IsCauseBeside start past (Kept entry) cause = IsCauseAt start past cause
+IsCauseBeside start past (Kept entry) cause = IsCauseAt start past cause × (is_ill entry ≡ true → IsSome cause)
 IsCauseBeside start past other cause = cause ≡ None

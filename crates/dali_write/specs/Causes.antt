@@ -1,12 +1,17 @@
 -- Why a session came to no good end: its first access that failed, or behind which it gave up, since another byte was
 -- read back.
-use Rattle.std.specs.Prelude.{ℕ, Bool, true, false, ◌==◌, List, [], ◌∷◌, Option, Some, None, if◌then◌else◌}
+use Rattle.std.specs.Prelude.{◌≡◌, ◌⊎◌, ℕ, Bool, true, false, ◌==◌, List, [], ◌∷◌, ◌++◌, Option, Some, None, if◌then◌else◌}
 use Rattle.dali_bus.specs.Hears.{up}
 use Rattle.dali_write.specs.declared.access.Access.{Access}
 use Rattle.dali_write.specs.declared.access.Access.TheVariants.{ReadFrom, WriteTo, WriteOn}
 use Rattle.dali_write.specs.declared.ask.Cause.{Cause}
 use Rattle.dali_write.specs.declared.ask.Cause.TheVariants.{Unread, Unwritten, Another}
+use Rattle.dali_write.specs.declared.block.Block.{Block}
+use Rattle.dali_write.specs.Exchanges.{Exchange}
+use Rattle.dali_write.specs.Requests.{access_requests}
 use Rattle.dali_write.specs.Plans.{Plan, Make, plan_after, read_backs}
+use Rattle.dali_write.specs.Tries.{Succeeds}
+use Rattle.dali_write.specs.Doubts.{HasFailed}
 
 -- the access failed
 abbrev pub failure : Access → Cause
@@ -49,3 +54,21 @@ abbrev pub cause_after : List (ℕ × ℕ) → Plan → List (Option (List ℕ))
 cause_after updates plan [] = None
 cause_after updates plan (outcome ∷ outcomes) =
     first_of (cause_after updates plan outcomes) (cause_by updates (plan_after plan outcomes) outcome)
+
+-- ---- what a cause says of the exchanges
+
+-- a block was read, and its bytes have another one among them
+pub record ReadAnother (unit : ℕ) (updates : List (ℕ × ℕ)) (told : List Exchange) (cause : Cause) : Type 0 where
+  pub newer : List Exchange
+  pub read : List Exchange
+  pub older : List Exchange
+  pub parts : told ≡ newer ++ (read ++ older)
+  pub block : Block
+  pub bytes : List ℕ
+  pub answered : Succeeds (access_requests unit (ReadFrom block)) (Some bytes) read
+  pub is : cause ≡ another (read_backs updates) block.location bytes
+
+-- or each try of an access missed
+abbrev pub IsShown : ℕ → List (ℕ × ℕ) → List Exchange → Cause → Type 0
+IsShown unit updates told cause =
+    ((failed : HasFailed unit told) × (cause ≡ failure failed.access)) ⊎ ReadAnother unit updates told cause

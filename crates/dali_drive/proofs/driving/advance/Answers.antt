@@ -105,7 +105,7 @@ returns-else-not-keep-clause-worked g c = record {
         told_all =
             c.see.ensures start since past told
             (stands_so start (Kept c.in-Keep.entry ∷ past) _ _ described c.journal.ensures)
-            (c.cause-cause.ensures start past d.described d.follows);
+            (c.cause-cause.ensures start past c.in-Keep.entry d.described d.follows (sym c.in-Keep.ensures.phase));
       });
   ends = search rules;
   grown = search rules;

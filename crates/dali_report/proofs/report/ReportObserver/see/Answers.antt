@@ -1,4 +1,4 @@
-use Rattle.std.proofs.Common.{rules, ◌≡◌, ◌∷◌, subst, sym, true, List}
+use Rattle.std.proofs.Common.{rules, ◌≡◌, ◌∷◌, subst, sym, true}
 use Rattle.dali_trace.specs.declared.happening.Happening.{Happening}
 use Rattle.dali_trace.specs.declared.happening.Happening.TheVariants.{Answered}
 use Rattle.dali_trace.specs.Trace.{records_of}

@@ -25,7 +25,9 @@ impl Access {
     {
         match self {
             Access::ReadFrom(block) => Cause::Unread(block.location),
-            Access::WriteTo(location, _) | Access::WriteOn(location, _) => Cause::Unwritten(location),
+            Access::WriteTo(location, _) | Access::WriteOn(location, _) => Cause::Unwritten(
+                location,
+            ),
         }
     }
 

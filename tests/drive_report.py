@@ -50,15 +50,21 @@ def lines_of(path, run=1):
     return [{key: value[key] for key in value if key != "run"} for value in values if value["run"] == run]
 
 
+def cause(was, location, byte=None):
+    """Give why an order came to no good end."""
+    return {"byte": byte, "location": location, "was": was}
+
+
 def kept(number, unit, code, ended, frames, misses, moment=0):
-    """Give the line of an order that has ended."""
-    return {"code": code, "ended": ended, "frames": frames, "misses": misses, "moment": moment, "name": NAMES[code],
-            "order": number, "reply": f"kept {code} {NAMES[code]}", "unit": unit}
+    """Give the line of an order that has ended, done or at a unit that never answered."""
+    unread = cause("unread", 0x00) if (code, ended) == (3, "now") else None
+    return {"cause": unread, "code": code, "ended": ended, "frames": frames, "misses": misses, "moment": moment,
+            "name": NAMES[code], "order": number, "reply": f"kept {code} {NAMES[code]}", "unit": unit}
 
 
 def unkept(number, unit, reply, frames=0, misses=0, moment=None):
     """Give the line of an order that got another reply."""
-    return {"code": None, "ended": None, "frames": frames, "misses": misses, "moment": moment, "name": None,
+    return {"cause": None, "code": None, "ended": None, "frames": frames, "misses": misses, "moment": moment, "name": None,
             "order": number, "reply": reply, "unit": unit}
 
 
@@ -159,6 +165,67 @@ def test_nothing_done_where_that_can_not_be_told(folder):
         with open("/dev/full", "wb") as full:
             want(desk.give(b"", stderr=full), Ended(2, b"", ""))
         want(desk.give(b""), Ended(1, b"", NOTHING))
+
+
+class Wrong(simulated_link.Unit):
+    """A unit that tells another byte of one location of bank 1: each bit is turned."""
+
+    def __init__(self, location):
+        super().__init__(5, BLANK)
+        self.location = location
+
+    def _read(self):
+        here = self.registers[:2] == [self.location, 1]
+        byte = super()._read()
+        return byte ^ 0xFF if here and byte is not None else byte
+
+
+def gone(first, count=5000):
+    """Give a bus with a blank unit that hears nothing from a frame on, for so many frames."""
+    return blank_bus(5, lost_frames=range(first, first + count))
+
+
+def one(unit):
+    """Give a bus with one unit."""
+    return simulated_link.Bus([unit])
+
+
+def test_causes(folder):
+    gtin, year = PRESENT, [{"order": 1, "unit": 5, "year": 24}]
+    short_bank = bytes([0x10]) + b"\xff" * 16
+    # Orders, what makes a bus, and what has to be told: by the checked plan and by the short one, or by both.
+    cases = [
+        # A location that can't be written, and locations that are read otherwise, the lock byte among them.
+        (gtin, lambda: one(simulated_link.Unit(5, BLANK, (0x05,))), [(4, cause("unwritten", 0x05))]),
+        (gtin, lambda: one(Wrong(0x05)), [(4, cause("other", 0x05, 0xCE ^ 0xFF))]),
+        (gtin, lambda: one(Wrong(0x08)), [(4, cause("other", 0x08, 0xAB ^ 0xFF))]),
+        (gtin, lambda: one(Wrong(0x02)), [(4, cause("other", 0x02, 0x00))]),
+        # The first access that failed is told, and none of those that close the unit: it is gone for all of them, or is
+        # back for them. The checked plan writes 08h by the frames 50 to 56 and reads 02h by 64 to 70, the short one
+        # reads the row from 02h on by the frames 50 to 62.
+        (gtin, lambda: gone(8), [(5, cause("unwritten", 0x02))]),
+        (gtin, lambda: gone(8, 32), [(4, cause("unwritten", 0x02))]),
+        (gtin, lambda: gone(50), [(5, cause("unwritten", 0x08)), (5, cause("unread", 0x02))]),
+        (gtin, lambda: gone(64), [(5, cause("unread", 0x02)), (0, None)]),
+        # The first look at the unit, and ends that have no cause.
+        (year, lambda: gone(1), [(3, cause("unread", 0x00))]),
+        (year, lambda: gone(8), [(3, cause("unread", 0x11))]),
+        (year, lambda: one(Wrong(0x12)), [(2, None)]),
+        (year, lambda: one(simulated_link.Unit(5, short_bank)), [(1, None)]),
+        (year, lambda: blank_bus(5, lost_answers={2, 30}), [(0, None)]),
+    ]
+    for number, (orders, bus, wanted) in enumerate(cases):
+        for plan, told in [([], wanted[0]), (["--short-plan"], wanted[-1])]:
+            place = folder / f"{number}{len(plan)}"
+            place.mkdir()
+            desk = desk_of(place, orders)
+            path = reporting(desk, *plan)
+            desk.over(bus())
+            (line,) = lines_of(path)
+            want((number, plan, line["code"], line["cause"]), (number, plan, *told))
+            # What is known from before has no cause.
+            desk.over(blank_bus(5))
+            want((number, lines_of(path, 2)[0]["cause"]), (number, None))
 
 
 def test_a_left_unit_and_the_order_that_it_blocks(folder):

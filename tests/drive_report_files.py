@@ -29,8 +29,9 @@ BEFORE = kept(1, 5, 0, "before", 0, 0)
 LAST = {**BEFORE, "run": 3}
 END = {"answer": "zz", "fault": 3, "frame": "C301", "name": "Line", "run": 3}
 FOUND = {"byte": None, "differs": [], "found": "same", "location": None, "order": 1, "run": 3, "unit": 5}
-# A line of a verification as the version before wrote it.
+# The same as the version before wrote them.
 EARLIER_FOUND = {key: FOUND[key] for key in FOUND if key != "differs"}
+EARLIER_LAST = {key: LAST[key] for key in LAST if key != "cause"}
 
 
 def test_runs_are_counted(folder):
@@ -63,7 +64,8 @@ def test_runs_are_counted(folder):
 def test_a_report_of_an_earlier_version(folder):
     desk = desk_of(folder, PRESENT, DONE_JOURNAL)
     path = reporting(desk)
-    earlier = text_of(*({key: line[key] for key in line if key != "run"} for line in (LAST, END, EARLIER_FOUND)))
+    earlier = text_of(*({key: line[key] for key in line if key != "run"}
+                        for line in (EARLIER_LAST, END, EARLIER_FOUND)))
     path.write_text(earlier)
     for runs in ([1], [1, 2]):
         want(desk.over(blank_bus(5)).status, 0)
@@ -113,7 +115,7 @@ def test_the_longest_lines(folder):
     desk = desk_of(folder, PRESENT, DONE_JOURNAL)
     path = reporting(desk)
     most = 2 ** 64 - 1
-    long = {"code": 255, "ended": "before", "frames": most, "misses": most, "moment": most, "name": "DoubtOpen",
+    long = {"cause": {"byte": 255, "location": 0x77, "was": "other"}, "code": 255, "ended": "before", "frames": most, "misses": most, "moment": most, "name": "DoubtOpen",
             "order": most, "reply": "kept 5 DoubtOpen", "run": 1, "unit": 63}
     answer = {**END, "answer": "\\xFF" * 9, "name": "TooLong", "run": 1}
     found = {"byte": 255, "differs": most_differences(), "found": "other", "location": 0x77, "order": most, "run": 1,
@@ -214,7 +216,7 @@ def test_files_that_are_no_report(folder):
         # One key less, one more, another one, and one of another kind.
         text_of({key: LAST[key] for key in LAST if key != "unit"}), text_of({**LAST, "more": 1}),
         text_of({**{key: LAST[key] for key in LAST if key != "unit"}, "more": 1}), text_of({**FOUND, "code": 0}),
-        text_of({**EARLIER_FOUND, "differ": []}), text_of({key: FOUND[key] for key in FOUND if key != "run"}),
+        text_of({**EARLIER_FOUND, "differ": []}), text_of({**EARLIER_LAST, "causes": None}), text_of({key: FOUND[key] for key in FOUND if key != "run"}),
         '{"code":0}\n', '{"answer":"--"}\n', '{"byte":1}\n',
         # A run that is no count, and lines that are too long or begin otherwise.
         text_of({**LAST, "run": "3"}), text_of({**LAST, "run": -1}), text_of({**LAST, "run": 1.5}),

@@ -43,8 +43,9 @@ fn advance<D: Desk, B: Observer>(
             if !desk.keep(&entry.bytes()) {
                 return Err(DriveFault::Journal);
             }
+            let cause = writer.cause();
             writer.kept();
-            observer.see(&Happening::Kept(entry), writer.journal());
+            observer.see(&Happening::Kept(entry), writer.journal(), cause);
         }
         Want::Send(frame) => {
             let mut text = AnswerText::new();
@@ -56,14 +57,14 @@ fn advance<D: Desk, B: Observer>(
                 }
             };
             writer.heard(answer);
-            observer.see(&Happening::Sent(frame, answer), writer.journal());
+            observer.see(&Happening::Sent(frame, answer), writer.journal(), None);
         }
         Want::Say(id, reply) => {
             if !desk.say(&reply_line(id, reply)) {
                 return Err(DriveFault::Out);
             }
             writer.said();
-            observer.see(&Happening::Answered(id, reply), writer.journal());
+            observer.see(&Happening::Answered(id, reply), writer.journal(), None);
         }
     }
     Ok(true)
@@ -201,10 +202,10 @@ pub(crate) fn carry_out<D: Desk, B: Observer>(
     let Ok(reply) = writer.submit(order.copy(), moment) else {
         return Err(DriveFault::NoMemory);
     };
-    observer.see(&Happening::Asked(order, moment), writer.journal());
+    observer.see(&Happening::Asked(order, moment), writer.journal(), None);
     if !desk.say(&reply_line(id, reply)) {
         return Err(DriveFault::Out);
     }
-    observer.see(&Happening::Answered(id, reply), writer.journal());
+    observer.see(&Happening::Answered(id, reply), writer.journal(), None);
     work(writer, desk, observer)
 }

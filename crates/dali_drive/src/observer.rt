@@ -4,10 +4,12 @@ ghost use Rattle.dali_frame.specs.Frame.{IsProper};
 ghost use Rattle.dali_frame.specs.declared.forward.Frame.{Frame};
 ghost use Rattle.dali_trace.specs.declared.happening.Happening.{Happening};
 ghost use Rattle.dali_trace.specs.Trace.{Start, records_of};
+ghost use Rattle.dali_trace.specs.Causes.{IsCauseBeside};
 ghost use Rattle.dali_trace.specs.declared.fault.DriveFault.{DriveFault};
 ghost use Rattle.dali_drive.specs.Found.{Found, was_found};
 
 use dali_bank::Order;
+use dali_engine::Cause;
 use dali_frame::Frame;
 use dali_journal::Journal;
 use dali_read::Finding;
@@ -27,10 +29,12 @@ pub trait Observer {
     fn begin(&mut self, journal: &Journal)
         ensures { (start : Start) → start.records ≡ journal.now.records → told start self.old self.new [] };
 
-    /// This happened, and the journal stands so after it.
-    fn see(&mut self, happening: &Happening, journal: &Journal)
+    /// This happened, and the journal stands so after it. Beside a record that was kept it is told why the order comes to
+    /// no good end, if it does.
+    fn see(&mut self, happening: &Happening, journal: &Journal, cause: Option<Cause>)
         ensures { (start : Start) (first : Self) (past : List Happening) → told start first self.old past
             → records_of start (happening.now ∷ past) ≡ journal.now.records
+            → IsCauseBeside start past happening.now cause
             → told start first self.new (happening.now ∷ past) };
 
     /// The fault broke the exchange of the frame off, which has to be proper, and this was read of the answer.
@@ -65,7 +69,7 @@ impl Observer for Nobody {
 
     fn begin(&mut self, _journal: &Journal) {}
 
-    fn see(&mut self, _happening: &Happening, _journal: &Journal) {}
+    fn see(&mut self, _happening: &Happening, _journal: &Journal, _cause: Option<Cause>) {}
 
     fn see_end(&mut self, _fault: DriveFault, _frame: &Frame, _read: &[u8]) {}
 }

@@ -4,6 +4,7 @@ pub mod KeepLemmas
 pub mod FollowLemmas
 pub mod NextRecordLemmas
 pub mod WantLemmas
+pub mod CauseLemmas
 pub mod SubmitLemmas
 pub mod StopLemmas
 pub mod ChainLemmas

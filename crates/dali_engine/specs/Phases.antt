@@ -1,5 +1,5 @@
 -- What a writer is about to do, and what it wants.
-use Rattle.std.specs.Prelude.{ℕ, Bool, true, false, ⊤}
+use Rattle.std.specs.Prelude.{ℕ, Bool, true, false, ⊤, Option, None}
 use Rattle.dali_journal.specs.declared.record.Code.{Code}
 use Rattle.dali_journal.specs.declared.record.Code.TheVariants as codes
 use Rattle.dali_journal.specs.declared.record.Record.{Record}
@@ -8,7 +8,8 @@ use Rattle.dali_write.specs.declared.ask.Ask.{Ask}
 use Rattle.dali_write.specs.declared.ask.Ask.TheVariants as asks
 use Rattle.dali_write.specs.declared.ask.Verdict.{Verdict}
 use Rattle.dali_write.specs.declared.ask.Verdict.TheVariants as verdicts
-use Rattle.dali_write.specs.Told.{unit_of, aim_of}
+use Rattle.dali_write.specs.declared.ask.Cause.{Cause}
+use Rattle.dali_write.specs.Told.{unit_of, aim_of, cause_of}
 use Rattle.dali_trace.specs.declared.happening.Reply.TheVariants as replies
 use Rattle.dali_trace.specs.declared.happening.Want.{Want}
 use Rattle.dali_trace.specs.declared.happening.Want.TheVariants.{Keep, Send, Say}
@@ -79,6 +80,12 @@ want_of (Checks order s) = check_of order.unit (aim_of s)
 want_of (Writes order s) = write_of (aim_of s)
 want_of (Closes order moment s) = closing_of order.id (unit_of s) (aim_of s)
 want_of (Says id code) = Say id (replies.Kept code)
+
+-- why the order at hand comes to no good end
+abbrev pub cause_at : Phase → Option Cause
+cause_at (Checks order s) = cause_of s
+cause_at (Writes order s) = cause_of s
+cause_at other = None
 
 abbrev pub is_idle : Phase → Bool
 is_idle Idle = true

@@ -9,6 +9,6 @@ mod writer;
 
 pub use dali_laws::laws;
 pub use dali_trace::{Event, Happening, Reply, RunFault, Want};
-pub use dali_write::Pace;
+pub use dali_write::{Cause, Pace};
 pub use runs::{Outcome, run, run_sim};
 pub use writer::{Writer, known_reply};

@@ -4,13 +4,13 @@ ghost use Rattle.dali_frame.specs.Frame.{IsProper};
 ghost use Rattle.dali_trace.specs.declared.happening.Want.{Want};
 ghost use Rattle.dali_journal.specs.declared.record.Record.{Record};
 ghost use Rattle.dali_journal.specs.Spelling.{NamesShortUnit};
-ghost use Rattle.dali_engine.specs.Phases.{want_of, check_record, check_code, write_code, is_idle};
+ghost use Rattle.dali_engine.specs.Phases.{want_of, cause_at, check_record, check_code, write_code, is_idle};
 ghost use Rattle.dali_engine.specs.WriterState.{IsAfterCheck, IsResumed};
 
 use dali_bank::Order;
 use dali_journal::{Code, Record, Standing};
 use dali_trace::{Reply, Want};
-use dali_write::{Ask, Pace, Session, Verdict};
+use dali_write::{Ask, Cause, Pace, Session, Verdict};
 
 // What a writer is about to do.
 #[derive(Drop)]
@@ -34,6 +34,16 @@ impl Phase {
         ensures { result ≡ is_idle self.now }
     {
         matches!(self, Phase::Idle)
+    }
+
+    // Why the order at hand comes to no good end.
+    pub(crate) fn cause(&self) -> Option<Cause>
+        ensures { result ≡ cause_at self.now }
+    {
+        match self {
+            Phase::Checks(_, session) | Phase::Writes(_, session) => session.cause(),
+            Phase::Idle | Phase::Begins(_, _) | Phase::Closes(_, _, _) | Phase::Says(_, _) => None,
+        }
     }
 
     // What is to be done next.

@@ -21,12 +21,13 @@ ghost use Rattle.dali_engine.specs.WorkLeft.{work_left};
 ghost use Rattle.dali_engine.specs.Describes.{Describes};
 ghost use Rattle.dali_engine.specs.Follows.{Follows};
 ghost use Rattle.dali_trace.specs.Next.{IsNext, IsDone};
+ghost use Rattle.dali_trace.specs.Causes.{IsCauseBeside};
 
 use crate::phase::{Phase, after_check, check_record, resumed_phase, write_code};
 use dali_bank::Order;
 use dali_journal::{Journal, Kept, NoMemory, Record, Standing};
 use dali_trace::{Reply, Want};
-use dali_write::{Ask, Pace, Session};
+use dali_write::{Ask, Cause, Pace, Session};
 use std::marker::Model;
 use std::mem;
 
@@ -143,6 +144,17 @@ impl Writer {
             → (next : Happening) → IsDone result next → IsNext start past next }
     {
         self.phase.want()
+    }
+
+    /// Why the order at hand comes to no good end, as far as its session was told: its first access that failed, or that
+    /// read another byte back than the one that was written. None where all went well so far, or no order is at work; some
+    /// where it ends as `Silent`, `Doubt` or `DoubtOpen`.
+    pub fn cause(&self) -> Option<Cause>
+        ensures { (start : Start) (past : List Happening) (entry : Record) → Describes start past self.now
+            → Follows start past self.now → want_of self.now.phase ≡ Want.Keep entry
+            → IsCauseBeside start past (happenings.Kept entry) result }
+    {
+        self.phase.cause()
     }
 
     /// Takes an order, or tells why not: the first of these replies that applies.

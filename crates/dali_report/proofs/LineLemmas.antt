@@ -13,6 +13,7 @@ pub last_members : {none : Members}
     {v8 d8 : Data} {m8 : Members}
     {v9 d9 : Data} {m9 : Members}
     {v10 d10 : Data} {m10 : Members}
+    {v11 d11 : Data} {m11 : Members}
     → none ≡ no_members
     → v1 ≡ d1 → m1 ≡ put (codes "unit") v1 none
     → v2 ≡ d2 → m2 ≡ put (codes "run") v2 m1
@@ -24,13 +25,25 @@ pub last_members : {none : Members}
     → v8 ≡ d8 → m8 ≡ put (codes "frames") v8 m7
     → v9 ≡ d9 → m9 ≡ put (codes "ended") v9 m8
     → v10 ≡ d10 → m10 ≡ put (codes "code") v10 m9
-    → m10 ≡ member (codes "code") d10 (member (codes "ended") d9
+    → v11 ≡ d11 → m11 ≡ put (codes "cause") v11 m10
+    → m11 ≡ member (codes "cause") d11 (member (codes "code") d10 (member (codes "ended") d9
     (member (codes "frames") d8 (member (codes "misses") d7
     (member (codes "moment") d6 (member (codes "name") d5
     (member (codes "order") d4 (member (codes "reply") d3
-    (member (codes "run") d2 (member (codes "unit") d1 no_members)))))))))
-last_members e e1 f1 e2 f2 e3 f3 e4 f4 e5 f5 e6 f6 e7 f7 e8 f8 e9 f9 e10 f10 =
-    rw (f10, e10, f9, e9, f8, e8, f7, e7, f6, e6, f5, e5, f4, e4, f3, e3, f2, e2, f1, e1, e) refl
+    (member (codes "run") d2 (member (codes "unit") d1 no_members))))))))))
+last_members e e1 f1 e2 f2 e3 f3 e4 f4 e5 f5 e6 f6 e7 f7 e8 f8 e9 f9 e10 f10 e11 f11 =
+    rw (f11, e11, f10, e10, f9, e9, f8, e8, f7, e7, f6, e6, f5, e5, f4, e4, f3, e3, f2, e2, f1, e1, e) refl
+
+pub cause_members : {none : Members}
+    {v1 d1 : Data} {m1 : Members}
+    {v2 d2 : Data} {m2 : Members}
+    {v3 d3 : Data} {m3 : Members}
+    → none ≡ no_members
+    → v1 ≡ d1 → m1 ≡ put (codes "was") v1 none
+    → v2 ≡ d2 → m2 ≡ put (codes "location") v2 m1
+    → v3 ≡ d3 → m3 ≡ put (codes "byte") v3 m2
+    → m3 ≡ member (codes "byte") d3 (member (codes "location") d2 (member (codes "was") d1 no_members))
+cause_members e e1 f1 e2 f2 e3 f3 = rw (f3, e3, f2, e2, f1, e1, e) refl
 
 pub end_members : {none : Members}
     {v1 d1 : Data} {m1 : Members}

@@ -7,6 +7,7 @@ use Rattle.dali_bank.specs.Order.{Contents}
 use Rattle.dali_journal.specs.declared.record.Record.{Record}
 use Rattle.dali_journal.specs.Orders.{moment_of}
 use Rattle.dali_write.specs.Exchanges.{Exchange}
+use Rattle.dali_write.specs.declared.ask.Cause.{Cause}
 use Rattle.dali_trace.specs.declared.happening.Reply.{Reply}
 use Rattle.dali_trace.specs.declared.happening.Reply.TheVariants as replies
 use Rattle.dali_trace.specs.declared.happening.Happening.{Happening}
@@ -17,8 +18,8 @@ use Rattle.dali_report.specs.declared.outcome.Outcome.{Outcome}
 use Rattle.dali_report.specs.declared.report.Report.{Report}
 use Rattle.dali_report.specs.declared.report.Spoken.{Spoken}
 use Rattle.dali_report.specs.Lines.{line_of, last_data}
-use Rattle.dali_report.specs.Reports.{resumed, spoken_of, is_number_of, exchanges, told_at, is_last_reply, is_well, report_text}
-use Rattle.dali_report.specs.Reports.{all_done, all_ended_now, has_last_reply, is_ended_now, outcome_by, outcome_of}
+use Rattle.dali_report.specs.Reports.{resumed, spoken_of, is_number_of, exchanges, told_at, is_last_reply, is_well, IsReportText}
+use Rattle.dali_report.specs.Reports.{IsCauseTold, all_done, all_ended_now, has_last_reply, is_ended_now, outcome_by, outcome_of}
 use Rattle.dali_report.specs.Tallies.{IsTally}
 use Rattle.dali_report.specs.Told.{IsTold, HasWritten, IsSilent, report_held, has_failed, spoken, is_number}
 
@@ -74,16 +75,21 @@ pub not_both : {W A : Type 0} (report : Report W) → has_failed report ≡ fals
 not_both report well failed = absurd (true≢false (sym failed ∙ well))
 
 -- a last reply has its line
-text_of_last : (run : ℕ) (start : Start) (past : List Happening) (id : ℕ) (reply : Reply)
-    → is_last_reply (Answered id reply) ≡ true
-    → report_text run start (Answered id reply ∷ past)
-    ≡ report_text run start past ++ line_of (last_data (told_at run start past id reply))
-text_of_last run start past id replies.Taken last = cc
-text_of_last run start past id (replies.Kept code) last = refl
-text_of_last run start past id replies.IdReused last = refl
-text_of_last run start past id replies.Busy last = refl
-text_of_last run start past id replies.Full last = refl
-text_of_last run start past id (replies.Blocked unit) last = refl
+abbrev MoreText : ℕ → Start → List Happening → ℕ → Reply → List ℕ → Option Cause → Type 0
+MoreText run start past id reply text cause =
+    IsReportText run start (Answered id reply ∷ past)
+    (text ++ line_of (last_data (told_at run start past id reply cause)))
+
+text_of_last : (run : ℕ) (start : Start) (past : List Happening) (id : ℕ) (reply : Reply) (text : List ℕ)
+    (cause : Option Cause)
+    → is_last_reply (Answered id reply) ≡ true → IsReportText run start past text → IsCauseTold start past cause
+    → MoreText run start past id reply text cause
+text_of_last run start past id replies.Taken text cause last before is = cc
+text_of_last run start past id (replies.Kept code) text cause last before is = (text, cause, before, is, refl)
+text_of_last run start past id replies.IdReused text cause last before is = (text, cause, before, is, refl)
+text_of_last run start past id replies.Busy text cause last before is = (text, cause, before, is, refl)
+text_of_last run start past id replies.Full text cause last before is = (text, cause, before, is, refl)
+text_of_last run start past id (replies.Blocked unit) text cause last before is = (text, cause, before, is, refl)
 
 -- and is one of those that the outcome is of
 outcome_of_last : (start : Start) (past : List Happening) (id : ℕ) (reply : Reply)
@@ -130,10 +136,11 @@ module _ {W : Type 0} (contents : W → Option (List ℕ)) (start : Start) (firs
         moment = moment_of id records;
         reply = reply;
         ended_now = old.ended || is_number id old.resumed;
+        cause = old.cause;
         frames = old.tally.frames;
         misses = old.tally.misses;
       }
-      → last ≡ told_at first.run start past id reply
+      → last ≡ told_at first.run start past id reply old.cause
   last_is records same last is =
       rw (
         is,
@@ -164,23 +171,27 @@ module _ {W : Type 0} (contents : W → Option (List ℕ)) (start : Start) (firs
 
   -- its line was written, and the next one begins
   pub told_last : (new : Report W) → is_last_reply (Answered id reply) ≡ true
-      → new.resumed ≡ old.resumed → new.spoken ≡ old.spoken → new.ended ≡ old.ended → IsTally [] new.tally
-      → new.run ≡ old.run
+      → new.resumed ≡ old.resumed → new.spoken ≡ old.spoken → new.ended ≡ old.ended → new.cause ≡ old.cause
+      → IsTally [] new.tally → new.run ≡ old.run
       → new.outcome ≡ outcome_by true (all_done past && is_well reply)
       (all_ended_now start past && is_ended_now start past id)
       → (has_failed new ≡ false → (has_failed old ≡ false)
       × Appends (report_held contents old) (report_held contents new)
-      (line_of (last_data (told_at first.run start past id reply))))
+      (line_of (last_data (told_at first.run start past id reply old.cause))))
       → (has_failed old ≡ true → IsSilent old new)
       → IsTold contents start first new (Answered id reply ∷ past)
-  told_last new last resumes speaks ends tallies runs comes writes silent = record {
+  told_last new last resumes speaks ends causes tallies runs comes writes silent = record {
     resumed_is = resumes ∙ told.resumed_is;
     spoken_is = speaks ∙ told.spoken_is;
     ended_is = ends ∙ told.ended_is;
     tally_is = subst (λ (x : List Exchange). IsTally x new.tally) (sym (none_since past id reply last)) tallies;
     outcome_is = comes ∙ sym (outcome_of_last start past id reply last);
+    cause_is = rw causes told.cause_is;
     run_is = runs ∙ told.run_is;
-    written = rw (text_of_last first.run start past id reply last) (more_written contents first old new
-        (report_text first.run start past) (line_of (last_data (told_at first.run start past id reply)))
-        told.written writes silent);
+    written = (
+      told.written.0 ++ line_of (last_data (told_at first.run start past id reply old.cause)),
+      text_of_last first.run start past id reply told.written.0 old.cause last told.written.1 told.cause_is,
+      more_written contents first old new told.written.0
+          (line_of (last_data (told_at first.run start past id reply old.cause))) told.written.2 writes silent,
+    );
   }

@@ -1,6 +1,6 @@
 -- What a report tells of short traces, and what it holds, by hand, on both sides of each rule.
 use Rattle.std.proofs.Common.{◌≡◌, ◌∙◌, ◌⊎◌, inl, inr, refl, ℕ, true, false, List, [], ◌∷◌, Option, Some, None, length, codes}
-use Rattle.serde_json.specs.Data.{number, unsigned}
+use Rattle.serde_json.specs.Data.{null, number, unsigned}
 use Rattle.serde_json.specs.Find.{get}
 use Rattle.dali_bank.specs.Order.{Contents}
 use Rattle.dali_frame.specs.declared.forward.Frame.{Frame}
@@ -18,11 +18,13 @@ use Rattle.dali_report.specs.declared.outcome.Outcome.TheVariants.{Nothing, Done
 use Rattle.dali_report.specs.declared.report.Report.{Report}
 use Rattle.dali_report.specs.declared.tally.Tally.{Tally}
 use Rattle.dali_drive.specs.Found.{Found, was_found}
-use Rattle.dali_report.specs.Lines.{end_data, escaped, found_data, is_plain, last_data}
-use Rattle.dali_report.specs.Reports.{all_done, exchanges, is_ended_now, outcome_of, report_text, resumed, spoken_of}
-use Rattle.dali_report.specs.Reports.{told_at}
+use Rattle.dali_report.specs.Lines.{cause_data, end_data, escaped, found_data, is_plain, last_data}
+use Rattle.dali_report.specs.Reports.{all_done, exchanges, is_ended_now, outcome_of, IsReportText, resumed, spoken_of}
+use Rattle.dali_report.specs.Reports.{IsCauseTold, told_at}
 use Rattle.dali_report.specs.Tallies.{IsTally}
 use Rattle.dali_report.specs.Told.{HasWritten, IsTold, IsToldEnd, IsToldFound, has_failed, report_held, spoken}
+use Rattle.dali_write.specs.declared.ask.Cause.{Cause}
+use Rattle.dali_write.specs.declared.ask.Cause.TheVariants.{Another, Unread}
 use Rattle.dali_write.specs.declared.pace.Pace.TheVariants.{Checked}
 
 -- ---- which order is spoken of, and whether it ended in this drive
@@ -90,8 +92,25 @@ done_and_taken_are_well = refl
 pub one_in_doubt_is_not : all_done (Answered 2 (replies.Kept Done) ∷ Answered 1 (replies.Kept Doubt) ∷ []) ≡ false
 one_in_doubt_is_not = refl
 
-pub taken_has_no_line : report_text 1 new_start (Answered 1 replies.Taken ∷ []) ≡ []
-taken_has_no_line = refl
+pub taken_has_no_line : (text : List ℕ) → IsReportText 1 new_start (Answered 1 replies.Taken ∷ []) text → text ≡ []
+taken_has_no_line text is = is
+
+-- ---- why an order came to no good end
+
+-- what is asked anew has no cause yet, and what ended in doubt has one until then
+pub asked_anew_has_no_cause : (past : List Happening) (cause : Option Cause)
+    → IsCauseTold new_start (Asked first 0 ∷ past) cause → cause ≡ None
+asked_anew_has_no_cause past cause is = is
+
+pub doubt_has_a_cause : (past : List Happening)
+    → IsCauseTold new_start (Answered 1 (replies.Kept Doubt) ∷ Kept (Ended Doubt) ∷ past) None → ⊥
+doubt_has_a_cause past is = let some = is.1 refl in cc
+
+pub cause_is_told :
+    (get (codes "location") (cause_data (Some (Another 4 0))) ≡ Some (number (unsigned 4)))
+    × (get (codes "byte") (cause_data (Some (Another 4 0))) ≡ Some (number (unsigned 0)))
+    × (get (codes "byte") (cause_data (Some (Unread 4))) ≡ Some null) × (cause_data None ≡ null)
+cause_is_told = (refl, refl, refl, refl)
 
 -- ---- what all last replies come to
 
@@ -138,7 +157,7 @@ not_done_in_doubt = refl
 pub run_is_told :
     (run : ℕ) → (get (codes "run") (found_data run (was_found first None []) []) ≡ Some (number (unsigned run)))
     × (get (codes "run") (end_data run faults.End (Enable 5) []) ≡ Some (number (unsigned run)))
-    × (get (codes "run") (last_data (told_at run new_start [] 1 replies.Busy)) ≡ Some (number (unsigned run)))
+    × (get (codes "run") (last_data (told_at run new_start [] 1 replies.Busy None)) ≡ Some (number (unsigned run)))
 run_is_told run = (refl, refl, refl)
 
 -- ---- which bytes stand for themselves

@@ -35,6 +35,25 @@ pub newest_without_a_run :
     run_in (object (member (codes "byte") null (member (codes "differs") (array no_items) without_run))) ≡ None
 newest_without_a_run = refl
 
+-- and of a line that tells a cause
+abbrev last_members : Members → Members
+last_members others =
+    member (codes "code") null (member (codes "ended") null (member (codes "frames") (number (unsigned 0))
+    (member (codes "misses") (number (unsigned 0)) (member (codes "moment") null (member (codes "name") null
+    (member (codes "order") (number (unsigned 1)) (member (codes "reply") (string (codes "busy")) others)))))))
+
+abbrev run_and_unit : Data → Members
+run_and_unit run = member (codes "run") run (member (codes "unit") null no_members)
+
+pub caused_run_is_read :
+    (run_in (object (member (codes "cause") null (last_members (run_and_unit (number (unsigned 7)))))) ≡ Some 7)
+    × (run_in (object (last_members (run_and_unit (number (unsigned 7))))) ≡ Some 7)
+caused_run_is_read = (refl, refl)
+
+pub no_other_key_for_a_cause :
+    run_in (object (member (codes "causes") null (last_members (run_and_unit (number (unsigned 7)))))) ≡ None
+no_other_key_for_a_cause = refl
+
 -- a line of an earlier version comes before the first run
 pub earlier_is_before_the_first : run_in (object (member (codes "byte") null without_run)) ≡ Some 0
 earlier_is_before_the_first = refl
@@ -60,13 +79,13 @@ no_object = (refl, refl)
 
 pub torn_anywhere :
     (begins_so (codes "{") ≡ true) × (begins_so (codes "{\"byt") ≡ true)
-    × (begins_so (codes "{\"answer\":\"--\",\"fau") ≡ true)
-torn_anywhere = (refl, refl, refl)
+    × (begins_so (codes "{\"answer\":\"--\",\"fau") ≡ true) × (begins_so (codes "{\"cause\":nul") ≡ true)
+torn_anywhere = (refl, refl, refl, refl)
 
 pub nothing_is_not_torn : begins_so [] ≡ false
 nothing_is_not_torn = refl
 
 pub others_are_not_torn :
     (begins_so (codes "{\"order\":1") ≡ false) × (begins_so (codes "{ \"code\":") ≡ false)
-    × (begins_so (codes "{\"codes\":") ≡ false)
-others_are_not_torn = (refl, refl, refl)
+    × (begins_so (codes "{\"codes\":") ≡ false) × (begins_so (codes "{\"causes\":") ≡ false)
+others_are_not_torn = (refl, refl, refl, refl)

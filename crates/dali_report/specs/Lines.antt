@@ -17,6 +17,8 @@ use Rattle.dali_trace.specs.Replies.{reply_text}
 use Rattle.dali_trace.specs.declared.fault.DriveFault.{DriveFault}
 use Rattle.dali_trace.specs.Faults.{drive_number, drive_name}
 use Rattle.dali_drive.specs.Found.{Found}
+use Rattle.dali_write.specs.declared.ask.Cause.{Cause}
+use Rattle.dali_write.specs.declared.ask.Cause.TheVariants.{Unread, Unwritten, Another}
 use Rattle.dali_report.specs.Differences.{Difference, AreDifferences, differences_data, held_bank, wanted_bank}
 use Rattle.dali_report.specs.declared.line.LastReply.{LastReply}
 
@@ -30,6 +32,18 @@ number_or_null None = null
 number_or_null (Some value) = number (unsigned value)
 
 -- ---- of an order at its last reply
+
+-- why it came to no good end, the location of that, and the byte that was read there
+abbrev pub cause_of : List ℕ → ℕ → Data → Data
+cause_of was location byte = object (
+    member (codes "byte") byte
+    (member (codes "location") (number (unsigned location)) (member (codes "was") (string was) no_members)))
+
+abbrev pub cause_data : Option Cause → Data
+cause_data None = null
+cause_data (Some (Unread location)) = cause_of (codes "unread") location null
+cause_data (Some (Unwritten location)) = cause_of (codes "unwritten") location null
+cause_data (Some (Another location byte)) = cause_of (codes "other") location (number (unsigned byte))
 
 -- whether an order's end was kept in this drive, or is known from the journal
 abbrev pub ended_text : Bool → List ℕ
@@ -55,7 +69,8 @@ ended_data other ended_now = null
 
 abbrev pub last_data : LastReply → Data
 last_data last = object (
-    member (codes "code") (code_data last.reply)
+    member (codes "cause") (cause_data last.cause)
+    (member (codes "code") (code_data last.reply)
     (member (codes "ended") (ended_data last.reply last.ended_now)
     (member (codes "frames") (number (unsigned last.frames))
     (member (codes "misses") (number (unsigned last.misses))
@@ -64,7 +79,7 @@ last_data last = object (
     (member (codes "order") (number (unsigned last.order))
     (member (codes "reply") (string (reply_text last.reply))
     (member (codes "run") (number (unsigned last.run))
-    (member (codes "unit") (number_or_null last.unit) no_members))))))))))
+    (member (codes "unit") (number_or_null last.unit) no_members)))))))))))
 
 -- ---- of an answer that broke a drive off
 

@@ -11,6 +11,7 @@ use Rattle.dali_journal.specs.declared.standing.Standing.TheVariants as standing
 use Rattle.dali_journal.specs.Orders.{moment_of}
 use Rattle.dali_journal.specs.Sentence.{standing_of}
 use Rattle.dali_write.specs.Exchanges.{Exchange}
+use Rattle.dali_write.specs.declared.ask.Cause.{Cause}
 use Rattle.dali_write.specs.Misses.{misses_in}
 use Rattle.dali_trace.specs.declared.happening.Reply.{Reply}
 use Rattle.dali_trace.specs.declared.happening.Reply.TheVariants as replies
@@ -18,6 +19,7 @@ use Rattle.dali_trace.specs.declared.happening.Happening.{Happening}
 use Rattle.dali_trace.specs.declared.happening.Happening.TheVariants.{Asked, Answered, Kept}
 use Rattle.dali_trace.specs.Cut.{since, frames_in}
 use Rattle.dali_trace.specs.Trace.{Start, records_of}
+use Rattle.dali_trace.specs.Causes.{IsCauseBeside}
 use Rattle.dali_trace.specs.declared.fault.DriveFault.{DriveFault}
 use Rattle.dali_drive.specs.Found.{Found}
 use Rattle.dali_report.specs.Lines.{counted, last_data, end_data, line_of, IsFoundLine}
@@ -70,30 +72,40 @@ is_ended_now start past id = has_end (since is_asked past) || is_number_of id (r
 abbrev pub exchanges : List Happening → List Exchange
 exchanges past = frames_in (since is_last_reply past)
 
+-- why the order that was asked last, or the one that is resumed, came to no good end, where its end was kept
+abbrev pub IsCauseTold : Start → List Happening → Option Cause → Type 0
+IsCauseTold start [] cause = cause ≡ None
+IsCauseTold start (Asked order moment ∷ past) cause = cause ≡ None
+IsCauseTold start (Kept (Ended code) ∷ past) cause = IsCauseBeside start past (Kept (Ended code)) cause
+IsCauseTold start (other ∷ past) cause = IsCauseTold start past cause
+
 -- what is told in this run of the order of this number at this reply
-abbrev pub told_at : ℕ → Start → List Happening → ℕ → Reply → LastReply
-told_at run start past id reply = record {
+abbrev pub told_at : ℕ → Start → List Happening → ℕ → Reply → Option Cause → LastReply
+told_at run start past id reply cause = record {
   run = run;
   order = id;
   unit = option_map (λ order. order.unit) (spoken_of start past);
   moment = moment_of id (records_of start past);
   reply = reply;
   ended_now = is_ended_now start past id;
+  cause = cause;
   frames = counted (length (exchanges past));
   misses = counted (misses_in (exchanges past));
 }
 
 -- the text of a run in a report: a line for each last reply
-abbrev pub report_text : ℕ → Start → List Happening → List ℕ
-report_text run start [] = []
-report_text run start (Answered id replies.Taken ∷ past) = report_text run start past
-report_text run start (Answered id reply ∷ past) =
-    report_text run start past ++ line_of (last_data (told_at run start past id reply))
-report_text run start (other ∷ past) = report_text run start past
+abbrev pub IsReportText : ℕ → Start → List Happening → List ℕ → Type 0
+IsReportText run start [] text = text ≡ []
+IsReportText run start (Answered id replies.Taken ∷ past) text = IsReportText run start past text
+IsReportText run start (Answered id reply ∷ past) text =
+    (before : List ℕ) × (cause : Option Cause) × IsReportText run start past before × IsCauseTold start past cause
+    × (text ≡ before ++ line_of (last_data (told_at run start past id reply cause)))
+IsReportText run start (other ∷ past) text = IsReportText run start past text
 
 -- and with the fault of an answer
-abbrev pub broken_text : ℕ → Start → List Happening → DriveFault → Frame → List ℕ → List ℕ
-broken_text run start past fault frame text = report_text run start past ++ line_of (end_data run fault frame text)
+abbrev pub IsBrokenText : ℕ → Start → List Happening → DriveFault → Frame → List ℕ → List ℕ → Type 0
+IsBrokenText run start past fault frame read text =
+    (before : List ℕ) × IsReportText run start past before × (text ≡ before ++ line_of (end_data run fault frame read))
 
 -- ---- the text of what was found of orders
 

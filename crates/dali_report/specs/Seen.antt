@@ -41,9 +41,10 @@ is_found more value =
 abbrev pub is_line : ℕ → Data → Bool
 is_line more value = is_last more value || is_end more value || is_found more value
 
--- a line of a verification that tells the fields in which the unit differs
+-- a line of a verification that tells the fields in which the unit differs, or of a drive that tells a cause
 abbrev pub is_newest : Data → Bool
-is_newest value = is_found 2 value && has value (codes "differs")
+is_newest value =
+    is_found 2 value && has value (codes "differs") || is_last 2 value && has value (codes "cause")
 
 -- the run that a line tells
 abbrev pub told_run : Data → Option ℕ
@@ -72,7 +73,7 @@ abbrev pub begins_so : List ℕ → Bool
 begins_so line =
     not (length line == 0)
     && (begin_alike line (codes "{\"code\":") || begin_alike line (codes "{\"answer\":")
-    || begin_alike line (codes "{\"byte\":"))
+    || begin_alike line (codes "{\"byte\":") || begin_alike line (codes "{\"cause\":"))
 
 -- a line that is no JSON
 abbrev pub IsUnread : List ℕ → Type 0

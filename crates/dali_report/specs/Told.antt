@@ -15,8 +15,8 @@ use Rattle.dali_drive.specs.Found.{Found}
 use Rattle.dali_report.specs.declared.outcome.Outcome.{Outcome}
 use Rattle.dali_report.specs.declared.report.Report.{Report}
 use Rattle.dali_report.specs.declared.report.Spoken.{Spoken}
-use Rattle.dali_report.specs.Reports.{resumed, spoken_of, is_asked, has_end, exchanges, report_text, broken_text}
-use Rattle.dali_report.specs.Reports.{AreFoundLines, outcome_of}
+use Rattle.dali_report.specs.Reports.{resumed, spoken_of, is_asked, has_end, exchanges, IsCauseTold, IsReportText}
+use Rattle.dali_report.specs.Reports.{IsBrokenText, AreFoundLines, outcome_of}
 use Rattle.dali_report.specs.Tallies.{IsTally}
 
 -- an output that may be none
@@ -75,6 +75,10 @@ HasWritten contents first now text =
     (has_failed now ≡ false → Appends (report_held contents first) (report_held contents now) text)
     × (has_failed first ≡ true → IsSilent first now)
 
+-- a text that is so
+abbrev pub HasWrittenAs : {W : Type 0} → (W → Option (List ℕ)) → Report W → Report W → (List ℕ → Type 0) → Type 0
+HasWrittenAs contents first now is_so = (text : List ℕ) × is_so text × HasWritten contents first now text
+
 -- since it was the first of the two, it was told this trace from that start
 pub record IsTold {W : Type 0} (contents : W → Option (List ℕ)) (start : Start) (first now : Report W)
     (past : List Happening) : Type 0 where
@@ -83,15 +87,16 @@ pub record IsTold {W : Type 0} (contents : W → Option (List ℕ)) (start : Sta
   pub ended_is : now.ended ≡ has_end (since is_asked past)
   pub tally_is : IsTally (exchanges past) now.tally
   pub outcome_is : now.outcome ≡ outcome_of start past
+  pub cause_is : IsCauseTold start past now.cause
   pub run_is : now.run ≡ first.run
-  pub written : HasWritten contents first now (report_text first.run start past)
+  pub written : HasWrittenAs contents first now (IsReportText first.run start past)
 
 -- and then that this fault broke the exchange of this frame off, with what was read of the answer
 pub record IsToldEnd {W : Type 0} (contents : W → Option (List ℕ)) (start : Start) (first now : Report W)
     (past : List Happening) (fault : DriveFault) (frame : Frame) (text : List ℕ) : Type 0 where
   pub outcome_is : now.outcome ≡ outcome_of start past
   pub run_is : now.run ≡ first.run
-  pub written : HasWritten contents first now (broken_text first.run start past fault frame text)
+  pub written : HasWrittenAs contents first now (IsBrokenText first.run start past fault frame text)
 
 -- unless it has failed or goes nowhere, the lines of what was found stand behind what the first of the two held
 abbrev pub HasWrittenFound : {W : Type 0} → (W → Option (List ℕ)) → Report W → Report W → List Found → Type 0

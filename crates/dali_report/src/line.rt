@@ -9,7 +9,7 @@ ghost use Rattle.dali_drive.specs.Found.{was_found};
 ghost use Rattle.dali_report.specs.Differences.{AreDifferences, Difference, held_bank, wanted_bank};
 ghost use Rattle.dali_report.specs.Lines.{last_data, end_data, found_data, number_or_null, code_data, name_data};
 ghost use Rattle.dali_report.specs.Lines.{ended_data, escaped, found_text, line_of};
-ghost use Rattle.dali_report.specs.Lines.{location_data, byte_data, IsFoundLine};
+ghost use Rattle.dali_report.specs.Lines.{location_data, byte_data, IsFoundLine, cause_data, cause_of};
 
 use crate::differences::differing_fields;
 use dali_bank::Order;
@@ -18,6 +18,7 @@ use dali_frame::{Frame, word_of};
 use dali_read::Finding;
 use dali_text::{ByteDigits, WordDigits};
 use dali_trace::Reply;
+use dali_write::Cause;
 use serde_json::{Map, Value};
 use std::alloc::{AllocError, Global};
 use std::fmt;
@@ -32,6 +33,8 @@ pub(crate) struct LastReply {
     pub(crate) moment: Option<u64>,
     pub(crate) reply: Reply,
     pub(crate) ended_now: bool,
+    // Why it came to no good end, where it ended in this drive.
+    pub(crate) cause: Option<Cause>,
     pub(crate) frames: u64,
     pub(crate) misses: u64,
     // The run of the report.
@@ -52,7 +55,7 @@ impl LastReply {
     {
         let reply = self.reply;
         let reply = format!(in alloc; "{reply}")?;
-        let members = with(Map::new(alloc), alloc, "unit", self.unit())?;
+        let members = with(Map::new(alloc), alloc, "unit", byte_or_null(self.unit))?;
         let members = with(members, alloc, "run", Value::from(self.run))?;
         let members = with(members, alloc, "reply", Value::from(reply))?;
         let members = with(members, alloc, "order", Value::from(self.order))?;
@@ -62,16 +65,8 @@ impl LastReply {
         let members = with(members, alloc, "frames", Value::from(self.frames))?;
         let members = with(members, alloc, "ended", self.ended(alloc)?)?;
         let members = with(members, alloc, "code", self.code())?;
+        let members = with(members, alloc, "cause", cause_value(alloc, self.cause)?)?;
         Ok(Value::Object(members))
-    }
-
-    fn unit(&self) -> Value
-        ensures { view result ≡ number_or_null self.now.unit }
-    {
-        match self.unit {
-            Some(unit) => Value::from(unit),
-            None => Value::Null,
-        }
     }
 
     fn code(&self) -> Value
@@ -104,6 +99,28 @@ impl LastReply {
     }
 }
 
+// Why an order came to no good end.
+fn cause_value(alloc: Global, cause: Option<Cause>) -> Result<Value, AllocError>
+    ensures { IfOk result (λ value. view value ≡ cause_data cause) }
+{
+    match cause {
+        None => Ok(Value::Null),
+        Some(Cause::Unread(location)) => cause_of(alloc, "unread", location, None),
+        Some(Cause::Unwritten(location)) => cause_of(alloc, "unwritten", location, None),
+        Some(Cause::Another(location, byte)) => cause_of(alloc, "other", location, Some(byte)),
+    }
+}
+
+fn cause_of(alloc: Global, was: &str, location: u8, byte: Option<u8>) -> Result<Value, AllocError>
+    ensures { IfOk result (λ value. view value ≡ cause_of was.now location (number_or_null byte)) }
+{
+    let was = Value::try_from_str(alloc, was)?;
+    let members = with(Map::new(alloc), alloc, "was", was)?;
+    let members = with(members, alloc, "location", Value::from(location))?;
+    let members = with(members, alloc, "byte", byte_or_null(byte))?;
+    Ok(Value::Object(members))
+}
+
 // The members of an object, with one more. The last key comes first, so that each is put in front of the others.
 pub(crate) fn with(
     mut members: Map<String, Value>,
@@ -126,6 +143,15 @@ fn line_of(alloc: Global, value: &Value) -> Result<Vec<u8>, AllocError>
     let mut line = value.to_vec(alloc)?;
     line.push(b'\n')?;
     Ok(line)
+}
+
+fn byte_or_null(value: Option<u8>) -> Value
+    ensures { view result ≡ number_or_null value }
+{
+    match value {
+        Some(value) => Value::from(value),
+        None => Value::Null,
+    }
 }
 
 fn number_or_null(value: Option<u64>) -> Value

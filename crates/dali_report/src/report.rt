@@ -21,6 +21,7 @@ use dali_journal::{Code, Journal, Record, Standing};
 use dali_read::Finding;
 use dali_text::{Output, OutputFailed};
 use dali_trace::{Happening, Reply};
+use dali_write::Cause;
 use std::alloc::{AllocError, Global};
 use std::io::{ErrorKind, Write};
 
@@ -61,6 +62,8 @@ pub struct Report<'a, W> {
     spoken: Option<Spoken>,
     // Whether an end was kept since an order was asked.
     ended: bool,
+    // Why that came to no good end, if it did.
+    cause: Option<Cause>,
     tally: Tally,
     outcome: Outcome,
     run: u64,
@@ -89,6 +92,7 @@ impl<'a, W: Write> Report<'a, W> {
             resumed: None,
             spoken: None,
             ended: false,
+            cause: None,
             tally: Tally::new(),
             outcome: Outcome::Nothing,
             run,
@@ -161,6 +165,7 @@ impl<'a, W: Write> Report<'a, W> {
             moment: journal.moment(id),
             reply,
             ended_now,
+            cause: self.cause,
             frames: self.tally.frames,
             misses: self.tally.misses,
             run: self.run,
@@ -244,19 +249,24 @@ impl<W: Write + Drop> Observer for Report<'_, W> {
         self.resumed = unfinished(journal);
         self.spoken = self.resumed;
         self.ended = false;
+        self.cause = None;
         self.tally = Tally::new();
         self.outcome = Outcome::Nothing;
     }
 
-    fn see(&mut self, happening: &Happening, journal: &Journal) {
+    fn see(&mut self, happening: &Happening, journal: &Journal, cause: Option<Cause>) {
         self.show(happening, journal);
         match happening {
             Happening::Asked(order, _) => {
                 self.spoken = Some(Spoken::of(order));
                 self.ended = false;
+                self.cause = None;
             }
             Happening::Sent(frame, answer) => self.tally.add(frame, *answer),
-            Happening::Kept(Record::Ended(_)) => self.ended = true,
+            Happening::Kept(Record::Ended(_)) => {
+                self.ended = true;
+                self.cause = cause;
+            }
             Happening::Answered(_, Reply::Taken) => {}
             Happening::Answered(id, reply) => self.tell(*id, *reply, journal),
             Happening::Kept(_) | Happening::Stopped(_) | Happening::Powered(_) => {}

@@ -85,7 +85,7 @@ fn is_line(value: &Value, more: usize) -> bool
 }
 
 fn is_last(value: &Value, more: usize) -> bool
-    requires { more ≤ 1 }
+    requires { more ≤ 2 }
     ensures { result ≡ last_with more (view value.now) }
 {
     counts(value, 9 + more)
@@ -111,11 +111,12 @@ fn is_end(value: &Value, more: usize) -> bool
         && has(value, "name")
 }
 
-// Whether it is a line of a verification that tells the fields in which the unit differs.
+// Whether it is a line of a verification that tells the fields in which the unit differs, or of a drive that tells a
+// cause.
 fn is_newest(value: &Value) -> bool
     ensures { result ≡ newest (view value.now) }
 {
-    is_found(value, 2) && has(value, "differs")
+    (is_found(value, 2) && has(value, "differs")) || (is_last(value, 2) && has(value, "cause"))
 }
 
 fn is_found(value: &Value, more: usize) -> bool
@@ -153,7 +154,8 @@ fn begins_so(line: &[u8]) -> bool
     !line.is_empty()
         && (begins_as(line, b"{\"code\":")
             || begins_as(line, b"{\"answer\":")
-            || begins_as(line, b"{\"byte\":"))
+            || begins_as(line, b"{\"byte\":")
+            || begins_as(line, b"{\"cause\":"))
 }
 
 // Whether both begin alike, as far as the shorter one goes.

@@ -8,6 +8,7 @@ pub mod NewUnitLemmas
 pub mod WorkedLossLemmas
 pub mod WorkedBusLemmas
 pub mod WorkedEndLemmas
+pub mod WorkedCauseLemmas
 pub mod RefusedLemmas
 pub mod WorkedLeftLemmas
 pub mod BlankLemmas

@@ -25,7 +25,6 @@ use Rattle.dali_trace.specs.Spared.{UnrefusedSince}
 use Rattle.dali_trace.specs.WorkedLosses.{bus_after, buses_along}
 use Rattle.dali_trace.proofs.NewUnitLemmas.{new_locked}
 use Rattle.dali_journal.proofs.PairLemmas.{and-parts}
-use Rattle.dali_write.specs.declared.pace.Pace.TheVariants.{Checked}
 
 -- each answer in the trace is the one that the bus gives
 abbrev same_answer : Option ℕ → Option ℕ → Bool

@@ -9,7 +9,6 @@ use Rattle.dali_journal.specs.declared.record.Record.TheVariants.{Opened, Ended}
 use Rattle.dali_journal.specs.declared.standing.Standing.{Standing}
 use Rattle.dali_journal.specs.declared.standing.Standing.TheVariants as standings
 use Rattle.dali_write.specs.Exchanges.{Exchange}
-use Rattle.dali_write.specs.Requests.{read_requests}
 use Rattle.dali_write.specs.Plans.{Plan, unlock}
 use Rattle.dali_write.specs.Reads.{IsPassive, EndsInRead, HasRead}
 use Rattle.dali_write.specs.Tries.{Succeeds, Wants}
@@ -34,7 +33,7 @@ use Rattle.dali_write.proofs.EndLemmas.{ends_reading}
 use Rattle.dali_trace.proofs.RefusedLemmas.{none_read, has_none}
 use Rattle.dali_write.specs.declared.pace.Pace.{Pace}
 use Rattle.dali_write.specs.declared.pace.Pace.TheVariants.{Checked, Short as ShortPace}
-use Rattle.dali_write.specs.Plans.{rows_of, most_of, read_backs}
+use Rattle.dali_write.specs.Plans.{rows_of, read_backs}
 use Rattle.dali_write.specs.Requests.{block_requests, each_try, block}
 use Rattle.dali_write.specs.Blocks.{IsBlockRead}
 use Rattle.dali_write.proofs.BlockOneLemmas.{access_count}

@@ -13,6 +13,7 @@ pub mod Quiet
 pub mod Moments
 pub mod Runs
 pub mod ByPlan
+pub mod Causes
 pub mod Parts
 pub mod Work
 pub mod Spared

@@ -5,6 +5,7 @@ use Rattle.dali_frame.specs.declared.forward.Frame.{Frame}
 use Rattle.dali_write.specs.Exchanges.{Exchange}
 use Rattle.dali_write.specs.declared.request.Request.{Request}
 use Rattle.dali_write.specs.declared.block.Block.{Block}
+use Rattle.dali_write.specs.declared.ask.Cause.{Cause}
 use Rattle.dali_write.specs.declared.session.Session.{Session}
 use Rattle.dali_write.specs.declared.stage.Task.{Task}
 use Rattle.dali_write.specs.declared.stage.Task.TheVariants.{ReadingBlock}
@@ -49,16 +50,16 @@ one unit block verdict told (outcome ∷ before ∷ outcomes) bytes ends so are 
     absurd (subst (λ (p : Plan). AccessEnds unit p outcome ends.0) (once block before outcomes).1 ends.3)
 
 ended_one : (unit : ℕ) (block : Block) (verdict : Verdict) (told : List Exchange) (now : Plan) (misses : ℕ)
-    (left : List Request) (tried bytes : List ℕ)
-    → StandsWith (ReadingBlock block) unit told now misses left tried bytes → shown_ask now left ≡ Ended verdict
+    (left : List Request) (tried bytes : List ℕ) (cause : Option Cause)
+    → StandsWith (ReadingBlock block) unit told now misses left tried bytes cause → shown_ask now left ≡ Ended verdict
     → One unit block verdict bytes told
-ended_one unit block verdict told (Finish v) misses left tried bytes w ask =
+ended_one unit block verdict told (Finish v) misses left tried bytes cause w ask =
     let s = w.stands in
     let same : v ≡ verdict = cc in
     let all = ended_told told s.tried s.missed s.ended left misses s.parts s.try s.misses_are in
     rw all (one unit block verdict s.ended w.outcomes bytes s.accesses (s.now_is ∙ ap Finish same) w.bytes_are)
-ended_one unit block verdict told (Make access after) misses [] tried bytes w ask = let none = w.stands.going in cc
-ended_one unit block verdict told (Make access after) misses (next ∷ left) tried bytes w ask = cc
+ended_one unit block verdict told (Make access after) misses [] tried bytes cause w ask = let none = w.stands.going in cc
+ended_one unit block verdict told (Make access after) misses (next ∷ left) tried bytes cause w ask = cc
 
 told_one : (told : List Exchange) (s : Session) (unit : ℕ) (block : Block) (verdict : Verdict) → Told told s
     → IsReadingBlock unit block s → aim_of s ≡ Ended verdict → One unit block verdict s.bytes.items told
@@ -66,9 +67,9 @@ unfolding Told
 told_one told s unit block verdict was (here, reading) ended =
     let now = plan_at s.task s.stage in
     let left = drop s.number (plan_requests s.unit now s.misses) in
-    ended_one unit block verdict told now s.misses left s.tried.items s.bytes.items
-    (subst (λ (task : Task). StandsWith task unit told now s.misses left s.tried.items s.bytes.items) reading
-    (subst (λ (u : ℕ). StandsWith s.task u told now s.misses left s.tried.items s.bytes.items) here was))
+    ended_one unit block verdict told now s.misses left s.tried.items s.bytes.items s.cause
+    (subst (λ (task : Task). StandsWith task unit told now s.misses left s.tried.items s.bytes.items s.cause) reading
+    (subst (λ (u : ℕ). StandsWith s.task u told now s.misses left s.tried.items s.bytes.items s.cause) here was))
     (ask_shown now left s.going ∙ ended)
 
 -- what it wants

@@ -1,21 +1,19 @@
 -- A session ends in doubt only because an access failed, or because a read found another byte.
-use Rattle.std.proofs.Common.{length, ◌≡◌, ◌≢◌, ◌⊎◌, inl, inr, refl, sym, ap, ◌∙◌, ℕ, suc, Bool, true, false, ◌==◌}
-use Rattle.std.proofs.Common.{if◌then◌else◌, List, [], ◌∷◌, ◌++◌, append_assoc, append-nil, get_or, Option, Some, None, arith}
+use Rattle.std.proofs.Common.{length, ◌≡◌, ◌≢◌, ◌⊎◌, inl, inr, refl, sym, ap, ◌∙◌, ℕ, suc, Bool, true, false}
+use Rattle.std.proofs.Common.{if◌then◌else◌, List, [], ◌∷◌, ◌++◌, append_assoc, append-nil, Option, Some, None, arith}
 use Rattle.std.specs.List.{Contains}
-use Rattle.std.proofs.lemmas.Bool.{eq-eqb}
 use Rattle.dali_write.specs.Exchanges.{Exchange}
 use Rattle.dali_write.specs.declared.access.Access.{Access}
 use Rattle.dali_write.specs.declared.access.Access.TheVariants.{ReadFrom, WriteTo}
 use Rattle.dali_write.specs.declared.ask.Verdict.TheVariants.{Doubt}
 use Rattle.dali_write.specs.declared.ask.Ask.TheVariants.{Ended}
-use Rattle.dali_write.specs.Requests.{block, read_requests}
+use Rattle.dali_write.specs.Requests.{block}
 use Rattle.dali_write.specs.Plans.{Plan, Finish, Make, either_way, give_up, expect, read_back, write_on}
 use Rattle.dali_write.specs.Plans.{unlock}
 use Rattle.dali_write.specs.Tries.{Succeeds, Fails, Wants}
 use Rattle.dali_write.specs.Walks.{Walk}
 use Rattle.dali_write.specs.Doubts.{HasFailed, FoundAnother}
 use Rattle.dali_write.proofs.WalkLemmas.{ended_walk}
-use Rattle.dali_write.proofs.BlockOneLemmas.{access_tells_one}
 use Rattle.dali_write.proofs.GiveUpLemmas.{all_missed, failed_joined}
 use Rattle.dali_write.specs.declared.pace.Pace.{Pace}
 use Rattle.dali_write.specs.Plans.{rows_of, most_of, read_backs, read_all_back, write_next}

@@ -1,6 +1,6 @@
 -- How many frames a session takes that ends Done.
-use Rattle.std.proofs.Common.{◌∙◌, suc, zero, ◌-◌, subst, ◌≡◌, inl, inr, refl, ap, ℕ, ◌+◌, ◌*◌, ◌≤◌, Bool, true, false, ◌==◌, if◌then◌else◌, List}
-use Rattle.std.proofs.Common.{[], ◌∷◌, length, length-append, Option, Some, None, get_or, arith}
+use Rattle.std.proofs.Common.{◌∙◌, suc, zero, ◌-◌, subst, ◌≡◌, inl, inr, refl, ap, ℕ, ◌+◌, ◌*◌, ◌≤◌, Bool, true, false, if◌then◌else◌, List}
+use Rattle.std.proofs.Common.{[], ◌∷◌, length, length-append, Option, Some, None, arith}
 use Rattle.std.proofs.lemmas.Nat.{mul-le}
 use Rattle.dali_write.specs.Exchanges.{Exchange}
 use Rattle.dali_write.specs.declared.access.Access.{Access}
@@ -8,7 +8,7 @@ use Rattle.dali_write.specs.declared.access.Access.TheVariants.{ReadFrom, WriteT
 use Rattle.dali_write.specs.declared.ask.Verdict.TheVariants.{Done}
 use Rattle.dali_write.specs.declared.ask.Ask.TheVariants.{Ended}
 use Rattle.dali_write.specs.Requests.{block, access_requests}
-use Rattle.dali_write.specs.Frames.{read_frames, write_frames, try_frames}
+use Rattle.dali_write.specs.Frames.{try_frames}
 use Rattle.dali_write.specs.Counts.{done_frames}
 use Rattle.dali_write.specs.Plans.{Plan, Finish, Make, give_up, expect, read_back, write_on}
 use Rattle.dali_write.specs.Plans.{unlock}

@@ -1,12 +1,12 @@
 -- The sessions that read alone: each of their frames is calm.
-use Rattle.std.proofs.Common.{ℕ, zero, suc, min, nat_lt, ◌==◌, ◌&&◌, if◌then◌else◌, List, []}
+use Rattle.std.proofs.Common.{ℕ, zero, suc, min, nat_lt, List, []}
 use Rattle.dali_frame.specs.declared.forward.Frame.{Frame}
 use Rattle.dali_bus.specs.World.{World}
 use Rattle.dali_bus.specs.Carry.{WorldStep}
 use Rattle.dali_write.specs.Exchanges.{Exchange}
 use Rattle.dali_write.specs.declared.ask.Ask.{Ask}
 use Rattle.dali_write.specs.declared.ask.Ask.TheVariants.{Send}
-use Rattle.dali_write.specs.declared.ask.Verdict.TheVariants.{MayOpen, Short, Silent, Format, Read}
+use Rattle.dali_write.specs.declared.ask.Verdict.TheVariants.{MayOpen, Short, Silent, Read}
 use Rattle.dali_write.specs.declared.block.Block.{Block}
 use Rattle.dali_write.specs.Requests.{block}
 use Rattle.dali_write.specs.Plans.{Plan, Finish, greatest, judge_length, read_format, read_format_low, read_at}

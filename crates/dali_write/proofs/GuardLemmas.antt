@@ -15,7 +15,7 @@ use Rattle.dali_write.specs.declared.ask.Verdict.{Verdict}
 use Rattle.dali_write.specs.declared.ask.Verdict.TheVariants.{Doubt, DoubtOpen, Closed, NotClosed}
 use Rattle.dali_write.specs.declared.block.Block.{Block}
 use Rattle.dali_write.specs.Requests.{request, select_requests, block_requests, write_requests}
-use Rattle.dali_write.specs.Plans.{Plan, Finish, Make, next_plan, plan_after, close, give_up, expect, read_back}
+use Rattle.dali_write.specs.Plans.{Plan, Finish, Make, next_plan, plan_after, close, give_up, read_back}
 use Rattle.dali_write.specs.Plans.{write_on, unlock}
 use Rattle.dali_write.specs.Tries.{Trying, Wants, plan_requests}
 use Rattle.dali_write.proofs.AskLemmas.{shown_ask, ask_shown}

@@ -4,7 +4,7 @@ use Rattle.std.proofs.Common.{Option, Some, None, IsTrue, arith}
 use Rattle.std.specs.Prelude.{if◌then◌else◌, ⊤}
 use Rattle.std.proofs.lemmas.Bool.{eq-eqb}
 use Rattle.std.proofs.Math.Nat.{pos_of_ne-zero}
-use Rattle.dali_frame.specs.declared.forward.Frame.TheVariants.{Write, Enable, AskDtr0, AskDtr1, Read}
+use Rattle.dali_frame.specs.declared.forward.Frame.TheVariants.{Enable, AskDtr0, AskDtr1, Read}
 use Rattle.dali_bus.specs.Hears.{up}
 use Rattle.dali_write.specs.Exchanges.{Exchange}
 use Rattle.dali_gear.specs.UnitState.{UnitState, after_frame, after_enable, answer_to, is_writable}
@@ -15,7 +15,7 @@ use Rattle.dali_write.specs.declared.request.Wish.TheVariants.{Nothing, Exactly,
 use Rattle.dali_write.specs.declared.access.Access.{Access}
 use Rattle.dali_write.specs.declared.access.Access.TheVariants.{ReadFrom, WriteTo, WriteOn}
 use Rattle.dali_write.specs.declared.block.Block.{Block}
-use Rattle.dali_write.specs.Requests.{Meets, request, moved_on, reads, select_requests, block_requests, write_requests}
+use Rattle.dali_write.specs.Requests.{Meets, request, moved_on, reads, block_requests, write_requests}
 use Rattle.dali_write.specs.Requests.{access_requests}
 use Rattle.dali_write.specs.Tries.{Trying, Missed}
 use Rattle.dali_write.specs.Losses.{is_loss, IsAlone, HasFrom, CanDo}

@@ -8,6 +8,7 @@ use Rattle.std.proofs.Math.Nat.{eq-or-lt_of_le}
 use Rattle.dali_bus.specs.World.{World, Gear, byte_in, byte_at}
 use Rattle.dali_write.specs.Exchanges.{Exchange}
 use Rattle.dali_write.specs.declared.request.Request.{Request}
+use Rattle.dali_write.specs.declared.ask.Cause.{Cause}
 use Rattle.dali_write.specs.declared.session.Session.{Session}
 use Rattle.dali_write.specs.declared.stage.Task.{Task}
 use Rattle.dali_write.specs.declared.stage.Task.TheVariants.{Reading}
@@ -139,10 +140,10 @@ bank_read unit bytes plan told (inr (inl so_far)) ended =
 bank_read unit bytes plan told (inr (inr is)) ended = let never : Finish Silent ≡ Finish Read = sym is ∙ ended in cc
 
 ended_reads : (unit : ℕ) (told : List Exchange) (now : Plan) (misses : ℕ) (left : List Request)
-    (tried bytes : List ℕ)
-    → StandsWith Reading unit told now misses left tried bytes → shown_ask now left ≡ Ended Read
+    (tried bytes : List ℕ) (cause : Option Cause)
+    → StandsWith Reading unit told now misses left tried bytes cause → shown_ask now left ≡ Ended Read
     → ReadsBank told unit bytes
-ended_reads unit told (Finish v) misses left tried bytes s ask =
+ended_reads unit told (Finish v) misses left tried bytes cause s ask =
     let same : v ≡ Read = cc in
     let all =
     ended_told told s.stands.tried s.stands.missed s.stands.ended left misses s.stands.parts s.stands.try
@@ -151,8 +152,8 @@ ended_reads unit told (Finish v) misses left tried bytes s ask =
     accesses_reach unit s.outcomes s.stands.ended [] told s.stands.accesses (all ∙ sym (append-nil s.stands.ended)) in
     rw s.bytes_are
     (bank_read unit (found s.outcomes) (plan_after read_all s.outcomes) told reached (s.stands.now_is ∙ ap Finish same))
-ended_reads unit told (Make access after) misses [] tried bytes s ask = let none = s.stands.going in cc
-ended_reads unit told (Make access after) misses (next ∷ left) tried bytes s ask = cc
+ended_reads unit told (Make access after) misses [] tried bytes cause s ask = let none = s.stands.going in cc
+ended_reads unit told (Make access after) misses (next ∷ left) tried bytes cause s ask = cc
 
 pub bytes_are_read : (told : List Exchange) (s : Session) → Told told s → s.task ≡ Reading → aim_of s ≡ Ended Read
     → ReadsBank told s.unit s.bytes.items
@@ -160,8 +161,9 @@ unfolding Told
 bytes_are_read told s was reading ended =
     let now = plan_at s.task s.stage in
     let left = drop s.number (plan_requests s.unit now s.misses) in
-    ended_reads s.unit told now s.misses left s.tried.items s.bytes.items
-    (subst (λ (task : Task). StandsWith task s.unit told now s.misses left s.tried.items s.bytes.items) reading was)
+    ended_reads s.unit told now s.misses left s.tried.items s.bytes.items s.cause
+    (subst (λ (task : Task). StandsWith task s.unit told now s.misses left s.tried.items s.bytes.items s.cause)
+    reading was)
     (ask_shown now left s.going ∙ ended)
 
 -- the byte that a unit shows stands at its place, or it is the lock byte

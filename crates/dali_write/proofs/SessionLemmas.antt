@@ -11,13 +11,16 @@ use Rattle.dali_write.specs.declared.session.Session.{Session}
 use Rattle.dali_write.specs.Plans.{read_length, unlock, close}
 use Rattle.dali_write.specs.Tries.{Wants}
 use Rattle.dali_write.specs.Stages.{plan_of}
-use Rattle.dali_write.specs.Told.{Told, IsFresh, IsOpened, IsClosing, aim_of}
+use Rattle.dali_write.specs.declared.stage.Task.{Task}
+use Rattle.dali_write.specs.declared.stage.Task.TheVariants.{Fresh, Opened}
+use Rattle.dali_write.specs.Found.{IsCause}
+use Rattle.dali_write.specs.Told.{Told, IsFresh, IsOpened, IsClosing, aim_of, cause_of}
 use Rattle.dali_write.specs.Touches.{writes_of}
 use Rattle.dali_write.specs.Guards.{IsGuarded}
 use Rattle.dali_write.specs.Findings.{Rests}
 use Rattle.dali_write.specs.Reads.{StillRead, HasRead}
 use Rattle.dali_write.specs.Verdicts.{EndsFresh, EndsOpened, EndsClosing}
-use Rattle.dali_write.proofs.ToldLemmas.{told_wants}
+use Rattle.dali_write.proofs.ToldLemmas.{told_wants, told_cause}
 use Rattle.dali_write.proofs.GuardLemmas.{opened_guarded, closing_guarded}
 use Rattle.dali_write.proofs.FreshLemmas.{calm_guarded, length_calm}
 use Rattle.dali_write.proofs.RestLemmas.{opened_rests, closing_rests}
@@ -42,6 +45,19 @@ pub closing_wants : (unit : ℕ) (told : List Exchange) (s : Session) (ask : Ask
     → aim_of s ≡ ask → Wants unit (close Closed NotClosed) told ask
 closing_wants unit told s ask is is_told aim =
     rw (← is.0, ← aim) (subst (λ task. Wants s.unit (plan_of task) told (aim_of s)) is.1 (told_wants told s is_told))
+
+-- why it comes to no good end
+pub fresh_cause : (order : Contents) (pace : Pace) (told : List Exchange) (s : Session) → IsFresh order pace s
+    → Told told s → IsCause (Fresh order pace) order.unit told (cause_of s)
+fresh_cause order pace told s is is_told =
+    subst (λ (unit : ℕ). IsCause (Fresh order pace) unit told s.cause) is.0
+    (subst (λ (task : Task). IsCause task s.unit told s.cause) is.1 (told_cause told s is_told))
+
+pub opened_cause : (order : Contents) (pace : Pace) (told : List Exchange) (s : Session) → IsOpened order pace s
+    → Told told s → IsCause (Opened order pace) order.unit told (cause_of s)
+opened_cause order pace told s is is_told =
+    subst (λ (unit : ℕ). IsCause (Opened order pace) unit told s.cause) is.0
+    (subst (λ (task : Task). IsCause task s.unit told s.cause) is.1 (told_cause told s is_told))
 
 pub fresh_sends : (order : Contents) (pace : Pace) (told : List Exchange) (s : Session) (frame : Frame)
     → IsFresh order pace s → Told told s → aim_of s ≡ Send frame → IsGuarded [] order.unit told frame

@@ -19,7 +19,7 @@ use Rattle.dali_write.specs.declared.ask.Verdict.TheVariants.{MayOpen, Done, Sho
 use Rattle.dali_write.specs.declared.ask.Verdict.TheVariants.{Read}
 use Rattle.dali_write.specs.declared.ask.Ask.TheVariants.{Ended}
 use Rattle.dali_write.specs.Plans.{Plan, Finish, Make, read_block, greatest, judge_length, read_at, read_length, read_format}
-use Rattle.dali_write.specs.Plans.{read_format_low, close, expect, read_back, write_on, unlock, read_on, read_all}
+use Rattle.dali_write.specs.Plans.{read_format_low, close, read_back, write_on, unlock, read_on, read_all}
 use Rattle.dali_write.specs.declared.block.Block.{Block}
 use Rattle.dali_write.specs.Requests.{moved_on, block_requests}
 use Rattle.dali_write.specs.Tries.{most_tries, Succeeds, bytes_of, AccessEnds, Wants}
@@ -35,7 +35,7 @@ use Rattle.dali_write.proofs.BlockLemmas.{block_true}
 use Rattle.dali_write.proofs.DriftLemmas.{drifts_alone, whole_before}
 use Rattle.dali_write.proofs.KeptLemmas.{parts}
 use Rattle.dali_write.proofs.OutliveLemmas.{misses_by_losses, access_succeeds}
-use Rattle.dali_write.proofs.StoredLemmas.{write_stored, read_keeps}
+use Rattle.dali_write.proofs.StoredLemmas.{read_keeps}
 use Rattle.dali_write.proofs.WalkLemmas.{ended_walk}
 use Rattle.dali_write.proofs.NextLemmas.{none_ended}
 use Rattle.dali_write.proofs.MissLemmas.{walk_misses, walk_misses_in}

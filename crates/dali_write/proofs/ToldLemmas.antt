@@ -9,11 +9,13 @@ use Rattle.dali_write.specs.declared.session.Session.{Session}
 use Rattle.dali_write.specs.declared.stage.Task.{Task}
 use Rattle.dali_write.specs.declared.ask.Ask.TheVariants.{Send}
 use Rattle.dali_write.specs.Requests.{Meets, request, read_answer}
-use Rattle.dali_write.specs.Plans.{Plan, Finish, Make, next_plan}
+use Rattle.dali_write.specs.Plans.{Plan, Finish, Make, next_plan, plan_after}
 use Rattle.dali_write.specs.Tries.{plan_requests, IsGoing, Stands, Wants}
 use Rattle.dali_write.proofs.AskLemmas.{shown_ask, ask_shown}
-use Rattle.dali_write.specs.Found.{StandsWith, ReadsSoFar, found, keeps, kept_after}
-use Rattle.dali_write.specs.Stages.{plan_of, plan_at}
+use Rattle.dali_write.specs.declared.ask.Cause.{Cause}
+use Rattle.dali_write.specs.Causes.{cause_by, cause_after, first_of}
+use Rattle.dali_write.specs.Found.{StandsWith, ReadsSoFar, IsCause, found, keeps, kept_after}
+use Rattle.dali_write.specs.Stages.{plan_of, plan_at, updates_for}
 use Rattle.dali_write.specs.Told.{Told, request_at_hand, aim_of, BeginsTry}
 use Rattle.dali_write.proofs.StandingLemmas.{stands_at_first, stands_on, stands_again, stands_done, stands_failed}
 use Rattle.dali_write.proofs.RequestLemmas.{drop_at, drop_end}
@@ -31,18 +33,28 @@ same_kept : (task : Task) (outcomes : List (Option (List ℕ)))
     → kept_bytes task outcomes ≡ kept_bytes task (None ∷ outcomes)
 same_kept task outcomes = grind (arith, append-nil (found outcomes))
 
+-- one more outcome may be the first that is a cause
+caused : (task : Task) (outcomes : List (Option (List ℕ))) (now : Plan) (cause : Option Cause)
+    (outcome : Option (List ℕ)) → plan_after (plan_of task) outcomes ≡ now
+    → cause ≡ cause_after (updates_for task) (plan_of task) outcomes
+    → first_of cause (cause_by (updates_for task) now outcome)
+    ≡ cause_after (updates_for task) (plan_of task) (outcome ∷ outcomes)
+caused task outcomes now cause outcome is was = rw (← is, was) refl
+
 -- a session stands so
 told_as : (told : List Exchange) (s : Session) (unit : ℕ) (task : Task) (now : Plan) (misses number : ℕ)
-    (tried bytes : List ℕ)
+    (tried bytes : List ℕ) (cause : Option Cause)
     → plan_at s.task s.stage ≡ now → s.unit ≡ unit → s.task ≡ task → s.misses ≡ misses → s.number ≡ number
-    → s.tried.items ≡ tried → s.bytes.items ≡ bytes
-    → StandsWith task unit told now misses (drop number (plan_requests unit now misses)) tried bytes → Told told s
+    → s.tried.items ≡ tried → s.bytes.items ≡ bytes → s.cause ≡ cause
+    → StandsWith task unit told now misses (drop number (plan_requests unit now misses)) tried bytes cause
+    → Told told s
 unfolding Told
-told_as told s unit task now misses number tried bytes p u t m n r b stands = rw (p, u, t, m, n, r, b) stands
+told_as told s unit task now misses number tried bytes cause p u t m n r b w stands =
+    rw (p, u, t, m, n, r, b, w) stands
 
 pub told_first : (s : Session) → plan_at s.task s.stage ≡ plan_of s.task → s.misses ≡ 0 → s.number ≡ 0
-    → s.tried.items ≡ [] → s.bytes.items ≡ [] → Told [] s
-told_first s p m n r b = grind (arith, told_as, stands_at_first, none_kept)
+    → s.tried.items ≡ [] → s.bytes.items ≡ [] → s.cause ≡ None → Told [] s
+told_first s p m n r b w = grind (arith, told_as, stands_at_first, none_kept)
 
 goes_cons : (now : Plan) (next : Request) (left : List Request) → IsGoing now (next ∷ left)
 goes_cons (Finish verdict) next left = refl
@@ -56,6 +68,7 @@ goes_more now requests number more = grind (arith, drop_at, goes_cons)
 at_hand : (told : List Exchange) (s : Session) (next : Request) → request_at_hand s ≡ Some next → Told told s
     → StandsWith s.task s.unit told (plan_at s.task s.stage) s.misses
     (next ∷ drop (suc s.number) (plan_requests s.unit (plan_at s.task s.stage) s.misses)) s.tried.items s.bytes.items
+    s.cause
 unfolding Told
 at_hand told s next at was = grind (arith, drop_at)
 
@@ -65,8 +78,9 @@ pub told_on : (told : List Exchange) (s new : Session) (frame : Frame) (answer :
     → is_some (slice_get (plan_requests s.unit (plan_at s.task s.stage) s.misses) (suc s.number)) ≡ true
     → new.unit ≡ s.unit → new.task ≡ s.task → new.stage ≡ s.stage → new.misses ≡ s.misses → new.number ≡ suc s.number
     → new.tried.items ≡ s.tried.items ++ read_answer frame answer
-    → new.bytes.items ≡ s.bytes.items → Told (record { frame = frame; answer = answer } ∷ told) new
-told_on told s new frame answer wish at meets was more unit task stage misses number tried bytes =
+    → new.bytes.items ≡ s.bytes.items → new.cause ≡ s.cause
+    → Told (record { frame = frame; answer = answer } ∷ told) new
+told_on told s new frame answer wish at meets was more unit task stage misses number tried bytes cause =
     grind (
       arith,
       at_hand told s (request frame wish),
@@ -86,8 +100,10 @@ pub told_done : (told : List Exchange) (s new : Session) (frame : Frame) (answer
     → length (s.tried.items ++ read_answer frame answer) ≤ 22
     → (length s.bytes.items + length (s.tried.items ++ read_answer frame answer) ≤ 255
     → new.bytes.items ≡ kept_after s.task s.bytes.items (s.tried.items ++ read_answer frame answer))
+    → new.cause ≡ first_of s.cause (cause_by (updates_for s.task) (plan_at s.task s.stage)
+    (Some (s.tried.items ++ read_answer frame answer)))
     → Told (record { frame = frame; answer = answer } ∷ told) new
-told_done told s new frame answer wish at meets was none unit task plan begins few kept =
+told_done told s new frame answer wish at meets was none unit task plan begins few kept cause =
     let now = plan_at s.task s.stage in
     let w = at_hand told s (request frame wish) at was in
     let last = subst (λ (left : List Request). Stands s.unit (plan_of s.task) w.outcomes told now s.misses
@@ -97,29 +113,32 @@ told_done told s new frame answer wish at meets was none unit task plan begins f
     let room =
     has_room s.task s.unit told w.outcomes now s.misses s.tried.items s.bytes.items frame answer wish last meets few
     w.bytes_are in
-    told_as (x ∷ told) new s.unit s.task _ 0 0 [] new.bytes.items plan unit task begins.0 begins.1 begins.2 refl
+    told_as (x ∷ told) new s.unit s.task _ 0 0 [] new.bytes.items new.cause plan unit task begins.0 begins.1 begins.2
+    refl refl
     (record {
       outcomes = Some (s.tried.items ++ read_answer frame answer) ∷ w.outcomes;
       stands = stands_done s.unit (plan_of s.task) w.outcomes told now s.misses s.tried.items frame answer wish last
           meets;
       bytes_are = kept room ∙ more_kept s.task w.outcomes s.bytes.items (s.tried.items ++ read_answer frame answer)
           w.bytes_are;
+      cause_is = cause ∙ caused s.task w.outcomes now s.cause _ w.stands.now_is w.cause_is;
     })
 
 -- another try of the access
 pub told_again : (told : List Exchange) (s new : Session) (frame : Frame) (answer : Option ℕ) (wish : Wish)
     → request_at_hand s ≡ Some (request frame wish) → ¬ Meets wish answer → Told told s → s.misses < 7
     → new.unit ≡ s.unit → new.task ≡ s.task → new.stage ≡ s.stage → new.misses ≡ suc s.misses → new.number ≡ 0
-    → new.tried.items ≡ [] → new.bytes.items ≡ s.bytes.items
+    → new.tried.items ≡ [] → new.bytes.items ≡ s.bytes.items → new.cause ≡ s.cause
     → Told (record { frame = frame; answer = answer } ∷ told) new
-told_again told s new frame answer wish at missed was few unit task stage misses number tried bytes =
+told_again told s new frame answer wish at missed was few unit task stage misses number tried bytes cause =
     let w = at_hand told s (request frame wish) at was in
-    told_as _ new s.unit s.task (plan_at s.task s.stage) (suc s.misses) 0 [] s.bytes.items (rw (task, stage) refl) unit
-    task misses number tried bytes (record {
+    told_as _ new s.unit s.task (plan_at s.task s.stage) (suc s.misses) 0 [] s.bytes.items s.cause
+    (rw (task, stage) refl) unit task misses number tried bytes cause (record {
       outcomes = w.outcomes;
       stands = stands_again s.unit (plan_of s.task) w.outcomes told _ s.misses _ s.tried.items frame answer wish
           w.stands missed (omega arith);
       bytes_are = w.bytes_are;
+      cause_is = w.cause_is;
     })
 
 -- the access failed
@@ -127,14 +146,17 @@ pub told_failed : (told : List Exchange) (s new : Session) (frame : Frame) (answ
     → request_at_hand s ≡ Some (request frame wish) → ¬ Meets wish answer → Told told s → 7 ≤ s.misses
     → new.unit ≡ s.unit → new.task ≡ s.task → plan_at new.task new.stage ≡ next_plan (plan_at s.task s.stage) None
     → BeginsTry new → new.bytes.items ≡ s.bytes.items
+    → new.cause ≡ first_of s.cause (cause_by (updates_for s.task) (plan_at s.task s.stage) None)
     → Told (record { frame = frame; answer = answer } ∷ told) new
-told_failed told s new frame answer wish at missed was many unit task plan begins kept =
+told_failed told s new frame answer wish at missed was many unit task plan begins kept cause =
     let w = at_hand told s (request frame wish) at was in
-    told_as _ new s.unit s.task _ 0 0 [] s.bytes.items plan unit task begins.0 begins.1 begins.2 kept (record {
+    told_as _ new s.unit s.task _ 0 0 [] s.bytes.items new.cause plan unit task begins.0 begins.1 begins.2 kept refl
+    (record {
       outcomes = None ∷ w.outcomes;
       stands = stands_failed s.unit (plan_of s.task) w.outcomes told _ s.misses _ s.tried.items frame answer wish
           w.stands missed many;
       bytes_are = w.bytes_are ∙ same_kept s.task w.outcomes;
+      cause_is = cause ∙ caused s.task w.outcomes (plan_at s.task s.stage) s.cause None w.stands.now_is w.cause_is;
     })
 
 -- the frame at hand is what the session wants
@@ -155,7 +177,12 @@ told_wants told s was = grind (arith, ask_shown)
 -- what it keeps
 pub told_reads : (told : List Exchange) (s : Session) → Told told s → ReadsSoFar s.task s.unit told s.bytes.items
 unfolding Told
-told_reads told s was = (_, _, _, _, was)
+told_reads told s was = (_, _, _, _, _, was)
+
+-- why it comes to no good end
+pub told_cause : (told : List Exchange) (s : Session) → Told told s → IsCause s.task s.unit told s.cause
+unfolding Told
+told_cause told s was = (_, _, _, _, _, was)
 
 pub none_read : (told : List Exchange) (s : Session) → Told told s → keeps s.task ≡ false → s.bytes.items ≡ []
 unfolding Told

@@ -6,7 +6,9 @@ use Rattle.dali_write.specs.Blocks.{most_locations}
 use Rattle.dali_write.specs.declared.stage.Task.{Task}
 use Rattle.dali_write.specs.declared.stage.Task.TheVariants.{Reading, ReadingBlock}
 use Rattle.dali_write.specs.Plans.{Plan}
-use Rattle.dali_write.specs.Stages.{plan_of}
+use Rattle.dali_write.specs.declared.ask.Cause.{Cause}
+use Rattle.dali_write.specs.Causes.{cause_after}
+use Rattle.dali_write.specs.Stages.{plan_of, updates_for}
 use Rattle.dali_write.specs.Tries.{Stands}
 
 -- the bytes that an access has read
@@ -35,15 +37,23 @@ abbrev pub kept_after : Task → List ℕ → List ℕ → List ℕ
 kept_after task bytes more = if keeps task then bytes ++ more else bytes
 
 -- What was told is whole accesses with these outcomes, then missed tries of the access at hand, then the try at hand,
--- which has read so many bytes; and what the session keeps are those that the whole accesses read, in their order.
+-- which has read so many bytes; and what the session keeps are those that the whole accesses read, in their order, and
+-- why it comes to no good end.
 pub record StandsWith (task : Task) (unit : ℕ) (told : List Exchange) (now : Plan) (misses : ℕ) (left : List Request)
-    (tried bytes : List ℕ) : Type 0 where
+    (tried bytes : List ℕ) (cause : Option Cause) : Type 0 where
   pub outcomes : List (Option (List ℕ))
   pub stands : Stands unit (plan_of task) outcomes told now misses left tried
   pub bytes_are : bytes ≡ (if keeps task then found outcomes else [])
+  pub cause_is : cause ≡ cause_after (updates_for task) (plan_of task) outcomes
 
 -- what a session keeps after these exchanges
 abbrev pub ReadsSoFar : Task → ℕ → List Exchange → List ℕ → Type 0
 ReadsSoFar task unit told bytes =
-    (now : Plan) × (misses : ℕ) × (left : List Request) × (tried : List ℕ)
-    × StandsWith task unit told now misses left tried bytes
+    (now : Plan) × (misses : ℕ) × (left : List Request) × (tried : List ℕ) × (cause : Option Cause)
+    × StandsWith task unit told now misses left tried bytes cause
+
+-- why it comes to no good end, as far as these tell
+abbrev pub IsCause : Task → ℕ → List Exchange → Option Cause → Type 0
+IsCause task unit told cause =
+    (now : Plan) × (misses : ℕ) × (left : List Request) × (tried : List ℕ) × (bytes : List ℕ)
+    × StandsWith task unit told now misses left tried bytes cause

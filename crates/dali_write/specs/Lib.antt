@@ -3,6 +3,7 @@ pub mod Requests
 pub mod Frames
 pub mod Plans
 pub mod Tries
+pub mod Causes
 pub mod Found
 pub mod FramesLeft
 pub mod Told

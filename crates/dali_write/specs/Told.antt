@@ -5,6 +5,7 @@ use Rattle.dali_write.specs.declared.block.Block.{Block}
 use Rattle.dali_write.specs.declared.pace.Pace.{Pace}
 use Rattle.dali_write.specs.declared.request.Request.{Request}
 use Rattle.dali_write.specs.declared.ask.Ask.{Ask}
+use Rattle.dali_write.specs.declared.ask.Cause.{Cause}
 use Rattle.dali_bank.specs.Order.{Contents}
 use Rattle.dali_write.specs.declared.stage.Task.{Task}
 use Rattle.dali_write.specs.declared.stage.Task.TheVariants.{Fresh, Opened, Closing, ReadingBlock}
@@ -23,6 +24,10 @@ task_of s = s.task
 
 abbrev pub bytes_read : Session → List ℕ
 bytes_read s = s.bytes.items
+
+-- why it comes to no good end
+abbrev pub cause_of : Session → Option Cause
+cause_of s = s.cause
 
 -- The session looks whether the order suits its unit; it carries the order out; it closes the unit; it reads the block.
 abbrev pub IsFresh : Contents → Pace → Session → Type 0
@@ -54,7 +59,7 @@ BeginsTry s = (s.misses ≡ 0) × (s.number ≡ 0) × (s.tried.items ≡ [])
 unfoldable pub Told : List Exchange → Session → Type 0
 Told told s =
     StandsWith s.task s.unit told (plan_at s.task s.stage) s.misses
-    (drop s.number (plan_requests s.unit (plan_at s.task s.stage) s.misses)) s.tried.items s.bytes.items
+    (drop s.number (plan_requests s.unit (plan_at s.task s.stage) s.misses)) s.tried.items s.bytes.items s.cause
 
 -- the most frames that are still to come: those from the stage on, less those of the access at hand that its tries so
 -- far used up, each of them as long as one behind a miss

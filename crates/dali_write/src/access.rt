@@ -2,7 +2,9 @@ ghost use Rattle.std.specs.Prelude.{◌≡◌, ◌≤◌, slice_get, IfSome, All
 ghost use Rattle.dali_frame.specs.Frame.{IsProper};
 ghost use Rattle.dali_write.specs.Requests.{select_requests, put_requests, write_requests};
 ghost use Rattle.dali_write.specs.Requests.{access_requests};
+ghost use Rattle.dali_write.specs.Causes.{failure};
 
+use crate::ask::Cause;
 use crate::block::Block;
 use crate::request::{Request, Wish};
 use dali_frame::Frame;
@@ -17,6 +19,18 @@ pub(crate) enum Access {
 }
 
 impl Access {
+    // Why a session ends of which this access failed.
+    pub(crate) fn failure(self) -> Cause
+        ensures { result ≡ failure self }
+    {
+        match self {
+            Access::ReadFrom(block) => Cause::Unread(block.location),
+            Access::WriteTo(location, _) | Access::WriteOn(location, _) => Cause::Unwritten(
+                location,
+            ),
+        }
+    }
+
     // The frame of a try of this access behind so many that missed that has a number, counted from 0.
     pub(crate) fn request(self, unit: u8, misses: u8, number: usize) -> Option<Request>
         ensures request { result ≡ slice_get (access_requests unit self misses) number }

@@ -28,6 +28,17 @@ pub enum Verdict {
     Read,
 }
 
+/// Why a session came to no good end (profile): its first access that failed, or that read another byte back.
+#[derive(Clone, Copy, Debug, PartialEq, Eq, Hash)]
+pub enum Cause {
+    /// Each try of a read missed: of the location, or of the row of locations that begins there.
+    Unread(u8),
+    /// Each try of the write to the location missed.
+    Unwritten(u8),
+    /// At the location another byte was read back than the one that was written.
+    Another(u8, u8),
+}
+
 /// What a session wants (profile).
 #[derive(Clone, Copy, Debug, PartialEq, Eq, Hash)]
 pub enum Ask {

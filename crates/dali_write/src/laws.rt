@@ -1,7 +1,9 @@
 //! Laws of checked accesses and sessions. Each is the contract of a function that does nothing.
 ghost use Rattle.std.specs.Prelude.{◌↔◌, ◌≡◌, ◌≢◌, ◌∷◌, ◌≤◌, ◌<◌, ◌⊎◌, ◌+◌, ◌*◌, List, [], length, slice_get, Some, ℕ};
-ghost use Rattle.std.specs.Prelude.{Option, false};
-ghost use Rattle.dali_write.specs.Found.{ReadsSoFar, keeps};
+ghost use Rattle.std.specs.Prelude.{Option, IsSome, false};
+ghost use Rattle.dali_write.specs.Found.{ReadsSoFar, IsCause, keeps};
+ghost use Rattle.dali_write.specs.Causes.{IsShown};
+ghost use Rattle.dali_write.specs.declared.ask.Cause.{Cause};
 ghost use Rattle.dali_write.specs.declared.block.Block.{Block};
 ghost use Rattle.dali_frame.specs.declared.forward.Frame.{Frame};
 ghost use Rattle.dali_frame.specs.declared.forward.Frame.TheVariants.{Write};
@@ -17,8 +19,9 @@ ghost use Rattle.dali_write.specs.declared.pace.Pace.{Pace};
 ghost use Rattle.dali_write.specs.Tries.{Wants};
 ghost use Rattle.dali_write.specs.Verdicts.{Says, ShowsBank, EndsFresh, EndsOpened, EndsClosing, EndsReading};
 ghost use Rattle.dali_write.specs.declared.stage.Task.{Task};
-ghost use Rattle.dali_write.specs.Stages.{plan_of};
-ghost use Rattle.dali_write.specs.Told.{Told, unit_of, task_of, bytes_read, aim_of, IsReadingBlock};
+ghost use Rattle.dali_write.specs.Stages.{plan_of, updates_for};
+ghost use Rattle.dali_write.specs.Told.{Told, unit_of, task_of, bytes_read, cause_of, aim_of, IsReadingBlock};
+ghost use Rattle.dali_write.specs.Told.{IsFresh, IsOpened};
 ghost use Rattle.dali_write.specs.Frames.{read_frames, write_frames, format_frames, try_frames};
 ghost use Rattle.dali_write.specs.Counts.{done_frames, frame_limit};
 ghost use Rattle.dali_gear.specs.SimState.{SimState, SimStep, AreApart, world_of};
@@ -323,6 +326,19 @@ pub fn doubts_have_a_cause()
         → Wants unit (unlock pace updates) told (Ask.Ended Verdict.Doubt)
         → HasFailed unit told
         ⊎ FoundAnother unit (unlock pace updates) (rows_of (most_of pace) (read_backs updates)) told }
+{}
+
+/// What a session tells as the cause is what it was told: each try of an access missed, or a read told another byte than
+/// has to be there. A session that carries an order out and doesn't end as `Done`, and a fresh one that ends as
+/// `Silent`, tell one.
+pub fn causes_are_told()
+    ensures shown { (task : Task) (unit : ℕ) (told : List Exchange) (cause : Cause)
+        → IsCause task unit told (Some cause) → IsShown unit (updates_for task) told cause }
+    ensures opened { (order : Contents) (pace : Pace) (told : List Exchange) (s : Session) (verdict : Verdict)
+        → IsOpened order pace s → Told told s → aim_of s ≡ Ask.Ended verdict → verdict ≢ Verdict.Done
+        → IsSome (cause_of s) }
+    ensures fresh { (order : Contents) (pace : Pace) (told : List Exchange) (s : Session)
+        → IsFresh order pace s → Told told s → aim_of s ≡ Ask.Ended Verdict.Silent → IsSome (cause_of s) }
 {}
 
 /// On the simulated bus a checked write that succeeded has stored its byte and nothing else,

@@ -1,7 +1,10 @@
 ghost use Rattle.std.specs.Prelude.{◌≡◌, ◌∷◌, ◌≤◌, ℕ, length, drop, take, map};
 ghost use Rattle.std.specs.Str.{bytes_eq};
 ghost use Rattle.dali_bus.specs.Hears.{up};
-ghost use Rattle.dali_write.specs.Plans.{rows_of};
+ghost use Rattle.dali_write.specs.Plans.{rows_of, read_backs};
+ghost use Rattle.dali_write.specs.Causes.{another, is_wanted};
+
+use crate::ask::Cause;
 
 /// How many of the updates behind a location are in one row with it, where a row has at most so many locations.
 pub(crate) fn others_in_row(most: usize, location: u8, behind: &[(u8, u8)]) -> usize
@@ -30,6 +33,51 @@ pub(crate) fn holds(read: &[u8], byte: u8, others: usize, behind: &[(u8, u8)]) -
             _ => more.is_empty(),
         },
         _ => false,
+    }
+}
+
+/// The first of these bytes, read from a location on, that isn't the one that has to be there behind the writes of these
+/// updates; where each is, the last one.
+pub(crate) fn another(updates: &[(u8, u8)], location: u8, read: &[u8]) -> Cause
+    ensures { result ≡ another (read_backs updates.now) location read.now }
+{
+    match read {
+        [] => Cause::Another(location, 0x00),
+        [byte] => Cause::Another(location, *byte),
+        [byte, more @ ..] => {
+            if is_written(updates, location, *byte) {
+                another(updates, next_to(location), more)
+            } else {
+                Cause::Another(location, *byte)
+            }
+        }
+    }
+}
+
+// Whether the byte has to be at the location behind the writes of these updates: the lock byte is FFh.
+fn is_written(updates: &[(u8, u8)], location: u8, byte: u8) -> bool
+    ensures { result ≡ is_wanted (read_backs updates.now) location byte }
+{
+    if location == 0x02 {
+        byte == 0xFF
+    } else {
+        is_update(updates, location, byte)
+    }
+}
+
+// Whether the first of these updates at a location has this byte.
+fn is_update(updates: &[(u8, u8)], location: u8, byte: u8) -> bool
+    ensures { result ≡ is_wanted updates.now location byte }
+{
+    match updates {
+        [] => false,
+        [(at, own), more @ ..] => {
+            if *at == location {
+                *own == byte
+            } else {
+                is_update(more, location, byte)
+            }
+        }
     }
 }
 

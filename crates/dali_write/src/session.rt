@@ -12,10 +12,11 @@ ghost use Rattle.dali_write.specs.declared.ask.Verdict.{Verdict};
 ghost use Rattle.dali_write.specs.declared.stage.Task.{Task};
 ghost use Rattle.dali_write.specs.Stages.{plan_of, order_for, plan_at, access_of};
 ghost use Rattle.dali_write.specs.Found.{kept_after, is_small};
+ghost use Rattle.dali_write.specs.Causes.{first_of};
 ghost use Rattle.dali_write.specs.FramesLeft.{limit_at};
 ghost use Rattle.dali_write.specs.Counts.{fresh_limit, opened_limit, closing_limit, reading_limit};
 
-use crate::ask::{Ask, Verdict};
+use crate::ask::{Ask, Cause, Verdict};
 use crate::block::Block;
 use crate::pace::Pace;
 use crate::request::Request;
@@ -52,6 +53,8 @@ pub struct Session {
     tried: ArrayVec<u8, MOST_FRAMES>,
     // what a reading session has read so far
     bytes: ArrayVec<u8, 255>,
+    // why it comes to no good end
+    cause: Option<Cause>,
     ghost short: { unit ≤ 63 },
     ghost few: { misses < most_tries },
     ghost going: { IsGoing (plan_at task stage) (drop number (plan_requests unit (plan_at task stage) misses)) },
@@ -61,7 +64,8 @@ pub struct Session {
 }
 
 impl Session {
-    ghost use Rattle.dali_write.specs.Told.{Told, unit_of, task_of, bytes_read, aim_of, request_at_hand, frames_left};
+    ghost use Rattle.dali_write.specs.Told.{Told, unit_of, task_of, bytes_read, cause_of, aim_of, request_at_hand};
+    ghost use Rattle.dali_write.specs.Told.{frames_left};
     ghost use Rattle.dali_write.specs.Told.{BeginsTry};
 
     /// Looks whether bank 1 of the order's unit suits the order: its last location, and the content
@@ -144,6 +148,7 @@ impl Session {
             number: 0,
             tried: ArrayVec::new(),
             bytes: ArrayVec::new(),
+            cause: None,
         }
     }
 
@@ -188,6 +193,14 @@ impl Session {
         ensures few { length result.now ≤ 255 }
     {
         self.bytes.as_slice()
+    }
+
+    /// Why the session comes to no good end, as far as it was told: its first access that failed, or that read another
+    /// byte back than the one that was written. None where all went well so far.
+    pub fn cause(&self) -> Option<Cause>
+        ensures { result ≡ cause_of self.now }
+    {
+        self.cause
     }
 
     /// Tells the session the answer to the frame that it wanted. A session that has ended is as it
@@ -244,6 +257,7 @@ impl Session {
             self.number += 1;
         } else {
             keep_read(&mut self.bytes, &self.task, &self.tried);
+            keep_cause(&mut self.cause, self.stage.another(&self.task, &self.tried));
             self.stage = self.stage.told(&self.task, &self.tried);
             self.misses = 0;
             self.number = 0;
@@ -265,6 +279,7 @@ impl Session {
             self.number = 0;
             self.tried.clear();
         } else {
+            keep_cause(&mut self.cause, self.stage.failure(&self.task));
             self.stage = self.stage.failed(&self.task);
             self.misses = 0;
             self.number = 0;
@@ -281,6 +296,15 @@ fn keep_answer(tried: &mut ArrayVec<u8, MOST_FRAMES>, frame: &Frame, answer: Opt
 {
     if let (Frame::Read(_), Some(byte)) = (frame, answer) {
         let _fits = tried.try_push(byte);
+    }
+}
+
+// Keeps the first cause that there is.
+fn keep_cause(kept: &mut Option<Cause>, cause: Option<Cause>)
+    ensures { kept.new ≡ first_of kept.old cause }
+{
+    if kept.is_none() {
+        *kept = cause;
     }
 }
 

@@ -9,12 +9,13 @@ ghost use Rattle.dali_write.specs.declared.access.Access.{Access};
 ghost use Rattle.dali_write.specs.declared.stage.Task.{Task};
 ghost use Rattle.dali_write.specs.Stages.{plan_at, access_of, updates_for, pace_for};
 ghost use Rattle.dali_write.specs.FramesLeft.{limit_at, read_limit};
+ghost use Rattle.dali_write.specs.Causes.{cause_by};
 
 use crate::access::Access;
-use crate::ask::Verdict;
+use crate::ask::{Cause, Verdict};
 use crate::block::Block;
 use crate::pace::Pace;
-use crate::row::{holds, others_in_row};
+use crate::row::{another, holds, others_in_row};
 use dali_bank::Order;
 
 /// What a session is for.
@@ -228,6 +229,28 @@ impl Stage {
             Stage::ReadOn(location, last) if location < last => Stage::ReadOn(location + 1, last),
             Stage::ReadOn(_, _) | Stage::ReadBlock => Stage::Over(Verdict::Read),
             Stage::Over(_) => self,
+        }
+    }
+
+    // Why the session gives up behind this stage, where it does: its access read these bytes.
+    pub(crate) fn another(self, task: &Task, read: &[u8]) -> Option<Cause>
+        ensures { result ≡ cause_by (updates_for task.now) (plan_at task.now self) (Some read.now) }
+    {
+        match (self.access(task), self.told(task, read).access(task)) {
+            (Ok(Access::ReadFrom(block)), Ok(Access::WriteTo(_, _) | Access::WriteOn(_, _))) => {
+                Some(another(task.updates(), block.location, read))
+            }
+            _ => None,
+        }
+    }
+
+    // The same where its access failed.
+    pub(crate) fn failure(self, task: &Task) -> Option<Cause>
+        ensures { result ≡ cause_by (updates_for task.now) (plan_at task.now self) None }
+    {
+        match self.access(task) {
+            Ok(access) => Some(access.failure()),
+            Err(_) => None,
         }
     }
 

@@ -104,7 +104,8 @@ returns-else-not-keep-clause-worked g c = record {
         said = Appends-nil (g.D.Desk.look c.args.desk.now).streams.out;
         told_all =
             c.see.ensures start since past told
-            (stands_so start (Kept c.in-Keep.entry ∷ past) _ _ described c.journal.ensures);
+            (stands_so start (Kept c.in-Keep.entry ∷ past) _ _ described c.journal.ensures)
+            (c.cause-cause.ensures start past c.in-Keep.entry d.described d.follows (sym c.in-Keep.ensures.phase));
       });
   ends = search rules;
   grown = search rules;
@@ -129,7 +130,7 @@ returns-in-Ok-clause-worked g c = record {
         said = Appends-nil (g.D.Desk.look c.args.desk.now).streams.out;
         told_all =
             c.see-in-Send.ensures start since past told
-            (stands_so start (Sent frame answer ∷ past) _ _ described c.journal-in-Send.ensures);
+            (stands_so start (Sent frame answer ∷ past) _ _ described c.journal-in-Send.ensures) refl;
       });
   ends = search rules;
   grown = search rules;
@@ -159,7 +160,7 @@ returns-else-not-say-clause-worked g c = record {
             (c.deref-in-Say.ensures.0 ∙ c.reply_line.ensures) (c.if-not-say.ensures.whole refl);
         told_all =
             c.see-in-Say.ensures start since past told
-            (stands_so start (said ∷ past) _ _ described c.journal-in-Say.ensures);
+            (stands_so start (said ∷ past) _ _ described c.journal-in-Say.ensures) refl;
       });
   ends = search rules;
   grown = search rules;

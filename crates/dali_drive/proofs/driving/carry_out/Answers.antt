@@ -53,7 +53,7 @@ returns-then-not-say-clause-worked g c = record {
         left = λ d left. settled_between _ _ left.0 d (c.if-not-say.ensures.left d left.1);
         told_all =
             c.see.ensures start since past told
-            (stands_so start _ c.submit.new.self _ described c.journal.ensures);
+            (stands_so start _ c.submit.new.self _ described c.journal.ensures) refl;
       });
   ends = search rules;
   grown = search rules;
@@ -69,10 +69,10 @@ returns-clause-worked g c = record {
       c.deref.ensures.0 ∙ c.reply_line.ensures ∙ ap (λ (n : ℕ). reply_line n c.in-Ok.reply) c.id-id.ensures in
       let said = subst (Appends _ _) line (c.if-not-say.ensures.whole refl) in
       let asked = c.see.ensures start since past told
-      (stands_so start _ c.submit.new.self _ described c.journal.ensures) in
+      (stands_so start _ c.submit.new.self _ described c.journal.ensures) refl in
       let answered =
       rw c.id-id.ensures at (c.see-2.ensures start since _ asked
-      (stands_so start _ c.submit.new.self _ described c.journal-2.ensures)) in
+      (stands_so start _ c.submit.new.self _ described c.journal-2.ensures) refl) in
       let d_next =
       subst (λ (s : Streams). IsDrivenAt start (Answered order.id c.in-Ok.reply ∷ Asked order c.args.moment ∷ past)
       c.submit.new.self first s) (sym c.if-not-say.ensures.only)

@@ -1,4 +1,4 @@
-use Rattle.std.proofs.Common.{◌+◌, ◌*◌, ◌≡◌, length, arith}
+use Rattle.std.proofs.Common.{arith}
 use Rattle.dali_write.specs.Plans.{rows_of, read_backs}
 use Rattle.dali_write.proofs.RowLemmas.{rows_count, rows_frames_are, rows_alone}
 use Rattle.dali_write.proofs.laws.counts_are_these.Goals as goal

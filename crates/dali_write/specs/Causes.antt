@@ -1,0 +1,74 @@
+-- Why a session came to no good end: its first access that failed, or behind which it gave up, since another byte was
+-- read back.
+use Rattle.std.specs.Prelude.{◌≡◌, ◌⊎◌, ℕ, Bool, true, false, ◌==◌, List, [], ◌∷◌, ◌++◌, Option, Some, None, if◌then◌else◌}
+use Rattle.dali_bus.specs.Hears.{up}
+use Rattle.dali_write.specs.declared.access.Access.{Access}
+use Rattle.dali_write.specs.declared.access.Access.TheVariants.{ReadFrom, WriteTo, WriteOn}
+use Rattle.dali_write.specs.declared.ask.Cause.{Cause}
+use Rattle.dali_write.specs.declared.ask.Cause.TheVariants.{Unread, Unwritten, Another}
+use Rattle.dali_write.specs.declared.block.Block.{Block}
+use Rattle.dali_write.specs.Exchanges.{Exchange}
+use Rattle.dali_write.specs.Requests.{access_requests}
+use Rattle.dali_write.specs.Plans.{Plan, Make, plan_after, read_backs}
+use Rattle.dali_write.specs.Tries.{Succeeds}
+use Rattle.dali_write.specs.Doubts.{HasFailed}
+
+-- the access failed
+abbrev pub failure : Access → Cause
+failure (ReadFrom block) = Unread block.location
+failure (WriteTo location byte) = Unwritten location
+failure (WriteOn location byte) = Unwritten location
+
+-- the byte is the one that has to be there
+abbrev pub is_wanted : List (ℕ × ℕ) → ℕ → ℕ → Bool
+is_wanted [] location byte = false
+is_wanted (own ∷ wanted) location byte =
+    if own.0 == location then own.1 == byte else is_wanted wanted location byte
+
+-- the first of the bytes, read from a location on, that isn't the one that has to be there; where each is, the last one
+abbrev pub another : List (ℕ × ℕ) → ℕ → List ℕ → Cause
+another wanted location [] = Another location 0
+another wanted location (byte ∷ []) = Another location byte
+another wanted location (byte ∷ next ∷ bytes) =
+    if is_wanted wanted location byte then another wanted (up location) (next ∷ bytes) else Another location byte
+
+-- behind a read the session goes on by a write only where it gives up
+abbrev pub is_write : Plan → Bool
+is_write (Make (WriteTo location byte) after) = true
+is_write (Make (WriteOn location byte) after) = true
+is_write plan = false
+
+abbrev pub cause_by : List (ℕ × ℕ) → Plan → Option (List ℕ) → Option Cause
+cause_by updates (Make access after) None = Some (failure access)
+cause_by updates (Make (ReadFrom block) after) (Some bytes) =
+    if is_write (after (Some bytes)) then Some (another (read_backs updates) block.location bytes) else None
+cause_by updates plan outcome = None
+
+-- the first of two causes
+abbrev pub first_of : Option Cause → Option Cause → Option Cause
+first_of None later = later
+first_of (Some cause) later = Some cause
+
+-- after these outcomes, the newest first
+abbrev pub cause_after : List (ℕ × ℕ) → Plan → List (Option (List ℕ)) → Option Cause
+cause_after updates plan [] = None
+cause_after updates plan (outcome ∷ outcomes) =
+    first_of (cause_after updates plan outcomes) (cause_by updates (plan_after plan outcomes) outcome)
+
+-- ---- what a cause says of the exchanges
+
+-- a block was read, and its bytes have another one among them
+pub record ReadAnother (unit : ℕ) (updates : List (ℕ × ℕ)) (told : List Exchange) (cause : Cause) : Type 0 where
+  pub newer : List Exchange
+  pub read : List Exchange
+  pub older : List Exchange
+  pub parts : told ≡ newer ++ (read ++ older)
+  pub block : Block
+  pub bytes : List ℕ
+  pub answered : Succeeds (access_requests unit (ReadFrom block)) (Some bytes) read
+  pub is : cause ≡ another (read_backs updates) block.location bytes
+
+-- or each try of an access missed
+abbrev pub IsShown : ℕ → List (ℕ × ℕ) → List Exchange → Cause → Type 0
+IsShown unit updates told cause =
+    ((failed : HasFailed unit told) × (cause ≡ failure failed.access)) ⊎ ReadAnother unit updates told cause

@@ -136,7 +136,8 @@ static REPORTS: [Reported<'static>; 8] = [
         answers: NONE_16,
         required: Required::Nothing,
         status: Status::Good,
-        report: "{\"code\":3,\"ended\":\"now\",\"frames\":16,\"misses\":8,\"moment\":7,\
+        report: "{\"cause\":{\"byte\":null,\"location\":0,\"was\":\"unread\"},\
+            \"code\":3,\"ended\":\"now\",\"frames\":16,\"misses\":8,\"moment\":7,\
             \"name\":\"Silent\",\"order\":1,\"reply\":\"kept 3 Silent\",\"run\":1,\"unit\":9}\n",
     },
     Reported {
@@ -146,7 +147,8 @@ static REPORTS: [Reported<'static>; 8] = [
         answers: NONE_16,
         required: Required::Done,
         status: Status::Refused,
-        report: "{\"code\":3,\"ended\":\"now\",\"frames\":16,\"misses\":8,\"moment\":7,\
+        report: "{\"cause\":{\"byte\":null,\"location\":0,\"was\":\"unread\"},\
+            \"code\":3,\"ended\":\"now\",\"frames\":16,\"misses\":8,\"moment\":7,\
             \"name\":\"Silent\",\"order\":1,\"reply\":\"kept 3 Silent\",\"run\":1,\"unit\":9}\n",
     },
     Reported {
@@ -156,7 +158,7 @@ static REPORTS: [Reported<'static>; 8] = [
         answers: "",
         required: Required::Nothing,
         status: Status::Good,
-        report: "{\"code\":3,\"ended\":\"before\",\"frames\":0,\"misses\":0,\"moment\":0,\
+        report: "{\"cause\":null,\"code\":3,\"ended\":\"before\",\"frames\":0,\"misses\":0,\"moment\":0,\
             \"name\":\"Silent\",\"order\":1,\"reply\":\"kept 3 Silent\",\"run\":1,\"unit\":9}\n",
     },
     Reported {
@@ -166,9 +168,10 @@ static REPORTS: [Reported<'static>; 8] = [
         answers: NONE_16,
         required: Required::Nothing,
         status: Status::Good,
-        report: "{\"code\":3,\"ended\":\"now\",\"frames\":16,\"misses\":8,\"moment\":0,\
+        report: "{\"cause\":{\"byte\":null,\"location\":0,\"was\":\"unread\"},\
+            \"code\":3,\"ended\":\"now\",\"frames\":16,\"misses\":8,\"moment\":0,\
             \"name\":\"Silent\",\"order\":1,\"reply\":\"kept 3 Silent\",\"run\":1,\"unit\":9}\n\
-            {\"code\":3,\"ended\":\"now\",\"frames\":0,\"misses\":0,\"moment\":0,\
+            {\"cause\":null,\"code\":3,\"ended\":\"now\",\"frames\":0,\"misses\":0,\"moment\":0,\
             \"name\":\"Silent\",\"order\":1,\"reply\":\"kept 3 Silent\",\"run\":1,\"unit\":9}\n",
     },
     Reported {
@@ -178,7 +181,7 @@ static REPORTS: [Reported<'static>; 8] = [
         answers: "",
         required: Required::Done,
         status: Status::Refused,
-        report: "{\"code\":null,\"ended\":null,\"frames\":0,\"misses\":0,\"moment\":0,\
+        report: "{\"cause\":null,\"code\":null,\"ended\":null,\"frames\":0,\"misses\":0,\"moment\":0,\
             \"name\":null,\"order\":1,\"reply\":\"reused\",\"run\":1,\"unit\":8}\n",
     },
     Reported {

@@ -29,8 +29,8 @@ pub trait Observer {
     fn begin(&mut self, journal: &Journal)
         ensures { (start : Start) → start.records ≡ journal.now.records → told start self.old self.new [] };
 
-    /// This happened, and the journal stands so after it. Beside a record that was kept it is told why the order comes to
-    /// no good end, if it does.
+    /// This happened, and the journal stands so after it. Beside a record that was kept it is told why the order comes
+    /// to no good end, if it does.
     fn see(&mut self, happening: &Happening, journal: &Journal, cause: Option<Cause>)
         ensures { (start : Start) (first : Self) (past : List Happening) → told start first self.old past
             → records_of start (happening.now ∷ past) ≡ journal.now.records

@@ -73,7 +73,8 @@ caused pace start past journal (Writes order s) d f ready =
 check_ill : (pace : Pace) (order : Contents) (told : List Exchange) (s : Session) (entry : Record) (verdict : Verdict)
     → IsFresh order pace s → Told told s → aim_of s ≡ asks.Ended verdict → EndsFresh verdict
     → check_record order.unit verdict ≡ entry → is_ill entry ≡ true → IsSome (cause_of s)
-check_ill pace order told s entry verdicts.Silent is was aim ends same ill = fresh_has_cause order pace told s is was aim
+check_ill pace order told s entry verdicts.Silent is was aim ends same ill =
+    fresh_has_cause order pace told s is was aim
 check_ill pace order told s entry verdicts.MayOpen is was aim ends same ill = cc
 check_ill pace order told s entry verdicts.Short is was aim ends same ill = cc
 check_ill pace order told s entry verdicts.Format is was aim ends same ill = cc

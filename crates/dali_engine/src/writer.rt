@@ -146,9 +146,9 @@ impl Writer {
         self.phase.want()
     }
 
-    /// Why the order at hand comes to no good end, as far as its session was told: its first access that failed, or that
-    /// read another byte back than the one that was written. None where all went well so far, or no order is at work; some
-    /// where it ends as `Silent`, `Doubt` or `DoubtOpen`.
+    /// Why the order at hand comes to no good end, as far as its session was told: its first access that failed, or
+    /// that read another byte back than the one that was written. None where all went well so far, or no order is at
+    /// work; some where it ends as `Silent`, `Doubt` or `DoubtOpen`.
     pub fn cause(&self) -> Option<Cause>
         ensures { (start : Start) (past : List Happening) (entry : Record) → Describes start past self.now
             → Follows start past self.now → want_of self.now.phase ≡ Want.Keep entry

@@ -58,7 +58,8 @@ ended_one unit block verdict told (Finish v) misses left tried bytes cause w ask
     let same : v ≡ verdict = cc in
     let all = ended_told told s.tried s.missed s.ended left misses s.parts s.try s.misses_are in
     rw all (one unit block verdict s.ended w.outcomes bytes s.accesses (s.now_is ∙ ap Finish same) w.bytes_are)
-ended_one unit block verdict told (Make access after) misses [] tried bytes cause w ask = let none = w.stands.going in cc
+ended_one unit block verdict told (Make access after) misses [] tried bytes cause w ask =
+    let none = w.stands.going in cc
 ended_one unit block verdict told (Make access after) misses (next ∷ left) tried bytes cause w ask = cc
 
 told_one : (told : List Exchange) (s : Session) (unit : ℕ) (block : Block) (verdict : Verdict) → Told told s

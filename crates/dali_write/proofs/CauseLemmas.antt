@@ -33,7 +33,8 @@ use Rattle.dali_write.proofs.PlanLemmas.{if_all}
 abbrev EndsWell : List (ℕ × ℕ) → (Verdict → Type 0) → Plan → Type 0
 EndsWell updates P (Finish verdict) = P verdict
 EndsWell updates P (Make access after) =
-    (outcome : Option (List ℕ)) → cause_by updates (Make access after) outcome ≡ None → EndsWell updates P (after outcome)
+    (outcome : Option (List ℕ)) → cause_by updates (Make access after) outcome ≡ None
+    → EndsWell updates P (after outcome)
 
 neither : (one other : Option Cause) → first_of one other ≡ None → (one ≡ None) × (other ≡ None)
 neither None other none = (refl, none)
@@ -232,8 +233,8 @@ shown_now unit updates (Make (WriteTo location byte) after) (Some bytes) newer o
 shown_now unit updates (Make (WriteOn location byte) after) (Some bytes) newer older cause ends is = cc
 
 -- the first of them is the cause, or else the newest access is
-shown_first : (unit : ℕ) (updates : List (ℕ × ℕ)) (plan : Plan) (outcome : Option (List ℕ)) (newer older : List Exchange)
-    (first : Option Cause) (cause : Cause)
+shown_first : (unit : ℕ) (updates : List (ℕ × ℕ)) (plan : Plan) (outcome : Option (List ℕ))
+    (newer older : List Exchange) (first : Option Cause) (cause : Cause)
     → (first ≡ Some cause → IsShown unit updates older cause) → AccessEnds unit plan outcome newer
     → first_of first (cause_by updates plan outcome) ≡ Some cause → IsShown unit updates (newer ++ older) cause
 shown_first unit updates plan outcome newer older (Some one) cause before ends is =

@@ -328,8 +328,8 @@ pub fn doubts_have_a_cause()
         ⊎ FoundAnother unit (unlock pace updates) (rows_of (most_of pace) (read_backs updates)) told }
 {}
 
-/// What a session tells as the cause is what it was told: each try of an access missed, or a read told another byte than
-/// has to be there. A session that carries an order out and doesn't end as `Done`, and a fresh one that ends as
+/// What a session tells as the cause is what it was told: each try of an access missed, or a read told another byte
+/// than has to be there. A session that carries an order out and doesn't end as `Done`, and a fresh one that ends as
 /// `Silent`, tell one.
 pub fn causes_are_told()
     ensures shown { (task : Task) (unit : ℕ) (told : List Exchange) (cause : Cause)

@@ -36,8 +36,8 @@ pub(crate) fn holds(read: &[u8], byte: u8, others: usize, behind: &[(u8, u8)]) -
     }
 }
 
-/// The first of these bytes, read from a location on, that isn't the one that has to be there behind the writes of these
-/// updates; where each is, the last one.
+/// The first of these bytes, read from a location on, that isn't the one that has to be there behind the writes of
+/// these updates; where each is, the last one.
 pub(crate) fn another(updates: &[(u8, u8)], location: u8, read: &[u8]) -> Cause
     ensures { result ≡ another (read_backs updates.now) location read.now }
 {

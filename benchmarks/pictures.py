@@ -3,13 +3,14 @@
 
 1. Time and peak memory of `dali_bench check` over the size of its input, beside the plain program baseline.py, jq, and
    Python's json alone, which only read the input.
-2. Frames of an order over the number of its updates, on simulated units, with nothing lost and with one answer in
-   twenty lost, beside the most that is proved, whatever is lost.
+2. Frames of an order over the number of its updates, on simulated units, by both plans with nothing lost, and by the
+   checked one with one answer in twenty lost, beside the most that is proved, whatever is lost.
 
 Status 0: all were measured, and each order was done. Status 1: a program ended otherwise. Status 2: none is built.
 """
 
 import json
+import math
 import pathlib
 import subprocess
 import sys
@@ -48,18 +49,19 @@ def scaled(value, most, length):
 
 
 def ticks(most):
-    """Give some five round numbers up to the most."""
-    step = 10 ** (len(str(int(most))) - 1)
-    for part in (0.2, 0.5, 1, 2, 5):
-        if most / (step * part) <= 6:
-            return [it * step * part for it in range(int(most / (step * part)) + 1)]
-    return [0, most]
+    """Give four to seven round numbers from 0 on, the last one the least that isn't below the most."""
+    power = 10 ** math.floor(math.log10(most))
+    steps = [power * part for part in (0.2, 0.25, 0.4, 0.5, 1, 2, 2.5, 4, 5)]
+    found = [(math.ceil(most / step - 1e-9), step) for step in steps]
+    count, step = min((it for it in found if 3 <= it[0] <= 6), key=lambda it: it[0] * it[1])
+    return [it * step for it in range(count + 1)]
 
 
 def drawn(title, across, up, lines):
     """Give a picture: its lines over two axes from 0 on, in colours that stand out on light and on dark."""
-    most_x = max(x for line in lines for x, _ in line.points)
-    most_y = max(y for line in lines for _, y in line.points) * 1.05
+    ticks_x = ticks(max(x for line in lines for x, _ in line.points))
+    ticks_y = ticks(max(y for line in lines for _, y in line.points))
+    most_x, most_y = ticks_x[-1], ticks_y[-1]
     right, height = WIDTH - LEFT - 20, HEIGHT - BELOW - 30
 
     def place(x, y):
@@ -71,12 +73,12 @@ def drawn(title, across, up, lines):
         f'<text x="{LEFT}" y="18" font-size="14">{title}</text>',
         f'<polyline class="axis" points="{place(0, most_y)} {place(0, 0)} {place(most_x, 0)}"/>',
         f'<text x="{WIDTH - 20}" y="{HEIGHT - 10}" text-anchor="end">{across}</text>',
-        f'<text x="{LEFT - 60}" y="34">{up}</text>',
+        f'<text x="{LEFT - 60}" y="18">{up}</text>',
     ]
-    for value in ticks(most_x):
+    for value in ticks_x:
         x, y = place(value, 0).split(",")
         parts.append(f'<text x="{x}" y="{float(y) + 16}" text-anchor="middle">{value:g}</text>')
-    for value in ticks(most_y):
+    for value in ticks_y:
         x, y = place(0, value).split(",")
         parts.append(f'<text x="{float(x) - 6}" y="{float(y) + 4}" text-anchor="end">{value:g}</text>')
     for number, line in enumerate(lines):
@@ -115,10 +117,10 @@ def measured_reading(folder, program, runs):
     return [Line(*it) for it in times.items()], [Line(*it) for it in memories.items()]
 
 
-def frames_of(folder, program, order, fates):
-    """Give how many frames an order takes on a blank simulated unit, where it is done."""
+def frames_of(folder, program, order, fates, plan="checked"):
+    """Give how many frames an order takes by a plan on a blank simulated unit, where it is done."""
     events = [{"submit": {"order": 1, "unit": 5, **order}}, {"steps": 19000}]
-    scenario = {"limit": 1, "units": [{"address": 5}], "fates": fates, "events": events}
+    scenario = {"limit": 1, "plan": plan, "units": [{"address": 5}], "fates": fates, "events": events}
     path = folder / "scenario.json"
     path.write_text(json.dumps(scenario), encoding="utf-8")
     told = subprocess.run([program, "run", path], check=True, capture_output=True, text=True).stdout
@@ -130,9 +132,11 @@ def frames_of(folder, program, order, fates):
 def measured_frames(folder, program):
     """Count the frames of orders; give the lines."""
     lossy = [{"times": 19}, {"answer_lost": True}] * 400
-    found = {"nothing lost": [], "one answer in twenty lost": [], "at most, whatever is lost": []}
+    found = {it: [] for it in ("nothing lost", "nothing lost, short plan", "one answer in twenty lost",
+                               "at most, whatever is lost")}
     for count, order in ORDERS.items():
         found["nothing lost"].append((count, frames_of(folder, program, order, [])))
+        found["nothing lost, short plan"].append((count, frames_of(folder, program, order, [], "short")))
         found["one answer in twenty lost"].append((count, frames_of(folder, program, order, lossy)))
         found["at most, whatever is lost"].append((count, 112 * count + 560))
         print(f"{count} updates: {', '.join(f'{name} {points[-1][1]}' for name, points in found.items())}")

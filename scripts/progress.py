@@ -5,17 +5,18 @@ import time
 
 from crates import ONE_CHECK, free_memory
 
-# Minutes after which each library was done from nothing, on four cores of 2.5 GHz, where nothing else was at work.
+# Minutes after which each library is done from nothing, on four cores, where nothing else is at work: the shares as one
+# run had them, of the 11.3 minutes that another one took.
 DONE_AFTER = {
-    "dali_bank": 1, "dali_frame": 1, "dali_bus": 1.7, "dali_gear": 1.7, "dali_journal": 2.7, "dali_write": 2.7,
-    "dali_job": 2.7, "dali_trace": 3.4, "dali_read": 3.4, "dali_laws": 3.7, "dali_store": 4.4, "dali_engine": 4.9,
-    "dali_text": 6.5, "dali_input": 6.5, "dali_faults": 7.1, "dali_drive": 7.7, "dali_follow": 8.7, "dali_report": 8.7,
-    "dali_notes": 9.9, "dali_link_commands": 10.8, "dali_file_commands": 11.4,
+    "dali_bank": 0.9, "dali_frame": 0.9, "dali_bus": 1.5, "dali_gear": 1.5, "dali_journal": 2.3, "dali_write": 2.3,
+    "dali_job": 2.3, "dali_trace": 3, "dali_read": 3, "dali_laws": 3.2, "dali_store": 3.8, "dali_engine": 4.3,
+    "dali_text": 5.7, "dali_input": 5.7, "dali_faults": 6.2, "dali_drive": 6.7, "dali_follow": 7.6, "dali_report": 7.6,
+    "dali_notes": 8.6, "dali_link_commands": 9.4, "dali_file_commands": 9.9,
 }
 # What the program itself takes behind them.
-PROGRAM_TAKES = 1.6
+PROGRAM_TAKES = 1.4
 # What stands on the disk behind a build from nothing, in bytes.
-DISK = 1_900_000_000
+DISK = 2_100_000_000
 
 
 def shares():
@@ -47,8 +48,8 @@ def needs(libraries, folder):
     """Give what a build takes that has these libraries to prove."""
     disk, memory = needed(DISK, "disk", shutil.disk_usage(folder).free), needed(ONE_CHECK, "memory", free_memory())
     names = "1 library" if len(libraries) == 1 else f"{len(libraries)} libraries"
-    return (f"{names} and the program take {about(minutes_of(libraries))} on four cores of"
-            f" 2.5 GHz, up to {disk} and at least {memory}")
+    return (f"{names} and the program take {about(minutes_of(libraries))} on four cores,"
+            f" up to {disk} and at least {memory}")
 
 
 class Progress:

@@ -25,7 +25,7 @@ RT = '#!/bin/sh\ncase $1 in doc) echo {kit}/START-HERE.md ;; version) echo kit 1
 OUT_OF = 'while [ $# -gt 0 ]; do [ "$1" = -o ] && out=$2; shift; done\n'
 RATTLE = f'#!/bin/sh\n{OUT_OF}echo >"$out"\n'
 LINK = f'#!/bin/sh\n{OUT_OF}printf \'#!/bin/sh\\necho ran\\n\' >"$out"; chmod +x "$out"\n'
-NEEDS = (r"dali_bench: {} and the program take {} on four cores of 2.5 GHz, up to 1.9 GB of disk \(\d+\.\d GB are"
+NEEDS = (r"dali_bench: {} and the program take {} on four cores, up to 2.1 GB of disk \(\d+\.\d GB are"
          r" free\) and at least 4.3 GB of memory \(\d+\.\d GB are free\)")
 IS_PROVED = re.compile(r"dali_bench: (dali_\w+) is proved: (\d+) of 21 libraries, (a|some \d+) minutes? left")
 
@@ -55,20 +55,20 @@ def test_each_library_has_its_minutes(folder):
 
 
 def test_time_that_is_left(folder):
-    # As it was measured: 13 minutes in all.
-    want(told(set(), ("dali_frame", 0.5), ("dali_bank", 1), ("dali_gear", 1.35), ("dali_bus", 1.7))[1:],
-         ["2 of 21 libraries, some 12 minutes left",
-          "3 of 21 libraries, some 12 minutes left", "4 of 21 libraries, some 11 minutes left"])
+    # As it was measured: 11.3 minutes in all, of which these take 1.5.
+    want(told(set(), ("dali_frame", 0.45), ("dali_bank", 0.9), ("dali_gear", 1.2), ("dali_bus", 1.5))[1:],
+         ["2 of 21 libraries, some 10 minutes left",
+          "3 of 21 libraries, some 10 minutes left", "4 of 21 libraries, some 10 minutes left"])
     # On a machine that takes three times as long, and one that takes a tenth.
-    want(told(set(), ("dali_frame", 1.5), ("dali_bank", 3))[1], "2 of 21 libraries, some 36 minutes left")
-    want(told(set(), ("dali_frame", 0.05), ("dali_bank", 0.1))[1], "2 of 21 libraries, a minute left")
+    want(told(set(), ("dali_frame", 1.35), ("dali_bank", 2.7))[1], "2 of 21 libraries, some 31 minutes left")
+    want(told(set(), ("dali_frame", 0.045), ("dali_bank", 0.09))[1], "2 of 21 libraries, a minute left")
 
 
 def test_time_of_what_was_proved_before(folder):
     names = sorted(progress.DONE_AFTER, key=progress.DONE_AFTER.get)
     known = set(names[:-2])
-    lines = told(known, *((name, 0) for name in names[:-2]), (names[-2], 1.8), (names[-1], 3))
-    # 1.5 of link_commands and file_commands, and 1.6 of the program; then twice as slow: 0.6 and 1.6 take 4.4.
+    lines = told(known, *((name, 0) for name in names[:-2]), (names[-2], 1.6), (names[-1], 2.6))
+    # 1.3 of link_commands and file_commands, and 1.4 of the program; then twice as slow: 0.5 and 1.4 take 3.8.
     want([lines[0], lines[18], *lines[19:]],
          ["1 of 21 libraries, some 3 minutes left", "19 of 21 libraries, some 3 minutes left",
           "20 of 21 libraries, some 4 minutes left", "21 of 21 libraries, some 3 minutes left"])
@@ -108,7 +108,7 @@ def test_the_first_command_tells_how_far_it_is(folder):
     first, needs, *proved, last = build(root, environment)
     want((first, last), ("dali_bench: proving and building the program, once for these sources; this takes minutes",
                          "dali_bench: built"))
-    assert re.fullmatch(NEEDS.format("21 libraries", "some 13 minutes"), needs), needs
+    assert re.fullmatch(NEEDS.format("21 libraries", "some 11 minutes"), needs), needs
     found = [IS_PROVED.fullmatch(line) for line in proved]
     assert None not in found, proved
     want(sorted(it[1] for it in found), sorted(progress.DONE_AFTER))

@@ -4,6 +4,7 @@ pub mod PartLemmas
 pub mod FrameLemmas
 pub mod RecordLemmas
 pub mod PromiseLemmas
+pub mod CauseLemmas
 pub mod AppliedLemmas
 pub mod MomentLemmas
 pub mod ReplyLemmas

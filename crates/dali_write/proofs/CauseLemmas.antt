@@ -1,32 +1,37 @@
 -- An end that is no good one has a cause, and what a cause says of the exchanges.
 use Rattle.std.proofs.Common.{◌≡◌, ◌≢◌, ◌∙◌, inl, inr, refl, sym, ap, subst, ℕ, Bool, true, false, nat_lt, ◌==◌, ◌&&◌}
 use Rattle.std.proofs.Common.{if◌then◌else◌, List, [], ◌∷◌, ◌++◌, append_assoc, Option, Some, None, IsSome, get_or}
-use Rattle.std.proofs.Common.{drop}
+use Rattle.std.proofs.Common.{drop, length}
 use Rattle.std.specs.Str.{bytes_eq}
-use Rattle.dali_bank.specs.Order.{Contents}
+use Rattle.dali_bank.specs.Order.{Contents, RisesAbove}
 use Rattle.dali_write.specs.Exchanges.{Exchange}
 use Rattle.dali_write.specs.declared.access.Access.{Access}
 use Rattle.dali_write.specs.declared.access.Access.TheVariants.{ReadFrom, WriteTo, WriteOn}
 use Rattle.dali_write.specs.declared.ask.Ask.TheVariants.{Ended}
 use Rattle.dali_write.specs.declared.ask.Cause.{Cause}
+use Rattle.dali_write.specs.declared.ask.Cause.TheVariants.{Unread, Unwritten, Another}
 use Rattle.dali_write.specs.declared.ask.Verdict.{Verdict}
 use Rattle.dali_write.specs.declared.ask.Verdict.TheVariants.{MayOpen, Done, Short, Format, Silent}
+use Rattle.dali_write.specs.declared.block.Block.{Block}
 use Rattle.dali_write.specs.declared.pace.Pace.{Pace}
 use Rattle.dali_write.specs.declared.pace.Pace.TheVariants.{Checked, Short as ShortPace}
 use Rattle.dali_write.specs.declared.request.Request.{Request}
 use Rattle.dali_write.specs.declared.session.Session.{Session}
 use Rattle.dali_write.specs.declared.stage.Task.{Task}
 use Rattle.dali_write.specs.declared.stage.Task.TheVariants.{Fresh, Opened}
-use Rattle.dali_write.specs.Requests.{block}
+use Rattle.dali_write.specs.Requests.{block, access_requests}
 use Rattle.dali_write.specs.Plans.{Plan, Finish, Make, next_plan, plan_after, either_way, give_up, expect, read_back, rows_of}
 use Rattle.dali_write.specs.Plans.{most_of, read_backs, write_next, write_on, read_all_back, unlock, read_format_low, greatest}
 use Rattle.dali_write.specs.Plans.{read_format, read_length}
 use Rattle.dali_write.specs.Stages.{plan_of, plan_at, updates_for}
-use Rattle.dali_write.specs.Tries.{AccessEnds, AccessesEnd, IsGoing, plan_requests}
+use Rattle.dali_write.specs.Tries.{AccessEnds, AccessesEnd, IsGoing, Misses, Succeeds, bytes_of, most_tries, plan_requests}
+use Rattle.dali_write.specs.Doubts.{HasFailed}
 use Rattle.dali_write.specs.Causes.{another, cause_by, cause_after, failure, first_of, is_write, IsShown}
 use Rattle.dali_write.specs.Found.{StandsWith, IsCause}
 use Rattle.dali_write.specs.Told.{Told, IsFresh, IsOpened, aim_of, cause_of}
 use Rattle.dali_write.proofs.AskLemmas.{shown_ask, ask_shown}
+use Rattle.dali_write.proofs.BlockBytesLemmas.{block_count}
+use Rattle.dali_write.proofs.OtherByteLemmas.{EachBeforeWrite, TellsOther, after_each, task_each}
 use Rattle.dali_write.proofs.PlanLemmas.{if_all}
 
 -- wherever the plan ends with no cause, it ends so
@@ -164,9 +169,10 @@ fresh_has_cause order pace told s is was aim =
 -- ---- what was told
 
 -- it is shown by the older ones
-shown_later : (unit : ℕ) (updates : List (ℕ × ℕ)) (newer older : List Exchange) (cause : Cause)
-    → IsShown unit updates older cause → IsShown unit updates (newer ++ older) cause
-shown_later unit updates newer older cause (inl (failed, is)) = inl (
+failed_later : (unit : ℕ) (newer older : List Exchange) (cause : Cause)
+    → ((failed : HasFailed unit older) × (cause ≡ failure failed.access))
+    → (failed : HasFailed unit (newer ++ older)) × (cause ≡ failure failed.access)
+failed_later unit newer older cause (failed, is) = (
   record {
     newer = newer ++ failed.newer;
     before = failed.before;
@@ -176,47 +182,72 @@ shown_later unit updates newer older cause (inl (failed, is)) = inl (
   },
   is,
 )
-shown_later unit updates newer older cause (inr read) =
-    inr record {
-      newer = newer ++ read.newer;
-      read = read.read;
-      older = read.older;
-      parts = ap (λ (t : List Exchange). newer ++ t) read.parts
-          ∙ sym (append_assoc newer read.newer (read.read ++ read.older));
-      block = read.block;
-      bytes = read.bytes;
-      answered = read.answered;
-      is = read.is;
+
+shown_later : (unit : ℕ) (updates : List (ℕ × ℕ)) (newer older : List Exchange) (cause : Cause)
+    → IsShown unit updates older cause → IsShown unit updates (newer ++ older) cause
+shown_later unit updates newer older (Unread location) failed =
+    failed_later unit newer older (Unread location) failed
+shown_later unit updates newer older (Unwritten location) failed =
+    failed_later unit newer older (Unwritten location) failed
+shown_later unit updates newer older (Another location byte) read = record {
+  newer = newer ++ read.newer;
+  read = read.read;
+  older = read.older;
+  parts = ap (λ (t : List Exchange). newer ++ t) read.parts
+      ∙ sym (append_assoc newer read.newer (read.read ++ read.older));
+  block = read.block;
+  bytes = read.bytes;
+  answered = read.answered;
+  first = read.first;
+}
+
+-- an access that failed is its own cause
+failed_now : (unit : ℕ) (updates : List (ℕ × ℕ)) (access : Access) (newer older : List Exchange)
+    → Misses (access_requests unit access) most_tries newer
+    → IsShown unit updates (newer ++ older) (failure access)
+failed_now unit updates access newer older missed = by access missed
+  where
+    failed : (access : Access) → Misses (access_requests unit access) most_tries newer → HasFailed unit (newer ++ older)
+    failed access missed = record {
+      newer = [];
+      before = newer ++ older;
+      parts = refl;
+      access = access;
+      failure = record { tries = newer; older = older; parts = refl; missed = missed };
     }
+
+    by : (access : Access) → Misses (access_requests unit access) most_tries newer
+        → IsShown unit updates (newer ++ older) (failure access)
+    by (ReadFrom block) missed = (failed (ReadFrom block) missed, refl)
+    by (WriteTo location byte) missed = (failed (WriteTo location byte) missed, refl)
+    by (WriteOn location byte) missed = (failed (WriteOn location byte) missed, refl)
+
+-- a read that came to its end told as many bytes as its block has locations
+read_long : (unit : ℕ) (block : Block) (bytes : List ℕ) (told : List Exchange)
+    → Succeeds (access_requests unit (ReadFrom block)) (Some bytes) told → length bytes ≡ block.count
+read_long unit block bytes told (newer, older, count, parts, try, is, few, missed) =
+    let same : bytes_of newer ≡ bytes = cc in block_count unit block bytes newer (try, same)
 
 -- an access that ended is its own cause
 shown_now : (unit : ℕ) (updates : List (ℕ × ℕ)) (plan : Plan) (outcome : Option (List ℕ)) (newer older : List Exchange)
     (cause : Cause)
-    → AccessEnds unit plan outcome newer → cause_by updates plan outcome ≡ Some cause
-    → IsShown unit updates (newer ++ older) cause
-shown_now unit updates (Finish verdict) outcome newer older cause ends is = absurd ends
-shown_now unit updates (Make access after) None newer older cause (inl done) is = let never = done in cc
-shown_now unit updates (Make access after) None newer older cause (inr failed) is =
-    let same : cause ≡ failure access = cc in
-    inl (
-      record {
-        newer = [];
-        before = newer ++ older;
-        parts = refl;
-        access = access;
-        failure = record { tries = newer; older = older; parts = refl; missed = failed.1 };
-      },
-      same,
-    )
-shown_now unit updates (Make (ReadFrom block) after) (Some bytes) newer older cause (inl done) is =
-    by (is_write (after (Some bytes))) is
+    → EachBeforeWrite (TellsOther updates) plan → AccessEnds unit plan outcome newer
+    → cause_by updates plan outcome ≡ Some cause → IsShown unit updates (newer ++ older) cause
+shown_now unit updates (Finish verdict) outcome newer older cause each ends is = absurd ends
+shown_now unit updates (Make access after) None newer older cause each (inl done) is = let never = done in cc
+shown_now unit updates (Make access after) None newer older cause each (inr failed) is =
+    let same : failure access ≡ cause = cc in
+    subst (IsShown unit updates (newer ++ older)) same (failed_now unit updates access newer older failed.1)
+shown_now unit updates (Make (ReadFrom block) after) (Some bytes) newer older cause each (inl done) is =
+    by (is_write (after (Some bytes))) refl is
   where
-    by : (gives_up : Bool)
+    by : (gives_up : Bool) → is_write (after (Some bytes)) ≡ gives_up
         → (if gives_up then Some (another (read_backs updates) block.location bytes) else None) ≡ Some cause
         → IsShown unit updates (newer ++ older) cause
-    by true same =
-        let is_that : cause ≡ another (read_backs updates) block.location bytes = cc in
-        inr record {
+    by true writes same =
+        let told = (each (Some bytes)).0 writes (read_long unit block bytes newer done) in
+        let is_that : Another told.0 told.1 ≡ cause = cc in
+        subst (IsShown unit updates (newer ++ older)) is_that record {
           newer = [];
           read = newer;
           older = older;
@@ -224,37 +255,40 @@ shown_now unit updates (Make (ReadFrom block) after) (Some bytes) newer older ca
           block = block;
           bytes = bytes;
           answered = done;
-          is = is_that;
+          first = told.3;
         }
-    by false same = cc
-shown_now unit updates (Make (ReadFrom block) after) (Some bytes) newer older cause (inr failed) is =
+    by false writes same = cc
+shown_now unit updates (Make (ReadFrom block) after) (Some bytes) newer older cause each (inr failed) is =
     let never = failed.0 in cc
-shown_now unit updates (Make (WriteTo location byte) after) (Some bytes) newer older cause ends is = cc
-shown_now unit updates (Make (WriteOn location byte) after) (Some bytes) newer older cause ends is = cc
+shown_now unit updates (Make (WriteTo location byte) after) (Some bytes) newer older cause each ends is = cc
+shown_now unit updates (Make (WriteOn location byte) after) (Some bytes) newer older cause each ends is = cc
 
 -- the first of them is the cause, or else the newest access is
 shown_first : (unit : ℕ) (updates : List (ℕ × ℕ)) (plan : Plan) (outcome : Option (List ℕ))
     (newer older : List Exchange) (first : Option Cause) (cause : Cause)
-    → (first ≡ Some cause → IsShown unit updates older cause) → AccessEnds unit plan outcome newer
-    → first_of first (cause_by updates plan outcome) ≡ Some cause → IsShown unit updates (newer ++ older) cause
-shown_first unit updates plan outcome newer older (Some one) cause before ends is =
+    → EachBeforeWrite (TellsOther updates) plan → (first ≡ Some cause → IsShown unit updates older cause)
+    → AccessEnds unit plan outcome newer → first_of first (cause_by updates plan outcome) ≡ Some cause
+    → IsShown unit updates (newer ++ older) cause
+shown_first unit updates plan outcome newer older (Some one) cause each before ends is =
     shown_later unit updates newer older cause (before is)
-shown_first unit updates plan outcome newer older None cause before ends is =
-    shown_now unit updates plan outcome newer older cause ends is
+shown_first unit updates plan outcome newer older None cause each before ends is =
+    shown_now unit updates plan outcome newer older cause each ends is
 
 shown_by : (unit : ℕ) (updates : List (ℕ × ℕ)) (plan : Plan) (outcomes : List (Option (List ℕ)))
     (told : List Exchange) (cause : Cause)
-    → AccessesEnd unit plan outcomes told → cause_after updates plan outcomes ≡ Some cause
-    → IsShown unit updates told cause
-shown_by unit updates plan [] told cause ends is = cc
-shown_by unit updates plan (outcome ∷ outcomes) told cause ends is =
+    → EachBeforeWrite (TellsOther updates) plan → AccessesEnd unit plan outcomes told
+    → cause_after updates plan outcomes ≡ Some cause → IsShown unit updates told cause
+shown_by unit updates plan [] told cause each ends is = cc
+shown_by unit updates plan (outcome ∷ outcomes) told cause each ends is =
     rw ends.2 (shown_first unit updates (plan_after plan outcomes) outcome ends.0 ends.1
-    (cause_after updates plan outcomes) cause (shown_by unit updates plan outcomes ends.1 cause ends.4) ends.3 is)
+    (cause_after updates plan outcomes) cause (after_each (TellsOther updates) plan outcomes each)
+    (shown_by unit updates plan outcomes ends.1 cause each ends.4) ends.3 is)
 
-pub cause_shown : (task : Task) (unit : ℕ) (told : List Exchange) (cause : Cause)
+pub cause_shown : (task : Task) (unit : ℕ) (told : List Exchange) (cause : Cause) → RisesAbove 2 (updates_for task)
     → IsCause task unit told (Some cause) → IsShown unit (updates_for task) told cause
-cause_shown task unit told cause (now, misses, left, tried, bytes, w) =
+cause_shown task unit told cause rises (now, misses, left, tried, bytes, w) =
     let s = w.stands in
     rw s.parts (shown_later unit (updates_for task) s.tried (s.missed ++ s.ended) cause
     (shown_later unit (updates_for task) s.missed s.ended cause
-    (shown_by unit (updates_for task) (plan_of task) w.outcomes s.ended cause s.accesses (sym w.cause_is))))
+    (shown_by unit (updates_for task) (plan_of task) w.outcomes s.ended cause (task_each task rises) s.accesses
+    (sym w.cause_is))))

@@ -7,6 +7,7 @@ use Rattle.std.proofs.lemmas.Bool.{eq-eqb, ne_eqb, eqb-true, eqb-false, lt-ltb, 
 use Rattle.std.proofs.Math.Nat.{min-le_left}
 use Rattle.std.proofs.lemmas.Option.{slice_get-get_or, get_or_from_slice_get}
 use Rattle.dali_bank.specs.Order.{RisesAbove}
+use Rattle.dali_write.proofs.OtherByteLemmas.{has_above}
 use Rattle.dali_bus.specs.World.{Gear}
 use Rattle.dali_gear.specs.UnitState.{BankState, UnitState, is_writable, gear_of}
 use Rattle.dali_gear.specs.SimState.{SimState, AreApart, AreBanks, world_of}
@@ -454,13 +455,6 @@ reading_succeeds loses at unit verdict told first last spared wants =
 -- an opened session
 
 -- the updates have one byte for a location
-has_above : (bound : ℕ) (updates : List (ℕ × ℕ)) (location byte : ℕ) → RisesAbove bound updates
-    → Has updates location byte → bound < location
-has_above bound [] location byte rises has = absurd has
-has_above bound (update ∷ updates) location byte rises (inl here) = grind arith
-has_above bound (update ∷ updates) location byte rises (inr later) =
-    grind (arith, has_above update.0 updates location byte rises.1 later)
-
 one_byte : (bound : ℕ) (updates : List (ℕ × ℕ)) (location one other : ℕ) → RisesAbove bound updates
     → Has updates location one → Has updates location other → one ≡ other
 one_byte bound [] location one other rises has too = absurd has

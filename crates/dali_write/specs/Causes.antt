@@ -1,6 +1,7 @@
 -- Why a session came to no good end: its first access that failed, or behind which it gave up, since another byte was
 -- read back.
-use Rattle.std.specs.Prelude.{◌≡◌, ◌⊎◌, ℕ, Bool, true, false, ◌==◌, List, [], ◌∷◌, ◌++◌, Option, Some, None, if◌then◌else◌}
+use Rattle.std.specs.Prelude.{◌≡◌, ◌≢◌, ℕ, Bool, true, false, ◌==◌, List, [], ◌∷◌, ◌++◌, length, slice_get, Option, Some}
+use Rattle.std.specs.Prelude.{None, if◌then◌else◌}
 use Rattle.dali_bus.specs.Hears.{up}
 use Rattle.dali_write.specs.declared.access.Access.{Access}
 use Rattle.dali_write.specs.declared.access.Access.TheVariants.{ReadFrom, WriteTo, WriteOn}
@@ -8,10 +9,11 @@ use Rattle.dali_write.specs.declared.ask.Cause.{Cause}
 use Rattle.dali_write.specs.declared.ask.Cause.TheVariants.{Unread, Unwritten, Another}
 use Rattle.dali_write.specs.declared.block.Block.{Block}
 use Rattle.dali_write.specs.Exchanges.{Exchange}
-use Rattle.dali_write.specs.Requests.{access_requests}
+use Rattle.dali_write.specs.Requests.{access_requests, moved_on}
 use Rattle.dali_write.specs.Plans.{Plan, Make, plan_after, read_backs}
 use Rattle.dali_write.specs.Tries.{Succeeds}
 use Rattle.dali_write.specs.Doubts.{HasFailed}
+use Rattle.dali_write.specs.Touches.{Has}
 
 -- the access failed
 abbrev pub failure : Access → Cause
@@ -57,8 +59,21 @@ cause_after updates plan (outcome ∷ outcomes) =
 
 -- ---- what a cause says of the exchanges
 
--- a block was read, and its bytes have another one among them
-pub record ReadAnother (unit : ℕ) (updates : List (ℕ × ℕ)) (told : List Exchange) (cause : Cause) : Type 0 where
+-- Of the bytes of a block, read from its location on, this is the first that is another one than has to be there: those
+-- before it are the ones of their places.
+pub record IsFirstOther (wanted : List (ℕ × ℕ)) (block : Block) (bytes : List ℕ) (location byte : ℕ) : Type 0 where
+  pub before : List ℕ
+  pub behind : List ℕ
+  pub parts : bytes ≡ before ++ (byte ∷ behind)
+  pub place : location ≡ moved_on block.location (length before)
+  pub as_wanted : (index same : ℕ) → slice_get before index ≡ Some same
+      → Has wanted (moved_on block.location index) same
+  pub own : ℕ
+  pub has_own : Has wanted location own
+  pub other : byte ≢ own
+
+-- a block was read that has such a byte
+pub record ReadAnother (unit : ℕ) (updates : List (ℕ × ℕ)) (told : List Exchange) (location byte : ℕ) : Type 0 where
   pub newer : List Exchange
   pub read : List Exchange
   pub older : List Exchange
@@ -66,9 +81,9 @@ pub record ReadAnother (unit : ℕ) (updates : List (ℕ × ℕ)) (told : List E
   pub block : Block
   pub bytes : List ℕ
   pub answered : Succeeds (access_requests unit (ReadFrom block)) (Some bytes) read
-  pub is : cause ≡ another (read_backs updates) block.location bytes
+  pub first : IsFirstOther (read_backs updates) block bytes location byte
 
--- or each try of an access missed
+-- each try of an access missed, or such a byte was read
 abbrev pub IsShown : ℕ → List (ℕ × ℕ) → List Exchange → Cause → Type 0
-IsShown unit updates told cause =
-    ((failed : HasFailed unit told) × (cause ≡ failure failed.access)) ⊎ ReadAnother unit updates told cause
+IsShown unit updates told (Another location byte) = ReadAnother unit updates told location byte
+IsShown unit updates told cause = (failed : HasFailed unit told) × (cause ≡ failure failed.access)

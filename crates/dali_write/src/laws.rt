@@ -33,7 +33,7 @@ ghost use Rattle.dali_write.specs.Tries.{most_tries, Missed, Misses, Succeeds, F
 ghost use Rattle.dali_write.specs.Walks.{Walk, misses_of, Took, TookAll};
 ghost use Rattle.dali_write.specs.Misses.{misses_in};
 ghost use Rattle.dali_write.specs.Successes.{TakesAll, found_verdict, Spared, MissesByLosses};
-ghost use Rattle.dali_bank.specs.Order.{Contents, RisesAbove};
+ghost use Rattle.dali_bank.specs.Order.{Contents, AreUpdates, RisesAbove};
 ghost use Rattle.dali_write.specs.Doubts.{EndsUnread, EndsUnlooked, HasFailed, FoundAnother};
 ghost use Rattle.dali_write.specs.Losses.{losses, Unrefused, IsAlone, CanDo, OnlyDiffers};
 ghost use Rattle.dali_write.specs.Touches.{Touches, writes_of};
@@ -328,12 +328,15 @@ pub fn doubts_have_a_cause()
         ⊎ FoundAnother unit (unlock pace updates) (rows_of (most_of pace) (read_backs updates)) told }
 {}
 
-/// What a session tells as the cause is what it was told: each try of an access missed, or a read told another byte
-/// than has to be there. A session that carries an order out and doesn't end as `Done`, and a fresh one that ends as
-/// `Silent`, tell one.
+/// What a session tells as the cause is what it was told: each try of an access missed, or a read told this byte of
+/// this location, which is the first in its block that is another one than has to be there. For that the updates rise
+/// above the lock byte, as those of an order do. A session that carries an order out and doesn't end as `Done`, and a
+/// fresh one that ends as `Silent`, tell one.
 pub fn causes_are_told()
     ensures shown { (task : Task) (unit : ℕ) (told : List Exchange) (cause : Cause)
-        → IsCause task unit told (Some cause) → IsShown unit (updates_for task) told cause }
+        → RisesAbove 2 (updates_for task) → IsCause task unit told (Some cause)
+        → IsShown unit (updates_for task) told cause }
+    ensures rising { (updates : List (ℕ × ℕ)) → AreUpdates updates → RisesAbove 2 updates }
     ensures opened { (order : Contents) (pace : Pace) (told : List Exchange) (s : Session) (verdict : Verdict)
         → IsOpened order pace s → Told told s → aim_of s ≡ Ask.Ended verdict → verdict ≢ Verdict.Done
         → IsSome (cause_of s) }

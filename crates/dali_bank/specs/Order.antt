@@ -1,5 +1,5 @@
 -- What an order holds.
-use Rattle.std.specs.Prelude.{ℕ, ◌==◌, ◌<◌, ◌≤◌, ◌⊎◌, List, [], ◌∷◌, length, Option, Some, None, ⊤, if◌then◌else◌}
+use Rattle.std.specs.Prelude.{ℕ, Bool, nat_le, ◌&&◌, ◌||◌, ◌==◌, ◌<◌, ◌≤◌, ◌⊎◌, List, [], ◌∷◌, length, Option, Some, None, ⊤, if◌then◌else◌}
 use Rattle.std.specs.List.{AllByRecursion}
 
 -- an order's number, the short address of its unit, and its updates, each a location and a byte
@@ -11,6 +11,11 @@ pub record Contents : Type 0 where
 -- a location that an order may write: all fields but the content format, which lies between the two runs
 abbrev pub IsWritable : ℕ → Type 0
 IsWritable location = ((0x03 ≤ location) × (location ≤ 0x10)) ⊎ ((0x13 ≤ location) × (location ≤ 0x77))
+
+-- whether it is one
+abbrev pub is_writable : ℕ → Bool
+is_writable location =
+    (nat_le 0x03 location && nat_le location 0x10) || (nat_le 0x13 location && nat_le location 0x77)
 
 -- each location is above the one before it, the first one above the bound
 abbrev pub RisesAbove : ℕ → List (ℕ × ℕ) → Type 0

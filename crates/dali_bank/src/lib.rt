@@ -20,6 +20,6 @@ pub use blank::BLANK;
 pub use draft::Draft;
 pub use fault::BankFault;
 pub use field::Field;
-pub use order::{MOST_UPDATES, Order};
+pub use order::{MOST_UPDATES, Order, is_writable};
 pub use shown::{Shown, read_field};
 pub use value::Value;

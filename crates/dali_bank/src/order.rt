@@ -1,6 +1,6 @@
 ghost use Rattle.std.specs.Prelude.{◌≡◌, ◌≤◌, ◌<◌, ◌↔◌, length, IsTrue, IsSome, IfSome};
 ghost use Rattle.std.specs.List.{AllByRecursion};
-ghost use Rattle.dali_bank.specs.Order.{IsWritable, RisesAbove};
+ghost use Rattle.dali_bank.specs.Order.{IsWritable, RisesAbove, is_writable};
 
 use arrayvec::ArrayVec;
 use std::marker::Model;
@@ -132,9 +132,10 @@ fn rise_in_places(bound: u8, pairs: &[(u8, u8)]) -> bool
     }
 }
 
-// Whether an order may write at the location.
-fn is_writable(location: u8) -> bool
-    ensures { IsTrue result ↔ IsWritable location }
+/// Whether an order may write at the location: all fields of content format 0003h lie there (IEC 62386-251, fields).
+pub fn is_writable(location: u8) -> bool
+    ensures decided { result ≡ is_writable location }
+    ensures held { IsTrue result ↔ IsWritable location }
 {
     matches!(location, 0x03..=0x10 | 0x13..=0x77)
 }

@@ -125,8 +125,10 @@ fn run(rt: &HostRuntime, words: &Vec<String>) -> Status {
                 moment,
                 pace: pace_of(short_plan),
                 required: Required::of(require_done, require_now),
+                follow,
+                report,
             };
-            on_link(rt, LinkCommand::driving(follow, task, report), progress)
+            on_link(rt, LinkCommand::Drive(task), progress)
         }
         Ok(
             Job::Read {

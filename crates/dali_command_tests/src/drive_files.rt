@@ -136,6 +136,8 @@ fn driven_files<'a, R: Files<File = File> + AllocGlobal>(
         moment: drive.moment,
         pace: Pace::Checked,
         required: Required::Nothing,
+        follow: false,
+        report: None,
     };
     let mut desk = StoreDesk {
         link_in: StdSource::new(answers.as_slice()),

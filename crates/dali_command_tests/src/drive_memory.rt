@@ -49,6 +49,8 @@ fn driven_over(
         moment: 7,
         pace: Pace::Checked,
         required,
+        follow: false,
+        report: None,
     };
     let mut desk = StoreDesk {
         link_in: StdSource::new(answers),

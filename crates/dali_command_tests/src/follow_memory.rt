@@ -192,6 +192,8 @@ fn is_followed(alloc: Global, stream: &Stream<'_>) -> Result<bool, AllocError> {
         moment: 7,
         pace: Pace::Checked,
         required: stream.required,
+        follow: true,
+        report: None,
     };
     let source = StdSource::new(TestReader::new(stream.lines.as_bytes(), stream.behind));
     let mut orders = OrderLines::new(alloc, source, task.moment);

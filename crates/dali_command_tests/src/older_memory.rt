@@ -244,6 +244,8 @@ fn is_behind(alloc: Global, drive: &Behind<'_>) -> Result<bool, AllocError> {
         moment: 7,
         pace: Pace::Checked,
         required: Required::Nothing,
+        follow: false,
+        report: None,
     };
     let mut desk = StoreDesk {
         link_in: StdSource::new(b"".as_slice()),

@@ -1,9 +1,9 @@
 -- A desk along a drive.
 use Rattle.std.proofs.Common.{◌≡◌, ap, ℕ, List, [], ◌++◌, Option, Some, None, Result, Ok, Err, OnOk}
 use Rattle.std.proofs.KnownBytes.{Appends-nil, Appends-trans}
-use Rattle.dali_store.specs.Stores.{IsSettled}
+use Rattle.dali_store.specs.Stores.{IsDurable}
 use Rattle.dali_trace.specs.declared.fault.DriveFault.{DriveFault}
-use Rattle.dali_drive.specs.Desks.{Look, Settled, EndsAs, LeavesNoMore, Grows, with_out}
+use Rattle.dali_drive.specs.Desks.{Look, IsDurableAt, EndsAs, LeavesNoMore, Grows, with_out}
 use Rattle.dali_drive.specs.Transcript.{Streams}
 use Rattle.dali_drive.proofs.StoreLemmas.{untouched, then_on}
 
@@ -21,7 +21,7 @@ module _ {D : Type 0} (look : D → Look) (moment : D → ℕ) (left_since : D �
   }
 
   pub grows_on : ((a b c : D) → same a b → same b c → same a c) → (old mid new : D)
-      → Grows look moment left_since same old mid → (Settled (look old) → Settled (look mid))
+      → Grows look moment left_since same old mid → (IsDurableAt (look old) → IsDurableAt (look mid))
       → Grows look moment left_since same mid new → Grows look moment left_since same old new
   grows_on on old mid new first settles second = record {
     more = first.more ++ second.more;
@@ -37,17 +37,17 @@ module _ {D : Type 0} (look : D → Look) (moment : D → ℕ) (left_since : D �
 
 -- a line that is said leaves the journal as it was
 pub still_settled : (old new : Look) → new.streams ≡ with_out old.streams new.streams → LeavesNoMore old new
-    → Settled old → Settled new
+    → IsDurableAt old → IsDurableAt new
 still_settled old new only no_more settled =
     let same : new.streams.journal ≡ old.streams.journal = ap (λ (s : Streams). s.journal) only in
     rw same (fewer old.streams.journal old.may_leave new.may_leave no_more settled) where
       fewer : (known : Option (List ℕ)) (more less : List ℕ → Type 0) → ((c : List ℕ) → less c → more c)
-          → IsSettled known more → IsSettled known less
+          → IsDurable known more → IsDurable known less
       fewer None more less also settled = tt
       fewer (Some bytes) more less also settled = λ c left. settled c (also c left)
 
 -- what came to its end left all where all was left
 pub ends_settled : {A : Type 0} (result : Result A DriveFault) (old new : Look) → EndsAs result old new
-    → OnOk result (Settled old → Settled new)
+    → OnOk result (IsDurableAt old → IsDurableAt new)
 ends_settled (Ok value) old new ends = ends.1
 ends_settled (Err fault) old new ends = tt

@@ -23,13 +23,13 @@ use Rattle.dali_trace.specs.declared.happening.Happening.{Happening}
 use Rattle.dali_trace.specs.declared.happening.Happening.TheVariants.{Asked, Answered, Sent, Kept, Stopped, Powered}
 use Rattle.dali_trace.specs.Cut.{since, is_stop, frames_in, kept_in}
 use Rattle.dali_trace.proofs.CutLemmas.{frames_joined}
-use Rattle.dali_trace.specs.Trace.{Start, records_of, standing_at, sent_of, sent_since_taken, waiting, course_of, pace_at}
-use Rattle.dali_trace.specs.Trace.{is_at_work, is_unsaid, is_busy, Course, Quiet, Waiting, Working, JustEnded, replied}
-use Rattle.dali_trace.specs.Trace.{next_course, unsaid_in}
+use Rattle.dali_trace.specs.Trace.{Start, records_of, standing_at, sent_of, sent_since_taken, waiting, outstanding_of, pace_at}
+use Rattle.dali_trace.specs.Trace.{is_at_work, is_unsaid, is_busy, Outstanding, Quiet, Waiting, Working, JustEnded, replied}
+use Rattle.dali_trace.specs.Trace.{next_outstanding, unsaid_in}
 use Rattle.dali_trace.specs.Legal.{Serves, MaySend, IsDue, HasNumber, MayHappen, Replies, MayFollow, Legal, IsFinished}
 use Rattle.dali_trace.specs.ByPlan.{told_in, Asks, IsPlanned, ByPlan}
 use Rattle.dali_laws.proofs.AgreeLemmas.{planned_too, may_follow, said_quiet}
-use Rattle.dali_laws.proofs.CourseLemmas.{waits_on, closed_verdict}
+use Rattle.dali_laws.proofs.OnPlanLemmas.{waits_on, closed_verdict}
 use Rattle.dali_laws.proofs.SafeLemmas.{may_keep, may_send}
 use Rattle.dali_laws.proofs.RecordLemmas.{grounds_too}
 use Rattle.std.proofs.KnownBytes.{Appends-trans, Consumes-trans}
@@ -126,7 +126,7 @@ record IsBehind (start next : Start) (whole more : List Happening) : Type 0 wher
   pub limit : start.limit ≡ next.limit
   pub pace : pace_at start whole ≡ pace_at next more
   pub records : records_of start whole ≡ records_of next more
-  pub course : course_of whole ≡ course_of more
+  pub outstanding : outstanding_of whole ≡ outstanding_of more
   pub older : List Exchange
   pub sent : sent_of whole ≡ sent_of more ++ older
   pub since : IsSome (waiting more) → sent_since_taken whole ≡ sent_since_taken more
@@ -134,7 +134,7 @@ record IsBehind (start next : Start) (whole more : List Happening) : Type 0 wher
 
 module _ {start next : Start} {whole more : List Happening} (behind : IsBehind start next whole more) where
   serves_behind : (stands : Standing) (unit : ℕ) → Serves more stands unit → Serves whole stands unit
-  serves_behind (standings.Left left) unit serves = rw behind.course serves
+  serves_behind (standings.Left left) unit serves = rw behind.outstanding serves
   serves_behind _ unit serves = serves
 
   sends_behind : (stands : Standing) (frame : Frame) → MaySend more stands frame → MaySend whole stands frame
@@ -153,14 +153,14 @@ module _ {start next : Start} {whole more : List Happening} (behind : IsBehind s
   sends_behind stands other may = absurd may
 
   due_behind : (entry : Record) → IsDue more entry → IsDue whole entry
-  due_behind (Began order moment) due = rw behind.course due
-  due_behind (Closed unit) due = rw (behind.course, behind.since due.0) due
+  due_behind (Began order moment) due = rw behind.outstanding due
+  due_behind (Closed unit) due = rw (behind.outstanding, behind.since due.0) due
   due_behind other due = tt
 
   happens_behind : (newest : Happening) → MayHappen next more newest → MayHappen start whole newest
-  happens_behind (Answered id (replies.Kept code)) may = rw (behind.course, behind.records) may
+  happens_behind (Answered id (replies.Kept code)) may = rw (behind.outstanding, behind.records) may
   happens_behind (Answered id (replies.Blocked unit)) may =
-      rw (behind.records, behind.course, behind.since (number_waits (waiting more) id may.1)) may
+      rw (behind.records, behind.outstanding, behind.since (number_waits (waiting more) id may.1)) may
   happens_behind (Answered id reply) may = absurd may
   happens_behind (Sent frame answer) may = rw behind.records (sends_behind (standing_at next more) frame may)
   -- a read that stands does so whatever came before
@@ -176,7 +176,7 @@ module _ {start next : Start} {whole more : List Happening} (behind : IsBehind s
 
   replies_behind : (order : Contents) (newest : Happening) → Replies next more order newest
       → Replies start whole order newest
-  replies_behind order (Answered id reply) due = (due.0, rw (behind.records, behind.course, behind.limit) due.1)
+  replies_behind order (Answered id reply) due = (due.0, rw (behind.records, behind.outstanding, behind.limit) due.1)
   replies_behind order _ due = absurd due
 
   planned_at_hand : (newest : Happening) → IsAtHand next more → IsPlanned next more newest
@@ -207,11 +207,11 @@ kept_both (Kept entry ∷ newer) older = ap (◌∷◌ entry) (kept_both newer o
 kept_both (_ ∷ newer) older = kept_both newer older
 
 -- where all is said, nothing is still to be said
-said_course : (course : Course) → unsaid_in course ≡ false → course ≡ Quiet
-said_course Quiet said = refl
-said_course (Waiting order moment) said = cc
-said_course Working said = cc
-said_course JustEnded said = cc
+said_outstanding : (outstanding : Outstanding) → unsaid_in outstanding ≡ false → outstanding ≡ Quiet
+said_outstanding Quiet said = refl
+said_outstanding (Waiting order moment) said = cc
+said_outstanding Working said = cc
+said_outstanding JustEnded said = cc
 
 -- behind a drive the trace from what it left tells as much, and is as much
 module _ {start : Start} {orders : List (Contents × ℕ)} {first middle : Streams} {handed : WriterState}
@@ -228,11 +228,13 @@ module _ {start : Start} {orders : List (Contents × ℕ)} {first middle : Strea
   records_both : (more : List Happening) → records_of start (more ++ past) ≡ records_of next more
   records_both more = rw (kept_both more past, append_assoc, one.described.same) refl
 
-  course_both : (more : List Happening) → course_of (more ++ past) ≡ course_of more
-  course_both [] = said_course (course_of past) both_quiet.1
-  course_both (Answered id reply ∷ []) = sym (said_quiet id reply past one.described.finished)
-  course_both (Answered id reply ∷ Asked order moment ∷ more) = ap (replied order moment reply) (course_both more)
-  course_both (newest ∷ more) = ap (λ (before : Course). next_course before newest) (course_both more)
+  outstanding_both : (more : List Happening) → outstanding_of (more ++ past) ≡ outstanding_of more
+  outstanding_both [] = said_outstanding (outstanding_of past) both_quiet.1
+  outstanding_both (Answered id reply ∷ []) = sym (said_quiet id reply past one.described.finished)
+  outstanding_both (Answered id reply ∷ Asked order moment ∷ more) =
+      ap (replied order moment reply) (outstanding_both more)
+  outstanding_both (newest ∷ more) =
+      ap (λ (before : Outstanding). next_outstanding before newest) (outstanding_both more)
 
   pace_both : (more : List Happening) → pace_at start (more ++ past) ≡ pace_at next more
   pace_both [] = one.described.pace
@@ -244,7 +246,7 @@ module _ {start : Start} {orders : List (Contents × ℕ)} {first middle : Strea
     limit = one.described.limit;
     pace = pace_both more;
     records = records_both more;
-    course = course_both more;
+    outstanding = outstanding_both more;
     older = (sent_behind past more).0;
     sent = (sent_behind past more).1;
     since = since_alike past more;
@@ -269,7 +271,7 @@ module _ {start : Start} {orders : List (Contents × ℕ)} {first middle : Strea
       (planned_both more legal.0 after.0, planned_behind (is_behind more) newest legal.1 after.1)
 
   busy_both : (more : List Happening) → is_busy start (more ++ past) ≡ is_busy next more
-  busy_both more = rw (records_both more, course_both more) refl
+  busy_both more = rw (records_both more, outstanding_both more) refl
 
   in_turn_both : (more : List Happening) → AtEachPast (IsInTurn next) more → AtEachPast (IsInTurn start) (more ++ past)
   in_turn_both [] after = one.driven.in_turn

@@ -3,13 +3,13 @@ use Rattle.std.proofs.Common.{◌≡◌, ◌≤◌, ◌⊎◌, sym, arith, ℕ, 
 use Rattle.std.proofs.Common.{length, length-append, append-nil, append_assoc}
 use Rattle.std.proofs.lemmas.Bool.{cases_lt}
 use Rattle.std.specs.Io.KnownBytes.{Appends}
-use Rattle.dali_store.specs.Stores.{IsSettled, IsBetween}
+use Rattle.dali_store.specs.Stores.{IsDurable, IsBetween}
 use Rattle.dali_drive.specs.LentSinks.{SinkLeaves, SinkLeft, flushed_count, longer_begins}
 use Rattle.dali_drive.specs.Streams.{IsPart, Flushes, PutsFirst}
 
 -- where a stop leaves all, all was flushed
 all_flushed : (flushed held : List ℕ) → IsPart (Some flushed) (Some held)
-    → IsSettled (Some held) (SinkLeaves (Some flushed) (Some held)) → flushed ≡ held
+    → IsDurable (Some held) (SinkLeaves (Some flushed) (Some held)) → flushed ≡ held
 all_flushed flushed held (rest, is) settled = settled flushed ([], rest, sym (append-nil flushed), is)
 
 -- all that was put since was flushed, or nothing
@@ -42,7 +42,7 @@ module _ (before more now : List ℕ) (is : now ≡ before ++ more) where
 -- behind what was put a stop leaves a first part of it
 pub leaves_put : (done : Bool) (flushed held flushed_now held_now : Option (List ℕ)) (more : List ℕ)
     → IsPart flushed held → Appends held held_now more → Flushes done held_now flushed flushed_now
-    → (c : List ℕ) → IsSettled held (SinkLeaves flushed held) × SinkLeaves flushed_now held_now c
+    → (c : List ℕ) → IsDurable held (SinkLeaves flushed held) × SinkLeaves flushed_now held_now c
     → IsBetween held held_now c
 leaves_put true None held new now more part put flushes c (settled, left) = absurd (rw flushes at left)
 leaves_put false None held new now more part put flushes c (settled, left) = absurd (rw flushes at left)
@@ -69,7 +69,7 @@ none_over held now = grind arith
 
 pub put_over : (done : Bool) (flushed held flushed_now held_now : Option (List ℕ)) (more : List ℕ)
     → IsPart flushed held → Appends held held_now more → Flushes done held_now flushed flushed_now
-    → IsSettled held (SinkLeaves flushed held) → PutOver flushed held flushed_now held_now
+    → IsDurable held (SinkLeaves flushed held) → PutOver flushed held flushed_now held_now
 put_over true None held new now more part put flushes settled = rw flushes (none_over held now)
 put_over false None held new now more part put flushes settled = rw flushes (none_over held now)
 put_over done (Some flushed) None new now more part put flushes settled = absurd part

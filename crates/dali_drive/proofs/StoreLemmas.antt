@@ -4,7 +4,7 @@ use Rattle.std.specs.Io.KnownBytes.{Appends}
 use Rattle.dali_journal.specs.declared.version.Version.TheVariants.{Two}
 use Rattle.dali_journal.specs.Spelling.{journal_spelling}
 use Rattle.dali_journal.specs.JournalState.{JournalState}
-use Rattle.dali_store.specs.Stores.{IsSettled, IsBetween, Becomes, LeavesOnly}
+use Rattle.dali_store.specs.Stores.{IsDurable, IsBetween, Becomes, LeavesOnly}
 use Rattle.dali_store.specs.Opened.{Loads, IsOpened, LeavesAlike}
 use Rattle.dali_store.proofs.OpenLemmas.{found_loads}
 use Rattle.dali_drive.specs.Stored.{LeavesPart}
@@ -13,7 +13,7 @@ use Rattle.dali_store.proofs.Betweens.{settled_between, between_first, between_s
 
 module _ {S : Type 0} (seen : S → Option (List ℕ)) (may_leave : S → List ℕ → Type 0) (moment : S → ℕ)
     (left_since : S → ℕ → List ℕ → Type 0) where
-  pub untouched : (store : S) → IsSettled (seen store) (may_leave store)
+  pub untouched : (store : S) → IsDurable (seen store) (may_leave store)
       → ((c : List ℕ) → left_since store (moment store) c → may_leave store c)
       → LeavesOnly moment left_since store store (IsBetween (seen store) (seen store))
   untouched store settled only =

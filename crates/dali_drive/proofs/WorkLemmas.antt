@@ -12,7 +12,7 @@ use Rattle.dali_trace.specs.Replies.{reply_line}
 use Rattle.dali_trace.specs.Trace.{Start}
 use Rattle.dali_engine.specs.WriterState.{WriterState}
 use Rattle.dali_trace.specs.declared.fault.DriveFault.{DriveFault}
-use Rattle.dali_drive.specs.Desks.{Look, Settled, LeavesSince}
+use Rattle.dali_drive.specs.Desks.{Look, IsDurableAt, LeavesSince}
 use Rattle.dali_drive.specs.Transcript.{Streams, said_lines}
 use Rattle.dali_drive.specs.Driven.{orders_asked}
 use Rattle.dali_drive.specs.WorkedOn.{HasWorked, HasBroken, WorkedOn}
@@ -107,7 +107,7 @@ leaving_less start past orders first fault middle last more less told told_end f
 pub then_work : {A : Type 0} (result : Result A DriveFault) (start : Start) (past : List Happening)
     (orders more_orders : List (Contents × ℕ)) (first : Streams) (then writer : WriterState) (old mid new : Look)
     (told_then told : List Happening → Type 0) (told_end : List Happening → DriveFault → Frame → List ℕ → Type 0)
-    → (Settled old → Settled mid)
+    → (IsDurableAt old → IsDurableAt mid)
     → (before : HasWorked start past orders first then old.streams mid.streams told_then)
     → WorkedOn start (before.more ++ past) more_orders first result writer mid new told told_end
     → WorkedOn start past (orders ++ more_orders) first result writer old new told told_end

@@ -1,7 +1,7 @@
 -- What a desk shows and what a stop may leave of it, by hand, and what is near it and isn't so.
 use Rattle.std.proofs.Common.{refl, arith, ℕ, Bool, true, false, List, [], ◌∷◌, Some, None, Ok, Err}
 use Rattle.dali_trace.specs.declared.fault.DriveFault.TheVariants as faults
-use Rattle.dali_drive.specs.Desks.{Look, look_of, failures, Settled, EndsAs, LeavesSince, LeavesPut}
+use Rattle.dali_drive.specs.Desks.{Look, look_of, failures, IsDurableAt, EndsAs, LeavesSince, LeavesPut}
 use Rattle.dali_drive.specs.LentSinks.{SinkLeaves, SinkLeft}
 use Rattle.dali_drive.specs.Streams.{Flushes, IsPart}
 use Rattle.dali_drive.specs.Transcript.{shown}
@@ -84,11 +84,11 @@ one_unflushed = desk_of (1 ∷ []) (1 ∷ 2 ∷ []) false
 abbrev journal_failed : Look
 journal_failed = desk_of (1 ∷ []) (1 ∷ 2 ∷ []) true
 
-pub all_settled : Settled all_flushed
+pub all_settled : IsDurableAt all_flushed
 all_settled c ([], rest, front, whole) = front
 all_settled c (a ∷ more, rest, front, whole) = grind arith
 
-pub unflushed_isnt_settled : Settled one_unflushed → ⊥
+pub unflushed_isnt_settled : IsDurableAt one_unflushed → ⊥
 unflushed_isnt_settled settled = let lost = settled (1 ∷ []) ([], 2 ∷ [], refl, refl) in cc
 
 -- what came to its end

@@ -23,7 +23,7 @@ use Rattle.dali_trace.specs.declared.fault.DriveFault.{DriveFault}
 use Rattle.dali_drive.specs.declared.following.Given.{Given}
 use Rattle.dali_drive.specs.declared.stored.StoredFault.TheVariants as stored
 use Rattle.dali_drive.specs.Followed.{IsObservedFollow, IsObservedFollowBreak}
-use Rattle.dali_drive.specs.Desks.{Failures, Look, Settled, IsUnfailed, FailsOpen, ShowsFault}
+use Rattle.dali_drive.specs.Desks.{Failures, Look, IsDurableAt, IsUnfailed, FailsOpen, ShowsFault}
 use Rattle.dali_drive.specs.Observed.{IsObserved, IsObservedBreak}
 use Rattle.dali_drive.specs.Stored.{IsBegun, EndsAtFault}
 use Rattle.dali_drive.specs.Transcript.{Streams}
@@ -94,7 +94,7 @@ pub record EndsUnjoined {G B : Type 0} (fault : JoinFault) (older : Option Journ
   pub begun : IsBegun limit most first
   pub why : IsUnjoined fault begun.journal older
   pub streams : last.streams ≡ record first { journal = begun.middle }
-  pub settled : Settled last
+  pub settled : IsDurableAt last
   pub ungiven : orders_left ≡ orders
   pub untold : after ≡ before
 

@@ -3,7 +3,7 @@ use Rattle.std.specs.Prelude.{◌≡◌, ℕ, Bool, false, List, Result, Ok, Err
 use Rattle.std.specs.Io.KnownBytes.{Appends}
 use Rattle.dali_store.specs.declared.opening.OpenFault.{OpenFault}
 use Rattle.dali_store.specs.Opened.{is_store_failure}
-use Rattle.dali_store.specs.Stores.{IsSettled, IsBetween, LeavesOnly}
+use Rattle.dali_store.specs.Stores.{IsDurable, IsBetween, LeavesOnly}
 use Rattle.dali_trace.specs.declared.fault.DriveFault.{DriveFault}
 use Rattle.dali_drive.specs.Driven.{NoneFailed, FailedAs, LeavesBetween}
 use Rattle.dali_drive.specs.Transcript.{Streams}
@@ -44,17 +44,17 @@ FailsOpen fault failed =
     × (failed.out ≡ false)
 
 -- a stop leaves just what the journal shows
-abbrev pub Settled : Look → Type 0
-Settled look = IsSettled look.streams.journal look.may_leave
+abbrev pub IsDurableAt : Look → Type 0
+IsDurableAt look = IsDurable look.streams.journal look.may_leave
 
 -- none has failed, and where a stop left all it does so now; or those have failed that do where the fault comes
 abbrev pub EndsAs : {A : Type 0} → Result A DriveFault → Look → Look → Type 0
-EndsAs (Ok value) old new = IsUnfailed new.failed × (Settled old → Settled new)
+EndsAs (Ok value) old new = IsUnfailed new.failed × (IsDurableAt old → IsDurableAt new)
 EndsAs (Err fault) old new = ShowsFault fault new.failed
 
 -- what a stop may leave then, where it left all before
 abbrev pub LeavesSince : Look → Look → List ℕ → Type 0
-LeavesSince old new c = Settled old × new.may_leave c
+LeavesSince old new c = IsDurableAt old × new.may_leave c
 
 -- that is what the journal showed, with all or a first part of what was put since
 abbrev pub LeavesPut : Look → Look → Type 0
@@ -70,7 +70,7 @@ pub record Grows {D : Type 0} (look : D → Look) (moment : D → ℕ) (left_sin
     (same : D → D → Type 0) (old new : D) : Type 0 where
   pub more : List ℕ
   pub grown : Appends (look old).streams.journal (look new).streams.journal more
-  pub leaves : Settled (look old)
+  pub leaves : IsDurableAt (look old)
       → LeavesOnly moment left_since old new (IsBetween (look old).streams.journal (look new).streams.journal)
   pub stays : same old new
 

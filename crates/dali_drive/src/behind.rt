@@ -4,7 +4,7 @@ ghost use Rattle.dali_journal.specs.declared.standing.Standing.TheVariants.{Idle
 ghost use Rattle.dali_journal.specs.Sentence.{standing_of};
 ghost use Rattle.dali_store.specs.Stores.{LeavesOnly};
 ghost use Rattle.dali_drive.specs.Behind.{IsFollowBehind, IsReadyBehind, EndsBehind, BehindShows, IsWhole, IsUnjoined};
-ghost use Rattle.dali_drive.specs.Desks.{Settled};
+ghost use Rattle.dali_drive.specs.Desks.{IsDurableAt};
 ghost use Rattle.dali_drive.specs.Stored.{LeavesPart};
 ghost use Rattle.dali_drive.specs.WorkedOn.{IsReady};
 
@@ -61,7 +61,7 @@ pub fn follow_stored<D: OpenDesk, G: Orders, B: Observer>(
     ensures broken { IfErr result (λ fault. EndsBehind G.gave B.told B.told_end older terms.orders terms.bytes
         terms.pace
         orders.old fault (D.look desk.old) observer.old orders.new (D.look desk.new) observer.new) }
-    ensures settled { OnOk result (Settled (D.look desk.new)) }
+    ensures settled { OnOk result (IsDurableAt (D.look desk.new)) }
     ensures err { IfErr result (λ fault. BehindShows fault (D.look desk.new).failed) }
     ensures any_moment { LeavesOnly D.moment D.left_since desk.old desk.new (LeavesPart terms.orders
         (D.look desk.old).streams.journal (D.look desk.new).streams.journal (D.look desk.old).may_leave) }

@@ -7,7 +7,7 @@ ghost use Rattle.dali_journal.specs.declared.version.Version.TheVariants.{Two};
 ghost use Rattle.dali_journal.specs.Spelling.{journal_spelling};
 ghost use Rattle.dali_store.specs.Stores.{Becomes, LeavesOnly};
 ghost use Rattle.dali_store.specs.Opened.{IsOpened, IsOpenFault, LeavesAlike};
-ghost use Rattle.dali_drive.specs.Desks.{Look, Settled, IsUnfailed, ShowsFault, FailsOpen, EndsAs, LeavesPut};
+ghost use Rattle.dali_drive.specs.Desks.{Look, IsDurableAt, IsUnfailed, ShowsFault, FailsOpen, EndsAs, LeavesPut};
 ghost use Rattle.dali_drive.specs.Desks.{LeavesNoMore, Grows, with_journal, with_link, with_out};
 ghost use Rattle.dali_drive.specs.Driven.{BreaksFrame};
 ghost use Rattle.dali_drive.specs.Lines.{TakesText};
@@ -41,7 +41,7 @@ pub trait Desk {
         requires { IsUnfailed (look self.old).failed }
         ensures whole { result ≡ true
             → Appends (look self.old).streams.journal (look self.new).streams.journal bytes.now }
-        ensures settled { result ≡ true → Settled (look self.new) }
+        ensures settled { result ≡ true → IsDurableAt (look self.new) }
         ensures cut { result ≡ false
             → PutsFirst (look self.old).streams.journal (look self.new).streams.journal bytes.now }
         ensures only { (look self.new).streams ≡ with_journal (look self.old).streams (look self.new).streams }
@@ -101,7 +101,7 @@ pub trait OpenDesk: Desk {
         ensures only { (Self.look self.new).streams
             ≡ with_journal (Self.look self.old).streams (Self.look self.new).streams }
         ensures unfailed { OnOk result (IsUnfailed (Self.look self.new).failed) }
-        ensures settled { OnOk result (Settled (Self.look self.new)) }
+        ensures settled { OnOk result (IsDurableAt (Self.look self.new)) }
         ensures fault { IfErr result (IsOpenFault limit most (Self.look self.old).streams.journal
             (Self.look self.new).streams.journal) }
         ensures err { IfErr result (λ fault. FailsOpen fault (Self.look self.new).failed) }

@@ -4,11 +4,11 @@ ghost use Rattle.dali_trace.specs.declared.happening.Happening.{Happening};
 ghost use Rattle.dali_trace.specs.Trace.{Start, is_busy};
 ghost use Rattle.dali_engine.specs.WriterState.{start_of, IsAtRest};
 ghost use Rattle.dali_engine.specs.WorkLeft.{work_left};
-ghost use Rattle.dali_drive.specs.Desks.{IsUnfailed, Settled, EndsAs, Grows, LeavesSince, Works};
+ghost use Rattle.dali_drive.specs.Desks.{IsUnfailed, IsDurableAt, EndsAs, Grows, LeavesSince, Works};
 ghost use Rattle.dali_drive.specs.Transcript.{Streams, shown};
 ghost use Rattle.dali_drive.specs.Driven.{at_moment, IsDrive, BreaksOff, NoneFailed, FailedAs};
 ghost use Rattle.dali_drive.specs.LentSinks.{SinkLeaves};
-ghost use Rattle.dali_store.specs.Stores.{IsSettled};
+ghost use Rattle.dali_store.specs.Stores.{IsDurable};
 ghost use Rattle.dali_drive.specs.WorkedOn.{IsDone, IsDrivenAt, IsReady, WorkedOn};
 
 use crate::desk::Desk;
@@ -122,12 +122,12 @@ pub fn drive<I: Source, L: Sink, J: Sink, O: Sink>(
     ensures ok { OnOk result
         (NoneFailed (J.failed journal_out.new) (L.failed link_out.new) (I.failed link_in.new) (O.failed out.new)) }
     ensures flushed { OnOk result
-        (IsSettled (J.held journal_out.old) (SinkLeaves (J.flushed journal_out.old) (J.held journal_out.old))
-        → IsSettled (J.held journal_out.new) (SinkLeaves (J.flushed journal_out.new) (J.held journal_out.new))) }
+        (IsDurable (J.held journal_out.old) (SinkLeaves (J.flushed journal_out.old) (J.held journal_out.old))
+        → IsDurable (J.held journal_out.new) (SinkLeaves (J.flushed journal_out.new) (J.held journal_out.new))) }
     ensures broken { IfErr result (λ fault. BreaksOff (start_of writer) (at_moment moment orders.now) fault
         (shown (J.held journal_out.old) (L.held link_out.old) (I.left link_in.old) (O.held out.old))
         (shown (J.held journal_out.new) (L.held link_out.new) (I.left link_in.new) (O.held out.new))
-        (λ c. IsSettled (J.held journal_out.old) (SinkLeaves (J.flushed journal_out.old) (J.held journal_out.old))
+        (λ c. IsDurable (J.held journal_out.old) (SinkLeaves (J.flushed journal_out.old) (J.held journal_out.old))
         × SinkLeaves (J.flushed journal_out.new) (J.held journal_out.new) c)) }
     ensures err { IfErr result (λ fault.
         FailedAs fault (J.failed journal_out.new) (L.failed link_out.new) (I.failed link_in.new) (O.failed out.new)) }
@@ -155,7 +155,7 @@ pub fn drive_at<D: Desk>(
     ensures broken { IfErr result (λ fault. BreaksOff (start_of writer) (at_moment moment orders.now) fault
         (D.look desk.old).streams (D.look desk.new).streams (LeavesSince (D.look desk.old) (D.look desk.new))) }
     ensures ends { EndsAs result (D.look desk.old) (D.look desk.new) }
-    ensures settled { OnOk result (Settled (D.look desk.old) → Settled (D.look desk.new)) }
+    ensures settled { OnOk result (IsDurableAt (D.look desk.old) → IsDurableAt (D.look desk.new)) }
     ensures grown { Grows D.look D.moment D.left_since D.same desk.old desk.new }
 {
     let mut listed = ListedOrders::new(orders, moment);

@@ -2,7 +2,7 @@
 ghost use Rattle.std.specs.Prelude.{IfOk, IfErr, OnOk};
 ghost use Rattle.dali_store.specs.Stores.{LeavesOnly};
 ghost use Rattle.dali_drive.specs.Stored.{IsStoredDrive, EndsAtFault, StoredShows, LeavesPart};
-ghost use Rattle.dali_drive.specs.Desks.{IsUnfailed, Settled};
+ghost use Rattle.dali_drive.specs.Desks.{IsUnfailed, IsDurableAt};
 ghost use Rattle.dali_drive.specs.Driven.{at_moment};
 ghost use Rattle.dali_drive.specs.WorkedOn.{IsReady};
 
@@ -44,7 +44,7 @@ pub fn drive_stored<D: OpenDesk>(
     ensures broken { IfErr result (λ fault. EndsAtFault terms.orders terms.bytes terms.pace
         (at_moment moment orders.now) fault
         (D.look desk.old) (D.look desk.new)) }
-    ensures settled { OnOk result (Settled (D.look desk.new)) }
+    ensures settled { OnOk result (IsDurableAt (D.look desk.new)) }
     ensures err { IfErr result (λ fault. StoredShows fault (D.look desk.new).failed) }
     ensures any_moment { LeavesOnly D.moment D.left_since desk.old desk.new (LeavesPart terms.orders
         (D.look desk.old).streams.journal (D.look desk.new).streams.journal (D.look desk.old).may_leave) }

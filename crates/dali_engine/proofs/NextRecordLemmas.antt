@@ -22,7 +22,7 @@ use Rattle.dali_trace.specs.declared.happening.Want.TheVariants.{Keep}
 use Rattle.dali_engine.specs.declared.phase.Phase.{Phase}
 use Rattle.dali_engine.specs.declared.phase.Phase.TheVariants.{Idle, Begins, Checks, Writes, Closes, Says}
 use Rattle.dali_trace.specs.Trace.{waiting_since}
-use Rattle.dali_trace.specs.Trace.{Start, standing_at, waiting, is_at_work, course_of}
+use Rattle.dali_trace.specs.Trace.{Start, standing_at, waiting, is_at_work, outstanding_of}
 use Rattle.dali_engine.specs.Phases.{want_of, check_of, write_of, check_record, write_code}
 use Rattle.dali_engine.specs.WriterState.{IsReady}
 use Rattle.dali_engine.specs.Describes.{Describes}
@@ -33,7 +33,7 @@ use Rattle.dali_trace.specs.Parts.{NextRecord, IsKeptNext}
 use Rattle.dali_engine.proofs.StepLemmas.{stands_so}
 use Rattle.dali_laws.proofs.TakenLemmas.{none_waits, none_waits_ended}
 use Rattle.dali_engine.proofs.KeepLemmas.{same_entry, closing_keeps}
-use Rattle.dali_laws.proofs.CourseLemmas.{closed_verdict}
+use Rattle.dali_laws.proofs.OnPlanLemmas.{closed_verdict}
 use Rattle.dali_engine.proofs.FollowLemmas.{check_ends, write_ends}
 use Rattle.dali_write.specs.declared.pace.Pace.{Pace}
 
@@ -134,10 +134,11 @@ next_wanted : (pace : Pace) (start : Start) (past : List Happening) (journal : J
     → IsKeptNext start past entry → want_of phase ≡ Keep entry
 next_wanted pace start past journal Idle entry d f ready next =
     absurd (none_next pace (standing_at start past) (waiting past) (waiting_since past) (told_in past) entry
-    (ap is_at_work (stands_so start past _ _ d refl) ∙ ready) (none_waits (course_of past) d.place) (rw d.pace at next))
+    (ap is_at_work (stands_so start past _ _ d refl) ∙ ready) (none_waits (outstanding_of past) d.place)
+    (rw d.pace at next))
 next_wanted pace start past journal (Says id code) entry d f ready next =
     absurd (none_next pace (standing_at start past) (waiting past) (waiting_since past) (told_in past) entry
-    (ap is_at_work (stands_so start past _ _ d refl) ∙ ready.0) (none_waits_ended (course_of past) d.place)
+    (ap is_at_work (stands_so start past _ _ d refl) ∙ ready.0) (none_waits_ended (outstanding_of past) d.place)
     (rw d.pace at next))
 next_wanted pace start past journal (Begins order moment) entry d f ready next =
     let is : NextRecord pace standings.Idle (Some order) moment (told_in past) entry =

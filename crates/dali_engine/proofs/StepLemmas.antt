@@ -29,7 +29,7 @@ use Rattle.dali_trace.specs.Cut.{since, is_stop, is_start, frames_in}
 use Rattle.dali_trace.proofs.CutLemmas.{since_sooner, stop_starts, frames_joined}
 use Rattle.dali_laws.proofs.AgreeLemmas.{may_follow}
 use Rattle.dali_trace.specs.Trace.{Start, standing_at, sent_of, sent_since_taken, waiting, is_unsaid, is_at_work}
-use Rattle.dali_trace.specs.Trace.{is_busy, course_of}
+use Rattle.dali_trace.specs.Trace.{is_busy, outstanding_of}
 use Rattle.dali_trace.specs.Legal.{MayPut, MaySend}
 use Rattle.dali_engine.specs.Phases.{want_of, check_of, write_of, closing_of, is_wanting}
 use Rattle.dali_engine.specs.WriterState.{WriterState, IsReady}
@@ -72,16 +72,16 @@ pub busy_at : (pace : Pace) (start : Start) (past : List Happening) (journal : J
     → is_busy start past ≡ is_wanting (want_of phase)
 busy_at pace start past journal Idle d ready = rw (ap (λ r. is_at_work (standing_of r)) d.same ∙ ready, d.place) refl
 busy_at pace start past journal (Begins order moment) d ready =
-    unsaid start past (waits_unsaid (course_of past) order d.place.0)
+    unsaid start past (waits_unsaid (outstanding_of past) order d.place.0)
 busy_at pace start past journal (Checks order s) d ready =
     at_work start past (standings.Began order) (stands_so start past _ _ d ready.0) refl
     ∙ sym (check_wants order.unit (aim_of s))
 busy_at pace start past journal (Writes order s) d ready =
     at_work start past (standings.Opened order) (stands_so start past _ _ d ready.0) refl ∙ sym (write_wants (aim_of s))
 busy_at pace start past journal (Closes order moment s) d ready =
-    unsaid start past (waits_unsaid (course_of past) order d.place.0)
+    unsaid start past (waits_unsaid (outstanding_of past) order d.place.0)
     ∙ sym (closing_wants order.id (unit_of s) (aim_of s))
-busy_at pace start past journal (Says id code) d ready = unsaid start past (ended_unsaid (course_of past) d.place)
+busy_at pace start past journal (Says id code) d ready = unsaid start past (ended_unsaid (outstanding_of past) d.place)
 
 -- an update of an order is found by its location
 has_found : (bound : ℕ) (updates : List (ℕ × ℕ)) (location byte : ℕ) → RisesAbove bound updates

@@ -7,7 +7,7 @@ use Rattle.dali_input.specs.declared.fault.InputFault.{InputFault}
 use Rattle.dali_input.specs.declared.fault.InputFault.TheVariants.{Json, Document, TooBig}
 use Rattle.dali_input.specs.declared.item.ItemFault.TheVariants.{Shape, Key}
 use Rattle.dali_input.specs.Input.{IsJson}
-use Rattle.dali_follow.specs.declared.fault.LineFault.TheVariants.{Input, Item}
+use Rattle.dali_follow.specs.declared.fault.OrderLineFault.TheVariants.{Input, Item}
 use Rattle.dali_follow.specs.declared.fault.RefusedLine.{RefusedLine}
 use Rattle.dali_follow.specs.declared.order_lines.OrderLines.{OrderLines}
 use Rattle.dali_follow.specs.declared.reading.LineEnd.TheVariants.{LineFeed, Stream, Broken}

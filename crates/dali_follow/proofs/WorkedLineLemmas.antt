@@ -12,7 +12,7 @@ use Rattle.dali_input.specs.declared.item.ItemFault.TheVariants.{Bank}
 use Rattle.dali_input.specs.Input.{IsJson, IsNoJson}
 use Rattle.dali_drive.specs.declared.following.Given.{Given}
 use Rattle.dali_drive.specs.declared.following.Given.TheVariants as gives
-use Rattle.dali_follow.specs.declared.fault.LineFault.TheVariants.{Item}
+use Rattle.dali_follow.specs.declared.fault.OrderLineFault.TheVariants.{Item}
 use Rattle.dali_follow.specs.declared.order_lines.OrderLines.{OrderLines}
 use Rattle.dali_follow.specs.Faults.{item_line}
 use Rattle.dali_follow.specs.Judged.{IsSubmitted, IsNoSubmission, JudgesLine, no_json_on}

@@ -2,15 +2,15 @@
 use Rattle.std.specs.Prelude.{ℕ, List, ◌++◌, Option, Some, None, codes, decimal}
 use Rattle.dali_input.specs.Faults.{number_of, name_of, item_number_of, item_name_of}
 use Rattle.dali_text.specs.FaultLines.{single_line}
-use Rattle.dali_follow.specs.declared.fault.LineFault.{LineFault}
-use Rattle.dali_follow.specs.declared.fault.LineFault.TheVariants.{Input, Item}
+use Rattle.dali_follow.specs.declared.fault.OrderLineFault.{OrderLineFault}
+use Rattle.dali_follow.specs.declared.fault.OrderLineFault.TheVariants.{Input, Item}
 use Rattle.dali_follow.specs.declared.fault.RefusedLine.{RefusedLine}
 
-abbrev pub line_number_of : LineFault → ℕ
+abbrev pub line_number_of : OrderLineFault → ℕ
 line_number_of (Input fault) = number_of fault
 line_number_of (Item fault) = item_number_of fault
 
-abbrev pub line_name_of : LineFault → List ℕ
+abbrev pub line_name_of : OrderLineFault → List ℕ
 line_name_of (Input fault) = name_of fault
 line_name_of (Item fault) = item_name_of fault
 

@@ -9,8 +9,8 @@ use Rattle.dali_input.specs.declared.fault.InputFault.TheVariants.{Document}
 use Rattle.dali_input.specs.Input.{IsJson, IsNoJson}
 use Rattle.dali_input.specs.Items.{IsOrderOf, IsFaultOf, whole_at}
 use Rattle.dali_input.specs.Scenario.{IsEvent, submit}
-use Rattle.dali_follow.specs.declared.fault.LineFault.{LineFault}
-use Rattle.dali_follow.specs.declared.fault.LineFault.TheVariants.{Input, Item}
+use Rattle.dali_follow.specs.declared.fault.OrderLineFault.{OrderLineFault}
+use Rattle.dali_follow.specs.declared.fault.OrderLineFault.TheVariants.{Input, Item}
 use Rattle.dali_follow.specs.declared.fault.RefusedLine.{RefusedLine}
 use Rattle.dali_follow.specs.Lines.{line_limit}
 
@@ -34,7 +34,7 @@ abbrev pub order_number : Data → Option ℕ
 order_number item = whole_at (codes "order") item
 
 -- why an item is refused: the fault of an order, and none of a line's JSON, which is read already
-abbrev pub IsItemFault : Data → LineFault → Type 0
+abbrev pub IsItemFault : Data → OrderLineFault → Type 0
 IsItemFault item (Item fault) = IsFaultOf item fault
 IsItemFault item (Input fault) = ⊥
 

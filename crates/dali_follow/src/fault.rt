@@ -13,14 +13,14 @@ use std::fmt;
 
 /// Why a line of a stream of orders is refused (profile).
 #[derive(Clone, Copy, Debug, PartialEq, Eq)]
-pub enum LineFault {
+pub enum OrderLineFault {
     /// The line is too long, no JSON, or no submission, or memory ran out.
     Input(InputFault),
     /// What the line submits is no order.
     Item(ItemFault),
 }
 
-impl LineFault {
+impl OrderLineFault {
     ghost use Rattle.dali_follow.specs.Faults.{line_number_of, line_name_of};
 
     /// The fault's number.
@@ -28,8 +28,8 @@ impl LineFault {
         ensures { result ≡ line_number_of self.now }
     {
         match self {
-            LineFault::Input(fault) => fault.number(),
-            LineFault::Item(fault) => fault.number(),
+            OrderLineFault::Input(fault) => fault.number(),
+            OrderLineFault::Item(fault) => fault.number(),
         }
     }
 
@@ -39,15 +39,15 @@ impl LineFault {
         ensures short { length result.now ≤ 8 }
     {
         match self {
-            LineFault::Input(fault) => input_name(*fault),
-            LineFault::Item(ItemFault::Bank(fault)) => bank_name(*fault),
-            LineFault::Item(ItemFault::Shape) => "Shape",
-            LineFault::Item(ItemFault::Key) => "Key",
+            OrderLineFault::Input(fault) => input_name(*fault),
+            OrderLineFault::Item(ItemFault::Bank(fault)) => bank_name(*fault),
+            OrderLineFault::Item(ItemFault::Shape) => "Shape",
+            OrderLineFault::Item(ItemFault::Key) => "Key",
         }
     }
 }
 
-impl fmt::Display for LineFault {
+impl fmt::Display for OrderLineFault {
     ghost use Rattle.std.specs.Prelude.{Some};
     ghost use Rattle.dali_follow.specs.Faults.{line_name_of};
 
@@ -58,13 +58,13 @@ impl fmt::Display for LineFault {
     }
 }
 
-impl Error for LineFault {}
+impl Error for OrderLineFault {}
 
 // A line that is refused: the number of the order on it, where it has one, and why.
 #[derive(Clone, Copy)]
 pub(crate) struct RefusedLine {
     pub(crate) order: Option<u64>,
-    pub(crate) fault: LineFault,
+    pub(crate) fault: OrderLineFault,
 }
 
 fn input_name(fault: InputFault) -> &'static str

@@ -5,7 +5,7 @@ ghost use Rattle.dali_follow.specs.Buffers.{Holds};
 ghost use Rattle.dali_follow.specs.Judged.{JudgesAt, JudgesValue, JudgesLine, no_json_on, no_submission_on};
 ghost use Rattle.dali_follow.specs.Judged.{order_number as number_of_order};
 
-use crate::fault::{LineFault, RefusedLine};
+use crate::fault::{OrderLineFault, RefusedLine};
 use crate::line_buffer::{LINE_LIMIT, LineBuffer};
 use dali_bank::Order;
 use dali_input::{InputFault, json_of, order_of, submission_of};
@@ -40,7 +40,7 @@ fn judge_value(json: &Value, moment: u64) -> Result<(Order, u64), RefusedLine>
         Some(Ok((order, at))) => judge_at(order, at),
         Some(Err(fault)) => Err(RefusedLine {
             order: submitted_number(json),
-            fault: LineFault::Input(fault),
+            fault: OrderLineFault::Input(fault),
         }),
     }
 }
@@ -53,7 +53,7 @@ fn judge_at(item: &Value, moment: u64) -> Result<(Order, u64), RefusedLine>
         Ok(order) => Ok((order, moment)),
         Err(fault) => Err(RefusedLine {
             order: order_number(item),
-            fault: LineFault::Item(fault),
+            fault: OrderLineFault::Item(fault),
         }),
     }
 }
@@ -78,6 +78,6 @@ fn no_json(fault: InputFault) -> RefusedLine
 {
     RefusedLine {
         order: None,
-        fault: LineFault::Input(fault),
+        fault: OrderLineFault::Input(fault),
     }
 }

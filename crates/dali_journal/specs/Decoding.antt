@@ -1,8 +1,9 @@
 -- The records that bytes are decoded as, byte by byte: by this a journal's bytes are seen as its records.
 -- Of one piece it says what `Reading` does: that is the contract of `Record::read`.
-use Rattle.std.specs.Prelude.{ℕ, suc, zero, ◌+◌, ◌*◌, ◌-◌, ◌&&◌, ◌||◌, ◌==◌, nat_lt, nat_le, max, Bool}
+use Rattle.std.specs.Prelude.{ℕ, suc, zero, ◌+◌, ◌*◌, ◌-◌, ◌&&◌, ◌==◌, nat_lt, nat_le, max, Bool}
 use Rattle.std.specs.Prelude.{List, [], ◌∷◌, ◌++◌, length, take, drop, if◌then◌else◌}
 use Rattle.std.specs.Int.{w64, from_be_bytes}
+use Rattle.dali_bank.specs.Order.{is_writable}
 use Rattle.dali_journal.specs.declared.record.Code.{Code}
 use Rattle.dali_journal.specs.declared.record.Code.TheVariants.{Done, Short, Format, Silent, Doubt, DoubtOpen}
 use Rattle.dali_journal.specs.declared.record.Record.{Record}
@@ -21,8 +22,7 @@ places_above low = (0x10 - max low 0x02) + (0x77 - max low 0x12)
 -- whether a location may follow another, with so many to come behind it
 abbrev pub fits : ℕ → ℕ → ℕ → Bool
 fits to_come low location =
-    ((nat_le 0x03 location && nat_le location 0x10) || (nat_le 0x13 location && nat_le location 0x77))
-    && nat_lt low location && nat_le to_come (places_above location)
+    is_writable location && nat_lt low location && nat_le to_come (places_above location)
 
 -- the pairs behind one
 abbrev pub behind_pair : ℕ × ℕ → Pairs → Pairs

@@ -7,7 +7,7 @@ ghost use Rattle.dali_journal.specs.Decoding.{timed_piece, counted_piece, pairs_
 use crate::record::{Code, Record};
 use crate::version::Version;
 use arrayvec::ArrayVec;
-use dali_bank::{MOST_UPDATES, Order};
+use dali_bank::{MOST_UPDATES, Order, is_writable};
 
 /// What some bytes begin with (profile).
 #[derive(Drop)]
@@ -176,9 +176,7 @@ fn read_pairs(bytes: &[u8], count: u8) -> Pairs
 fn fits(to_come: u8, low: u8, location: u8) -> bool
     ensures { result ≡ fits to_come low location }
 {
-    (0x03 <= location && location <= 0x10 || 0x13 <= location && location <= 0x77)
-        && low < location
-        && to_come <= places_above(location)
+    is_writable(location) && low < location && to_come <= places_above(location)
 }
 
 // How many locations above one an order may write.

@@ -15,8 +15,8 @@ use Rattle.dali_trace.specs.declared.happening.Happening.TheVariants.{Asked, Ans
 use Rattle.dali_trace.specs.Cut.{since, is_stop, is_start, is_turn}
 use Rattle.dali_trace.proofs.CutLemmas.{frames_on}
 use Rattle.dali_trace.specs.Trace.{pace_at, waiting_since, since_in}
-use Rattle.dali_trace.specs.Trace.{Start, records_of, standing_at, sent_of, sent_since_taken, waiting, course_of}
-use Rattle.dali_trace.specs.Trace.{waits_in, replied, next_course, Course, Quiet}
+use Rattle.dali_trace.specs.Trace.{Start, records_of, standing_at, sent_of, sent_since_taken, waiting, outstanding_of}
+use Rattle.dali_trace.specs.Trace.{waits_in, replied, next_outstanding, Outstanding, Quiet}
 use Rattle.dali_trace.specs.Legal.{Serves, IsGuardedWrite, MaySend, IsDue, MayKeep, MaySay, MayHappen, Replies}
 use Rattle.dali_trace.specs.Legal.{MayFollow, IsFinished}
 use Rattle.dali_trace.specs.ByPlan.{told_in, IsPlanned}
@@ -28,7 +28,7 @@ pub record Agree (start next : Start) (whole more : List Happening) : Type 0 whe
   pub records : records_of start whole ≡ records_of next more
   pub sent : sent_of whole ≡ sent_of more
   pub since : sent_since_taken whole ≡ sent_since_taken more
-  pub course : course_of whole ≡ course_of more
+  pub outstanding : outstanding_of whole ≡ outstanding_of more
 
 -- What may follow the one may follow the other
 
@@ -75,15 +75,16 @@ keeps_too : (start next : Start) (whole more : List Happening) (entry : Record) 
     → MayKeep start whole entry
 keeps_too start next whole more entry agree may = record {
   whole = rw (agree.records, agree.limit) may.whole;
-  due = due_too whole more entry (ap waits_in agree.course) (ap since_in agree.course) agree.since may.due;
+  due = due_too whole more entry (ap waits_in agree.outstanding) (ap since_in agree.outstanding) agree.since may.due;
   grounds = rw (agree.records, agree.sent) may.grounds;
 }
 
 says_too : (start next : Start) (whole more : List Happening) (id : ℕ) (reply : Reply) → Agree start next whole more
     → MaySay next more id reply
     → MaySay start whole id reply
-says_too start next whole more id (replies.Kept code) agree may = rw (agree.course, agree.records) may
-says_too start next whole more id (replies.Blocked unit) agree may = rw (agree.records, agree.course, agree.since) may
+says_too start next whole more id (replies.Kept code) agree may = rw (agree.outstanding, agree.records) may
+says_too start next whole more id (replies.Blocked unit) agree may =
+    rw (agree.records, agree.outstanding, agree.since) may
 says_too start next whole more id reply agree may = absurd may
 
 pub happens_too : (start next : Start) (whole more : List Happening) (newest : Happening) → Agree start next whole more
@@ -91,7 +92,7 @@ pub happens_too : (start next : Start) (whole more : List Happening) (newest : H
     → MayHappen start whole newest
 happens_too start next whole more (Answered id reply) agree may = says_too start next whole more id reply agree may
 happens_too start next whole more (Sent frame answer) agree may =
-    rw agree.records (sends_too whole more (standing_at next more) frame (ap waits_in agree.course) agree.sent may)
+    rw agree.records (sends_too whole more (standing_at next more) frame (ap waits_in agree.outstanding) agree.sent may)
 happens_too start next whole more (Kept entry) agree may = keeps_too start next whole more entry agree may
 happens_too start next whole more _ agree may = tt
 
@@ -99,7 +100,7 @@ pub replies_too : (start next : Start) (whole more : List Happening) (order : Co
     → Agree start next whole more
     → Replies next more order newest → Replies start whole order newest
 replies_too start next whole more order (Answered id reply) agree due =
-    (due.0, rw (agree.records, agree.course, agree.limit) due.1)
+    (due.0, rw (agree.records, agree.outstanding, agree.limit) due.1)
 replies_too start next whole more order _ agree due = absurd due
 
 pub planned_too : (start next : Start) (whole more : List Happening) (newest : Happening)
@@ -119,7 +120,7 @@ passed_over : (start : Start) (past : List Happening) (order : Contents) (moment
     → Agree start start (Answered order.id reply ∷ Asked order moment ∷ past) past
 passed_over start past order moment replies.Taken other = absurd (other refl)
 passed_over start past order moment reply other =
-    record { limit = refl; records = refl; sent = refl; since = refl; course = refl }
+    record { limit = refl; records = refl; sent = refl; since = refl; outstanding = refl }
 
 told_still : (past : List Happening) (order : Contents) (moment : ℕ) (reply : Reply) → reply ≢ replies.Taken
     → told_in (Answered order.id reply ∷ Asked order moment ∷ past) ≡ told_in past
@@ -132,7 +133,7 @@ turned agree = record {
   records = sym agree.records;
   sent = sym agree.sent;
   since = sym agree.since;
-  course = sym agree.course;
+  outstanding = sym agree.outstanding;
 }
 
 -- where no reply is due, what may follow is what may happen
@@ -149,20 +150,20 @@ may_follow start _ next finished may = may
 
 -- and an answer is a saying
 pub said_quiet : (id : ℕ) (reply : Reply) (past : List Happening) → IsFinished past
-    → Quiet ≡ course_of (Answered id reply ∷ past)
+    → Quiet ≡ outstanding_of (Answered id reply ∷ past)
 said_quiet id reply (Asked order moment ∷ past) finished = absurd finished
 said_quiet id reply _ finished = refl
 
 -- two traces behind which the same comes
-course_on : (more whole past : List Happening) → IsFinished whole → IsFinished past → course_of whole ≡ course_of past
-    → course_of (more ++ whole) ≡ course_of (more ++ past)
-course_on [] whole past ends finished same = same
-course_on (Answered id reply ∷ []) whole past ends finished same =
+outstanding_on : (more whole past : List Happening) → IsFinished whole → IsFinished past
+    → outstanding_of whole ≡ outstanding_of past → outstanding_of (more ++ whole) ≡ outstanding_of (more ++ past)
+outstanding_on [] whole past ends finished same = same
+outstanding_on (Answered id reply ∷ []) whole past ends finished same =
     sym (said_quiet id reply whole ends) ∙ said_quiet id reply past finished
-course_on (Answered id reply ∷ Asked order moment ∷ more) whole past ends finished same =
-    ap (replied order moment reply) (course_on more whole past ends finished same)
-course_on (newest ∷ more) whole past ends finished same =
-    ap (λ (before : Course). next_course before newest) (course_on more whole past ends finished same)
+outstanding_on (Answered id reply ∷ Asked order moment ∷ more) whole past ends finished same =
+    ap (replied order moment reply) (outstanding_on more whole past ends finished same)
+outstanding_on (newest ∷ more) whole past ends finished same =
+    ap (λ (before : Outstanding). next_outstanding before newest) (outstanding_on more whole past ends finished same)
 
 records_on : (start : Start) (more whole past : List Happening) → records_of start whole ≡ records_of start past
     → records_of start (more ++ whole) ≡ records_of start (more ++ past)
@@ -183,7 +184,7 @@ agree_on start whole past ends finished agree more = record {
   records = records_on start more whole past agree.records;
   sent = frames_on is_stop more whole past agree.sent;
   since = frames_on is_start more whole past agree.since;
-  course = course_on more whole past ends finished agree.course;
+  outstanding = outstanding_on more whole past ends finished agree.outstanding;
 }
 
 -- what may follow the one may follow the other

@@ -6,12 +6,12 @@ use Rattle.dali_journal.specs.declared.record.Record.{Record}
 use Rattle.dali_journal.specs.declared.kept.Progress.{Progress}
 use Rattle.dali_journal.specs.Orders.{orders_of}
 use Rattle.dali_trace.specs.Possible.{Mark, Applied, Untouched, InDoubt, mark_of, byte_for, MayHold, IsPossible}
-use Rattle.dali_trace.specs.Possible.{Settles, IsSettled, applied_to, applied}
+use Rattle.dali_trace.specs.Possible.{IsCertainAfter, IsCertain, applied_to, applied}
 use Rattle.dali_trace.specs.Fits.{Fits, IsApplied}
 
 -- after one order more one byte alone is possible
 settled : (mark : Mark) (found : Option ℕ) (before : ℕ → Type 0) (sole : Type 0) (byte one : ℕ)
-    → Settles mark found sole → (sole → before byte → byte ≡ one)
+    → IsCertainAfter mark found sole → (sole → before byte → byte ≡ one)
     → MayHold mark found before byte → byte ≡ applied_to mark found one
 settled Applied (Some update) before sole byte one is only may = may
 settled Applied None before sole byte one is only may = only is may
@@ -21,12 +21,12 @@ settled InDoubt (Some update) before sole byte one is only may = absurd is
 settled InDoubt None before sole byte one is only may = only is may
 
 is_applied : (first address bank location byte : ℕ) (orders : List (Contents × Progress))
-    → IsSettled address bank location orders
+    → IsCertain address bank location orders
     → IsPossible first address bank location orders byte → byte ≡ applied first address bank location orders
 is_applied first address bank location byte [] is possible = possible
 is_applied first address bank location byte (newest ∷ older) is possible =
     settled (mark_of newest.1) (byte_for newest.0 address bank location) (IsPossible first address bank location older)
-    (IsSettled address bank location older) byte (applied first address bank location older) is
+    (IsCertain address bank location older) byte (applied first address bank location older) is
     (λ sole may. is_applied first address bank location byte older sole may) possible
 
 -- there is a byte where there is some

@@ -4,8 +4,8 @@ use Rattle.std.proofs.Common.{◌≡◌, refl, sym, ap, subst, List, [], ◌∷�
 use Rattle.dali_trace.specs.declared.happening.Happening.{Happening}
 use Rattle.dali_trace.specs.declared.happening.Happening.TheVariants.{Asked, Answered, Kept, Stopped}
 use Rattle.dali_trace.specs.Cut.{is_stop, is_start, is_turn, frames_in}
-use Rattle.dali_trace.specs.Trace.{pace_at, Start, records_of, Course, replied, next_course}
-use Rattle.dali_trace.specs.Trace.{course_of}
+use Rattle.dali_trace.specs.Trace.{pace_at, Start, records_of, Outstanding, replied, next_outstanding}
+use Rattle.dali_trace.specs.Trace.{outstanding_of}
 use Rattle.dali_trace.specs.Legal.{MayFollow, Legal, IsFinished}
 use Rattle.dali_trace.specs.ByPlan.{ByPlan}
 use Rattle.dali_trace.proofs.CutLemmas.{since_joined}
@@ -21,12 +21,13 @@ joined_records start next past [] same = sym same
 joined_records start next past (Kept entry ∷ more) same = ap (◌∷◌ entry) (joined_records start next past more same)
 joined_records start next past (other ∷ more) same = joined_records start next past more same
 
-joined_course : (pace : Pace) (past more : List Happening) → course_of (more ++ Stopped pace ∷ past) ≡ course_of more
-joined_course pace past [] = refl
-joined_course pace past (Answered id reply ∷ Asked order moment ∷ more) =
-    ap (replied order moment reply) (joined_course pace past more)
-joined_course pace past (newest ∷ more) =
-    ap (λ (before : Course). next_course before newest) (joined_course pace past more)
+joined_outstanding : (pace : Pace) (past more : List Happening)
+    → outstanding_of (more ++ Stopped pace ∷ past) ≡ outstanding_of more
+joined_outstanding pace past [] = refl
+joined_outstanding pace past (Answered id reply ∷ Asked order moment ∷ more) =
+    ap (replied order moment reply) (joined_outstanding pace past more)
+joined_outstanding pace past (newest ∷ more) =
+    ap (λ (before : Outstanding). next_outstanding before newest) (joined_outstanding pace past more)
 
 -- and so does the plan
 joined_pace : (start next : Start) (past more : List Happening)
@@ -43,7 +44,7 @@ joined_agree start next past more records limit = record {
   records = joined_records start next past more records;
   sent = ap frames_in (since_joined is_stop (Stopped next.pace) past more refl);
   since = ap frames_in (since_joined is_start (Stopped next.pace) past more refl);
-  course = joined_course next.pace past more;
+  outstanding = joined_outstanding next.pace past more;
 }
 
 follows_too : (start next : Start) (past more : List Happening) (newest : Happening)

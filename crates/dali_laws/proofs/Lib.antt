@@ -11,8 +11,8 @@ pub mod ReplyLemmas
 pub mod TakenLemmas
 pub mod QuietLemmas
 pub mod RepeatLemmas
-pub mod Courses
-pub mod CourseLemmas
+pub mod Comings
+pub mod OnPlanLemmas
 pub mod WorkLemmas
 pub mod NextLemmas
 pub mod RunLossLemmas

@@ -26,7 +26,7 @@ use Rattle.dali_trace.specs.declared.happening.Happening.{Happening}
 use Rattle.dali_trace.specs.declared.happening.Happening.TheVariants.{Asked, Answered, Sent, Kept}
 use Rattle.dali_trace.specs.Trace.{pace_at, waiting_since}
 use Rattle.dali_trace.specs.Trace.{Start, records_of, standing_at, waiting, has_ended, is_at_work, is_busy, is_full}
-use Rattle.dali_trace.specs.Trace.{course_of}
+use Rattle.dali_trace.specs.Trace.{outstanding_of}
 use Rattle.dali_trace.specs.Legal.{EndsAs, HasNumber, IsDue, MaySend, MayHappen, Replies, Legal}
 use Rattle.dali_trace.specs.Grounds.{verdict_of, EndsIn}
 use Rattle.dali_trace.specs.ByPlan.{told_in, Asks, IsPlanned}
@@ -34,7 +34,7 @@ use Rattle.dali_trace.specs.Parts.{IsWork}
 use Rattle.dali_trace.specs.Next.{IsNext, IsSameBut}
 use Rattle.dali_laws.proofs.ReplyLemmas.{only_due}
 use Rattle.dali_laws.proofs.TakenLemmas.{none_waits_ended}
-use Rattle.dali_laws.proofs.CourseLemmas.{waits_on, closed_verdict}
+use Rattle.dali_laws.proofs.OnPlanLemmas.{waits_on, closed_verdict}
 use Rattle.dali_laws.proofs.WorkLemmas.{ended_idle}
 use Rattle.dali_write.specs.declared.pace.Pace.{Pace}
 
@@ -209,7 +209,7 @@ ends_as_one one other code last orders first second = absurd first
 ended_not_waiting : {A : Type 0} (start : Start) (past : List Happening) (order : Contents) → Legal start past
     → has_ended past ≡ true
     → waiting past ≡ Some order → A
-ended_not_waiting start past order legal ended waits = let none = none_waits_ended (course_of past) ended in cc
+ended_not_waiting start past order legal ended waits = let none = none_waits_ended (outstanding_of past) ended in cc
 
 ended_not_at_hand : {A : Type 0} (stands : Standing) (waits : Option Contents) → is_at_work stands ≡ false
     → waits ≡ None → IsAtHand stands waits → A
@@ -222,7 +222,7 @@ ended_not_on : {A : Type 0} (start : Start) (past : List Happening) → Legal st
     → IsAtHand (standing_at start past) (waiting past) → A
 ended_not_on start past legal ended hand =
     ended_not_at_hand (standing_at start past) (waiting past) (ended_idle start past legal ended)
-    (none_waits_ended (course_of past) ended) hand
+    (none_waits_ended (outstanding_of past) ended) hand
 
 idle_not_on : {A : Type 0} (stands : Standing) (waits : Option Contents) → stands ≡ standings.Idle
     → IsAtHand stands waits → A

@@ -36,7 +36,7 @@ use Rattle.dali_trace.specs.Fits.{OnlyNamed, HasBeenOpened}
 use Rattle.dali_trace.specs.Moments.{IsRight}
 use Rattle.dali_trace.specs.Work.{stood_at, kept_since}
 use Rattle.dali_laws.proofs.RecordLemmas.{not_lock}
-use Rattle.dali_laws.proofs.Courses.{EndedBy}
+use Rattle.dali_laws.proofs.Comings.{EndedBy}
 use Rattle.dali_trace.specs.Spared.{state_at_start, IsSpared}
 use Rattle.dali_laws.proofs.StandingLemmas.{named_opened}
 use Rattle.dali_laws.proofs.RepeatLemmas.{legal_sentence}
@@ -45,7 +45,7 @@ use Rattle.dali_laws.proofs.SparedLemmas.{Onset, blocked_never, kept_spared, blo
 use Rattle.dali_trace.specs.Runs.{AsksAllProper}
 use Rattle.dali_laws.proofs.ValidLemmas.{hand_valid, takes_all}
 use Rattle.dali_laws.proofs.WorkLemmas.{said_end}
-use Rattle.dali_laws.proofs.CourseLemmas.{on_course}
+use Rattle.dali_laws.proofs.OnPlanLemmas.{on_plan}
 use Rattle.dali_trace.specs.ByPlan.{told_in, ByPlan}
 use Rattle.dali_journal.specs.Orders.{orders_of}
 use Rattle.dali_write.specs.declared.pace.Pace.{Pace}
@@ -281,7 +281,7 @@ said_spared start zero first (Answered id (replies.Blocked left) ∷ past) last 
     let never =
     blocked_never (pace_at start past) (stood_at start past) (standing_at start past) (waiting past) (has_ended past)
     (orders_of (records_of start past)) (sent_since_taken past) (told_in past) (kept_since past)
-    id left legal.1.0 legal.1.1 planned.1 (on_course start past legal.0 planned.0) in
+    id left legal.1.0 legal.1.1 planned.1 (on_plan start past legal.0 planned.0) in
     let whole =
     starts_whole (IsAnother order.unit left_one) (sent_since_taken past) (state_at_start past state states) state
     since.run (blocked_sent left (sent_since_taken past) never.1) in

@@ -25,11 +25,11 @@ use Rattle.dali_trace.specs.declared.happening.Happening.TheVariants.{Asked, Ans
 use Rattle.dali_trace.specs.Cut.{since, is_stop, is_turn, frames_in, kept_in}
 use Rattle.dali_trace.proofs.CutLemmas.{since_sooner, frames_joined, frames_next}
 use Rattle.dali_trace.specs.Trace.{pace_at, Start, records_of, standing_at, sent_of, waiting, waits_in, is_at_work, is_busy}
-use Rattle.dali_trace.specs.Trace.{Course, Quiet, Waiting, Working, JustEnded, course_of, unsaid_in}
+use Rattle.dali_trace.specs.Trace.{Outstanding, Quiet, Waiting, Working, JustEnded, outstanding_of, unsaid_in}
 use Rattle.dali_trace.specs.Legal.{Legal, MayFollow, MaySend, MayKeep, IsDue}
 use Rattle.dali_trace.specs.ByPlan.{ByPlan, IsPlanned, Asks, told_in}
 use Rattle.dali_trace.specs.Grounds.{Grounds, IsSeen, RestsIfAny, verdict_of, EndsIn}
-use Rattle.dali_laws.proofs.CourseLemmas.{waits_on}
+use Rattle.dali_laws.proofs.OnPlanLemmas.{waits_on}
 use Rattle.dali_laws.proofs.RecordLemmas.{grounds_too}
 use Rattle.dali_laws.proofs.RepeatLemmas.{legal_sentence}
 use Rattle.dali_laws.proofs.SafeLemmas.{IsSafeFrame, IsSafe, AllSafe, safe_frame, safe_own, kept_own, sentence_own}
@@ -55,7 +55,7 @@ told_next before next part same =
 
 -- an answer that takes no order leaves nothing to be said where nothing was
 answered : (id : ℕ) (reply : Reply) (past : List Happening) → is_turn (Answered id reply) ≡ false
-    → course_of past ≡ Quiet → course_of (Answered id reply ∷ past) ≡ Quiet
+    → outstanding_of past ≡ Quiet → outstanding_of (Answered id reply ∷ past) ≡ Quiet
 answered id replies.Taken past other quiet = let never : true ≡ false = other in cc
 answered id reply (Asked order moment ∷ past) other quiet = quiet
 answered id reply _ other quiet = refl
@@ -63,7 +63,7 @@ answered id reply _ other quiet = refl
 -- behind a record, or from where nothing is said or waits and no order was taken since
 told_part : (before part : List Happening)
     → (told_in (part ++ before) ≡ told_in part)
-    ⊎ ((kept_in part ≡ []) × (course_of before ≡ Quiet → course_of (part ++ before) ≡ Quiet))
+    ⊎ ((kept_in part ≡ []) × (outstanding_of before ≡ Quiet → outstanding_of (part ++ before) ≡ Quiet))
 told_part before [] = inr (refl, λ quiet. quiet)
 told_part before (Kept entry ∷ part) = inl refl
 told_part before (Stopped pace ∷ part) = inl refl
@@ -241,14 +241,14 @@ kept_joined start before [] = refl
 kept_joined start before (Kept entry ∷ part) = ap (◌∷◌ entry) (kept_joined start before part)
 kept_joined start before (other ∷ part) = kept_joined start before part
 
-quiet_when_free : (start : Start) (past : List Happening) → is_busy start past ≡ false → course_of past ≡ Quiet
-quiet_when_free start past free = by (is_at_work (standing_at start past)) (course_of past) free where
-  by : (works : Bool) (course : Course) → (works || unsaid_in course) ≡ false → course ≡ Quiet
+quiet_when_free : (start : Start) (past : List Happening) → is_busy start past ≡ false → outstanding_of past ≡ Quiet
+quiet_when_free start past free = by (is_at_work (standing_at start past)) (outstanding_of past) free where
+  by : (works : Bool) (outstanding : Outstanding) → (works || unsaid_in outstanding) ≡ false → outstanding ≡ Quiet
   by false Quiet e = refl
   by false (Waiting order moment) e = absurd (true≢false e)
   by false Working e = absurd (true≢false e)
   by false JustEnded e = absurd (true≢false e)
-  by true course e = absurd (true≢false e)
+  by true outstanding e = absurd (true≢false e)
 
 busy_at_work : (start : Start) (past : List Happening) → is_at_work (standing_at start past) ≡ true
     → is_busy start past ≡ true
@@ -271,7 +271,7 @@ module _ (start own : Start) (before : List Happening) (older : List Record)
   of_part : (part : List Happening) → IsOfPart start before part
   of_part part = by (told_part before part) rests where
     quiet : (stands : Standing) → standing_at start before ≡ stands → is_busy start before ≡ false
-        → (kept_in part ≡ []) × (course_of before ≡ Quiet → course_of (part ++ before) ≡ Quiet)
+        → (kept_in part ≡ []) × (outstanding_of before ≡ Quiet → outstanding_of (part ++ before) ≡ Quiet)
         → IsUnasked start (part ++ before)
     quiet standings.Idle at free none = inl (none_kept part none.0 ∙ at)
     quiet (standings.Left left) at free none =
@@ -282,7 +282,7 @@ module _ (start own : Start) (before : List Happening) (older : List Record)
         let never : true ≡ false = sym (busy_at_work start before (ap is_at_work at)) ∙ free in cc
 
     by : (told_in (part ++ before) ≡ told_in part)
-        ⊎ ((kept_in part ≡ []) × (course_of before ≡ Quiet → course_of (part ++ before) ≡ Quiet))
+        ⊎ ((kept_in part ≡ []) × (outstanding_of before ≡ Quiet → outstanding_of (part ++ before) ≡ Quiet))
         → (standing_at start before ≡ standings.Idle) ⊎ (is_busy start before ≡ false)
         → IsOfPart start before part
     by (inl told) rests = inl told

@@ -4,7 +4,7 @@ use Rattle.dali_trace.specs.declared.happening.Happening.{Happening}
 use Rattle.dali_trace.specs.declared.happening.Happening.TheVariants.{Asked, Answered, Kept, Powered, Stopped}
 use Rattle.dali_trace.specs.Cut.{since, is_stop, is_start, is_turn, frames_in}
 use Rattle.dali_trace.proofs.CutLemmas.{frames_next}
-use Rattle.dali_trace.specs.Trace.{pace_at, Start, records_of, course_of, replied, next_course, Course}
+use Rattle.dali_trace.specs.Trace.{pace_at, Start, records_of, outstanding_of, replied, next_outstanding, Outstanding}
 use Rattle.dali_trace.specs.Legal.{MayFollow, Legal, IsFinished}
 use Rattle.dali_trace.specs.ByPlan.{IsPlanned, ByPlan}
 use Rattle.dali_laws.specs.Powered.{unpowered, IsPowerApart}
@@ -44,15 +44,15 @@ older_apart : (next : Happening) (past : List Happening) → IsPowerApart (next 
 older_apart (Powered address) (Asked order moment ∷ past) apart = absurd apart
 older_apart _ past apart = apart
 
-same_course : (past : List Happening) → IsPowerApart past → course_of past ≡ course_of (unpowered past)
-same_course [] apart = refl
-same_course (Powered address ∷ past) apart = same_course past (older_apart (Powered address) past apart)
-same_course (Answered id reply ∷ Asked order moment ∷ past) apart =
-    ap (replied order moment reply) (same_course past apart)
-same_course (Answered id reply ∷ Powered address ∷ past) apart =
+same_outstanding : (past : List Happening) → IsPowerApart past → outstanding_of past ≡ outstanding_of (unpowered past)
+same_outstanding [] apart = refl
+same_outstanding (Powered address ∷ past) apart = same_outstanding past (older_apart (Powered address) past apart)
+same_outstanding (Answered id reply ∷ Asked order moment ∷ past) apart =
+    ap (replied order moment reply) (same_outstanding past apart)
+same_outstanding (Answered id reply ∷ Powered address ∷ past) apart =
     said_quiet id reply (unpowered past) (not_asked address past apart)
-same_course (newest ∷ past) apart =
-    ap (λ (before : Course). next_course before newest) (same_course past apart)
+same_outstanding (newest ∷ past) apart =
+    ap (λ (before : Outstanding). next_outstanding before newest) (same_outstanding past apart)
 
 agrees : (start : Start) (past : List Happening) → IsPowerApart past → Agree start start past (unpowered past)
 agrees start past apart = record {
@@ -60,7 +60,7 @@ agrees start past apart = record {
   records = same_records start past;
   sent = same_frames is_stop (λ address. refl) past;
   since = same_frames is_start (λ address. refl) past;
-  course = same_course past apart;
+  outstanding = same_outstanding past apart;
 }
 
 follows : (start : Start) (past : List Happening) (next : Happening) → IsPowerApart past

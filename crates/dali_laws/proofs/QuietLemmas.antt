@@ -10,7 +10,7 @@ use Rattle.dali_trace.specs.declared.happening.Reply.{Reply}
 use Rattle.dali_trace.specs.declared.happening.Reply.TheVariants as replies
 use Rattle.dali_trace.specs.declared.happening.Happening.{Happening}
 use Rattle.dali_trace.specs.declared.happening.Happening.TheVariants.{Asked, Answered, Sent, Kept, Stopped}
-use Rattle.dali_trace.specs.Trace.{Start, records_of, standing_at, waiting, is_unsaid, is_at_work, is_busy, course_of}
+use Rattle.dali_trace.specs.Trace.{Start, records_of, standing_at, waiting, is_unsaid, is_at_work, is_busy, outstanding_of}
 use Rattle.dali_trace.specs.Legal.{Serves, MaySay, MaySend, MayKeep, Legal}
 use Rattle.dali_trace.specs.Quiet.{NoneTaken, NoneSent}
 use Rattle.dali_laws.proofs.SafeLemmas.{may_keep, may_send}
@@ -48,7 +48,7 @@ pub is_still : (start : Start) (past : List Happening) → Legal start past → 
     → IsStill start past
 is_still start past legal e =
     let both = neither (is_at_work (standing_at start past)) (is_unsaid past) e in
-    record { idle = both.0; said = both.1; none = none_waits (course_of past) both.1 }
+    record { idle = both.0; said = both.1; none = none_waits (outstanding_of past) both.1 }
 
 keeps_none : {A : Type 0} (start : Start) (past : List Happening) (entry : Record) → IsStill start past
     → MayKeep start past entry → A
@@ -60,7 +60,7 @@ keeps_none start past (Closed unit) still may = let some : false ≡ true = rw s
 says_none : {A : Type 0} (start : Start) (past : List Happening) (id : ℕ) (reply : Reply) → IsStill start past
     → MaySay start past id reply → A
 says_none start past id (replies.Kept code) still may =
-    let unsaid = ended_unsaid (course_of past) may.0 in let said = still.said in cc
+    let unsaid = ended_unsaid (outstanding_of past) may.0 in let said = still.said in cc
 says_none start past id (replies.Blocked unit) still may = absurd (rw still.none at may.1)
 says_none start past id reply still may = absurd may
 

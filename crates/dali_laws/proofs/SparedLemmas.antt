@@ -43,9 +43,9 @@ use Rattle.dali_journal.specs.declared.kept.Progress.{Progress}
 use Rattle.dali_journal.specs.Orders.{orders_of}
 use Rattle.dali_trace.specs.Grounds.{EndsIn}
 use Rattle.dali_trace.specs.ByPlan.{told_in, Asks, IsPlanned, ByPlan}
-use Rattle.dali_laws.proofs.Courses.{ClosedBy, CheckedBy, OpenedBy, EndedBy, HasCome}
+use Rattle.dali_laws.proofs.Comings.{ClosedBy, CheckedBy, OpenedBy, EndedBy, HasCome}
 use Rattle.dali_trace.specs.Work.{stood_at, kept_since, order_at_hand}
-use Rattle.dali_laws.proofs.CourseLemmas.{on_course}
+use Rattle.dali_laws.proofs.OnPlanLemmas.{on_plan}
 use Rattle.dali_laws.proofs.WorkLemmas.{said_end}
 use Rattle.dali_trace.specs.Spared.{state_at_start, losses_since, UnrefusedSince, due_code}
 use Rattle.dali_laws.proofs.RunLossLemmas.{IsAnother, RunBeside, losses_to, Since, own_losses, left_losses, halves}
@@ -461,7 +461,7 @@ blocked_spared start past id left state states legal planned may asked unit bank
     let never =
     blocked_never (pace_at start past) (stood_at start past) (standing_at start past) (waiting past) (has_ended past)
     (orders_of (records_of start past)) (sent_since_taken past) (told_in past) (kept_since past)
-    id left may.0 may.1 asked (on_course start past legal planned) in
+    id left may.0 may.1 asked (on_plan start past legal planned) in
     let count = since.losses in
     spared_closed (stood_at start past) left unit bank (sent_since_taken past) (state_at_start past state states) state
     since.run never.0 onset (since.kind kind) (omega arith) never.1

@@ -19,7 +19,7 @@ use Rattle.dali_trace.specs.declared.happening.Reply.TheVariants as replies
 use Rattle.dali_trace.specs.declared.happening.Happening.{Happening}
 use Rattle.dali_trace.specs.declared.happening.Happening.TheVariants.{Asked, Answered, Sent, Kept, Stopped, Powered}
 use Rattle.dali_trace.specs.Trace.{pace_at, Start, records_of, standing_at, sent_since_taken, waiting, has_ended, is_unsaid}
-use Rattle.dali_trace.specs.Trace.{is_at_work, is_busy, course_of}
+use Rattle.dali_trace.specs.Trace.{is_at_work, is_busy, outstanding_of}
 use Rattle.dali_trace.specs.Legal.{Legal, MaySay, HasNumber, IsFinished}
 use Rattle.dali_trace.specs.ByPlan.{ByPlan}
 use Rattle.dali_trace.specs.Parts.{IsWork, Part, AreParts}
@@ -30,7 +30,7 @@ use Rattle.dali_laws.proofs.AgreeLemmas.{may_happen}
 use Rattle.dali_laws.proofs.TakenLemmas.{ended_unsaid, waits_unsaid}
 use Rattle.dali_laws.proofs.SafeLemmas.{may_keep}
 use Rattle.dali_laws.proofs.StandingLemmas.{begun_order, open_order}
-use Rattle.dali_laws.proofs.CourseLemmas.{idle_next}
+use Rattle.dali_laws.proofs.OnPlanLemmas.{idle_next}
 use Rattle.dali_laws.proofs.WorkLemmas.{within_limit, said_end}
 
 -- while an order is at hand the trace is busy
@@ -53,7 +53,7 @@ busy : (start : Start) (past : List Happening) (order : Contents) → Legal star
 busy start past order legal hand =
     at_hand_busy (standing_at start past) (waiting past) (has_ended past) (is_unsaid past)
     (orders_of (records_of start past)) order hand
-    (λ o waits_is. waits_unsaid (course_of past) o waits_is) (ended_unsaid (course_of past))
+    (λ o waits_is. waits_unsaid (outstanding_of past) o waits_is) (ended_unsaid (outstanding_of past))
 
 -- a record leaves the order at hand
 still_opened : (now : Standing) (unit : ℕ) (waiter : Option Contents) (ended : Bool)

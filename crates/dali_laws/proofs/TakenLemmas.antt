@@ -15,7 +15,7 @@ use Rattle.dali_trace.specs.declared.happening.Reply.TheVariants as replies
 use Rattle.dali_trace.specs.declared.happening.Happening.{Happening}
 use Rattle.dali_trace.specs.declared.happening.Happening.TheVariants.{Asked, Answered, Kept, Stopped}
 use Rattle.dali_trace.specs.Trace.{Start, records_of, standing_at, waiting, is_unsaid, is_at_work, is_busy}
-use Rattle.dali_trace.specs.Trace.{Course, Quiet, Waiting, Working, JustEnded, course_of, waits_in, unsaid_in, ended_in}
+use Rattle.dali_trace.specs.Trace.{Outstanding, Quiet, Waiting, Working, JustEnded, outstanding_of, waits_in, unsaid_in, ended_in}
 use Rattle.dali_trace.specs.Taken.{without, taken_or_waiting, taken_orders, begun_orders}
 use Rattle.dali_trace.specs.Legal.{Legal}
 use Rattle.dali_laws.proofs.SafeLemmas.{may_keep}
@@ -25,27 +25,28 @@ neither true b e = cc
 neither false b e = (refl, e)
 
 -- where an order has ended, that is unsaid
-pub ended_unsaid : (course : Course) → ended_in course ≡ true → unsaid_in course ≡ true
+pub ended_unsaid : (outstanding : Outstanding) → ended_in outstanding ≡ true → unsaid_in outstanding ≡ true
 ended_unsaid Quiet e = cc
 ended_unsaid (Waiting order moment) e = refl
 ended_unsaid Working e = refl
 ended_unsaid JustEnded e = refl
 
-pub waits_unsaid : (course : Course) (order : Contents) → waits_in course ≡ Some order → unsaid_in course ≡ true
+pub waits_unsaid : (outstanding : Outstanding) (order : Contents) → waits_in outstanding ≡ Some order
+    → unsaid_in outstanding ≡ true
 waits_unsaid Quiet order e = cc
 waits_unsaid (Waiting other moment) order e = refl
 waits_unsaid Working order e = cc
 waits_unsaid JustEnded order e = cc
 
 -- where all is said, no order waits
-pub none_waits : (course : Course) → unsaid_in course ≡ false → waits_in course ≡ None
+pub none_waits : (outstanding : Outstanding) → unsaid_in outstanding ≡ false → waits_in outstanding ≡ None
 none_waits Quiet e = refl
 none_waits (Waiting order moment) e = cc
 none_waits Working e = cc
 none_waits JustEnded e = cc
 
 -- nor where an order has ended
-pub none_waits_ended : (course : Course) → ended_in course ≡ true → waits_in course ≡ None
+pub none_waits_ended : (outstanding : Outstanding) → ended_in outstanding ≡ true → waits_in outstanding ≡ None
 none_waits_ended Quiet e = cc
 none_waits_ended (Waiting order moment) e = cc
 none_waits_ended Working e = cc
@@ -133,7 +134,7 @@ pub kept_are_taken : (start : Start) (past : List Happening) → Legal start pas
 kept_are_taken start [] legal = refl
 kept_are_taken start (Answered id replies.Taken ∷ Asked order moment ∷ past) legal =
     let both = neither (is_at_work (standing_at start past)) (is_unsaid past) legal.1.1.1 in
-    let none = none_waits (course_of past) both.1 in
+    let none = none_waits (outstanding_of past) both.1 in
     stays (waiting past) (taken_or_waiting past) (begun_orders (records_of start past))
     (begun_orders start.records) none
     (kept_are_taken start past legal.0.0)
@@ -141,7 +142,7 @@ kept_are_taken start (Answered id (replies.Blocked unit) ∷ Asked order moment 
 kept_are_taken start (Answered id reply ∷ Asked order moment ∷ past) legal = kept_are_taken start past legal.0.0
 kept_are_taken start (Answered id (replies.Kept code) ∷ past) legal =
     stays (waiting past) (taken_or_waiting past) (begun_orders (records_of start past)) (begun_orders start.records)
-    (none_waits_ended (course_of past) legal.1.0) (kept_are_taken start past legal.0)
+    (none_waits_ended (outstanding_of past) legal.1.0) (kept_are_taken start past legal.0)
 kept_are_taken start (Answered id (replies.Blocked unit) ∷ past) legal = kept_are_taken start past legal.0
 kept_are_taken start (Answered id reply ∷ past) legal = absurd legal.1
 kept_are_taken start (Kept (Began order moment) ∷ past) legal =

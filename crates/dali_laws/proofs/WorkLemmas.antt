@@ -1,4 +1,4 @@
--- What a trace that is on course costs.
+-- What a trace that keeps to the plans costs.
 use Rattle.std.proofs.Common.{◌≡◌, ◌⊎◌, inl, inr, refl, sym, ap, ◌∙◌, subst, ℕ, ◌+◌, ◌*◌, ◌≤◌, Bool, true, false}
 use Rattle.std.specs.Prelude.{⊤}
 use Rattle.std.proofs.Common.{nat_lt, if◌then◌else◌, List, [], ◌∷◌, ◌++◌, length, length-append, append-nil, Option}
@@ -38,14 +38,14 @@ use Rattle.dali_trace.specs.declared.happening.Reply.TheVariants as replies
 use Rattle.dali_trace.specs.declared.happening.Happening.{Happening}
 use Rattle.dali_trace.specs.declared.happening.Happening.TheVariants.{Asked, Answered, Sent, Kept, Stopped}
 use Rattle.dali_trace.specs.Trace.{pace_at, Start, records_of, standing_at, sent_since_taken, waiting, has_ended, is_at_work}
-use Rattle.dali_trace.specs.Trace.{course_of}
+use Rattle.dali_trace.specs.Trace.{outstanding_of}
 use Rattle.dali_trace.specs.Legal.{Legal, MaySay, EndsAs, HasNumber}
 use Rattle.dali_trace.specs.Grounds.{EndsIn}
 use Rattle.dali_trace.specs.ByPlan.{told_in, Asks, ByPlan}
-use Rattle.dali_laws.proofs.Courses.{ClosedBy, CheckedBy, OpenedBy, EndedBy, NewestEndedBy, HasCome}
+use Rattle.dali_laws.proofs.Comings.{ClosedBy, CheckedBy, OpenedBy, EndedBy, NewestEndedBy, HasCome}
 use Rattle.dali_trace.specs.Work.{stood_at, kept_since, work_limit, look_frames, frames_from, FindsAnother, IsEarned}
 use Rattle.dali_trace.specs.Work.{order_at, IsWithinLimit, IsSaidSo, IsWorked}
-use Rattle.dali_laws.proofs.CourseLemmas.{on_course, idle_next}
+use Rattle.dali_laws.proofs.OnPlanLemmas.{on_plan, idle_next}
 use Rattle.dali_laws.proofs.TakenLemmas.{none_waits_ended, no_opened}
 use Rattle.dali_laws.proofs.SafeLemmas.{may_keep}
 use Rattle.dali_write.specs.declared.pace.Pace.{Pace}
@@ -181,7 +181,7 @@ pub within_limit : (start : Start) (past : List Happening) → Legal start past 
 within_limit start past legal planned =
     within (pace_at start past) (stood_at start past) (standing_at start past) (waiting past) (has_ended past)
     (orders_of (records_of start past)) (sent_since_taken past) (told_in past) (kept_since past)
-    (in_session start past planned) (on_course start past legal planned)
+    (in_session start past planned) (on_plan start past legal planned)
 
 -- exact counts
 
@@ -378,8 +378,8 @@ pub said_end : (start : Start) (past : List Happening) (id : ℕ) (code : Code) 
 said_end start past id code legal planned may =
     said_by (pace_at start past) (stood_at start past) (standing_at start past) (waiting past) (has_ended past)
     (orders_of (records_of start past)) (sent_since_taken past) (told_in past) (kept_since past) id code
-    (ended_idle start past legal may.0) (none_waits_ended (course_of past) may.0) may.0 may.1
-    (on_course start past legal planned)
+    (ended_idle start past legal may.0) (none_waits_ended (outstanding_of past) may.0) may.0 may.1
+    (on_plan start past legal planned)
 
 -- the saying that an order is blocked
 blocked_by : (pace : Pace) (first now : Standing) (waiter : Option Contents) (ended : Bool)
@@ -412,7 +412,7 @@ said_so start (Answered id (replies.Kept code) ∷ past) legal planned =
 said_so start (Answered id (replies.Blocked unit) ∷ past) legal planned =
     blocked_by (pace_at start past) (stood_at start past) (standing_at start past) (waiting past) (has_ended past)
     (orders_of (records_of start past)) (sent_since_taken past) (told_in past) (kept_since past) id unit
-    legal.1.0 legal.1.1 planned.1 (on_course start past legal.0 planned.0)
+    legal.1.0 legal.1.1 planned.1 (on_plan start past legal.0 planned.0)
 said_so start (Answered id reply ∷ past) legal planned = absurd legal.1
 said_so start (_ ∷ past) legal planned = tt
 

@@ -4,7 +4,7 @@ use Rattle.std.specs.Prelude.{⊤}
 use Rattle.dali_faults.specs.declared.fault.Status.TheVariants.{Good, Unwritten}
 use Rattle.dali_drive.specs.Desks.{Failures, Look, failures, look_of}
 use Rattle.dali_drive.specs.Transcript.{shown}
-use Rattle.dali_store.specs.Stores.{IsSettled}
+use Rattle.dali_store.specs.Stores.{IsDurable}
 use Rattle.dali_link_commands.specs.Benches.{IsUndriven, TellsUnwritten, with_lines}
 
 -- a desk whose journal shows one byte, of which a stop leaves just that; a line of the link's answers is unread
@@ -100,7 +100,7 @@ not_unwritten_where_another_failed tells = let failed = tells.0 refl in cc
 
 -- what shows a byte and may be left with none isn't settled
 pub emptied_unsettled : (seen : Option (List ℕ)) (may_leave : List ℕ → Type 0) → seen ≡ Some (1 ∷ []) → may_leave []
-    → IsSettled seen may_leave → ⊥
+    → IsDurable seen may_leave → ⊥
 emptied_unsettled seen may_leave shows less settled = let none = rw shows at settled [] less in cc
 
 -- nor are both shown at once

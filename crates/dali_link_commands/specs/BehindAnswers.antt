@@ -20,11 +20,11 @@ use Rattle.dali_drive.specs.Followed.{happenings}
 use Rattle.dali_drive.specs.Listed.{GaveListed, state_of}
 use Rattle.dali_drive.specs.StdStreams.{source_left, source_failed}
 use Rattle.dali_drive.specs.Stored.{EndsAtFault}
-use Rattle.dali_drive.specs.Desks.{Look, Settled, IsUnfailed, FailsOpen, ShowsFault}
+use Rattle.dali_drive.specs.Desks.{Look, IsDurableAt, IsUnfailed, FailsOpen, ShowsFault}
 use Rattle.dali_follow.specs.declared.order_lines.OrderLines.{OrderLines}
 use Rattle.dali_follow.specs.Gave as lines
 use Rattle.dali_report.specs.declared.report.Report.{Report}
-use Rattle.dali_report.specs.Reports.{outcome_of}
+use Rattle.dali_report.specs.Outcomes.{outcome_of}
 use Rattle.dali_report.specs.Told.{IsTold, IsToldEnd}
 use Rattle.dali_engine.specs.WriterState.{WriterState, start_by}
 use Rattle.dali_faults.specs.declared.fault.Fault.{Fault}
@@ -62,7 +62,7 @@ module _ {G N : Type 0} (gave : G → G → List Given → Type 0) (over : G →
     pub followed : IsFollowBehind gave over (IsTold contents) older order_limit journal_limit pace orders
         first.streams before writer left last.streams after
     pub unfailed : IsUnfailed last.failed
-    pub settled : Settled last
+    pub settled : IsDurableAt last
 
 module _ {G N : Type 0} (gave : G → G → List Given → Type 0) (contents : N → Option (List ℕ))
     (older : Option JournalState) (pace : Pace) (before after : Report N) (orders left : G) (first : Look)
@@ -139,7 +139,7 @@ module _ {N : Type 0} (older : Option JournalState) (contents : N → Option (Li
     pub driven : IsDriveBehind (IsTold contents) older order_limit journal_limit pace (at_moment moment orders)
         first.streams before writer (with_lines last replies lost).streams after
     pub unfailed : IsUnfailed (with_lines last replies lost).failed
-    pub settled : Settled last
+    pub settled : IsDurableAt last
     pub told : TellsEnded required (outcome_of (start_by pace driven.behind.journal) driven.observed.drive.past)
         status replies last.streams.out
 

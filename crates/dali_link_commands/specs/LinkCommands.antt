@@ -10,9 +10,10 @@ use Rattle.dali_report.specs.Told.{has_failed, has_output}
 use Rattle.dali_report.specs.declared.progress.Watched.{Watched}
 use Rattle.dali_faults.specs.declared.fault.Status.{Status}
 use Rattle.dali_faults.specs.declared.fault.Status.TheVariants.{Failed, Unwritten}
+use Rattle.dali_link_commands.specs.declared.drive.DriveTask.{DriveTask}
 use Rattle.dali_link_commands.specs.declared.link_command.LinkCommand.{LinkCommand}
 use Rattle.dali_link_commands.specs.declared.report_output.ReportOutput.{ReportOutput}
-use Rattle.dali_link_commands.specs.declared.link_command.LinkCommand.TheVariants.{Drive, Follow, Read, Verify, Scan}
+use Rattle.dali_link_commands.specs.declared.link_command.LinkCommand.TheVariants.{Drive, Read, Verify, Scan}
 use Rattle.dali_link_commands.specs.BehindAnswers.{IsAnswerBehind, IsBehindNamed, IsFileFollow, EndsUnread}
 use Rattle.dali_journal.specs.JournalState.{JournalState}
 use Rattle.dali_link_commands.specs.Benches.{with_lines}
@@ -28,15 +29,13 @@ IsShort other = ⊤
 
 -- the name of the file that it writes, and none where it writes none
 abbrev pub file_of : LinkCommand → List ℕ
-file_of (Drive task report) = task.journal.now
-file_of (Follow task report) = task.journal.now
+file_of (Drive task) = task.journal.now
 file_of (Read unit bank) = bank.now
 file_of other = []
 
 -- of what a person watches how far it is
 abbrev pub watched_of : LinkCommand → Watched
-watched_of (Drive task report) = Watched.Drive task.pace
-watched_of (Follow task report) = Watched.Drive task.pace
+watched_of (Drive task) = Watched.Drive task.pace
 watched_of (Read unit bank) = Watched.Read
 watched_of (Verify orders report) = Watched.Verify
 watched_of (Scan addresses sought) = Watched.Scan (length (asked_addresses addresses.now))
@@ -86,25 +85,29 @@ abbrev pub OverOrders : (Report ReportOutput → Report ReportOutput → List Co
 OverOrders answers before after first status last =
     IsFileAnswer (answers before after) (after ≡ before) first status last
 
--- one behind the older journals of these names
-abbrev pub BehindNamed : {A : Type 0} → List A
-    → (Option JournalState → Report ReportOutput → Report ReportOutput → Look → Status → Look → Type 0)
-    → Report ReportOutput → Report ReportOutput → Look → Status → Look → Type 0
-BehindNamed names answers before after first status last =
-    IsBehindNamed names (λ older. answers older before after first status last)
-    (EndsUnread before after first status last)
+-- a drive of a task behind an older journal or none: of orders that come line by line, or of all those of a file
+abbrev pub Drives : {N : Type 0} → Bool → (N → Option (List ℕ)) → DriveTask → Option JournalState → Report N → Report N
+    → Look → Status → Look → Type 0
+Drives true contents task older before after first status last =
+    IsFileFollow older file_contents contents task.moment task.pace task.required before after first status last
+Drives false contents task older before after first status last =
+    IsFileAnswer (IsAnswerBehind older contents task.moment task.pace task.required before after) (after ≡ before)
+    first status last
+
+abbrev pub IsDriveAnswer : {N : Type 0} → (N → Option (List ℕ)) → DriveTask → Option JournalState → Report N
+    → Report N → Look → Status → Look → Type 0
+IsDriveAnswer contents task older before after first status last =
+    Drives task.follow contents task older before after first status last
 
 -- of what a stop may leave of the file of a bank nothing is known
 abbrev pub anything : (List ℕ → Type 0) → Type 0
 anything leaves = ⊤
 
 abbrev pub IsLinkAnswer : LinkCommand → Look → Status → Look → Type 0
-IsLinkAnswer (Drive task report) first status last =
-    IsReported (is_some report) (BehindNamed task.older.now (λ older.
-    OverOrders (IsAnswerBehind older report_contents task.moment task.pace task.required))) first status last
-IsLinkAnswer (Follow task report) first status last =
-    IsReported (is_some report) (BehindNamed task.older.now (λ older.
-    IsFileFollow older file_contents report_contents task.moment task.pace task.required)) first status last
+IsLinkAnswer (Drive task) first status last =
+    IsReported (is_some task.report) (λ before after. λ begun ended behind.
+    IsBehindNamed task.older.now (λ older. IsDriveAnswer report_contents task older before after begun ended behind)
+    (EndsUnread before after begun ended behind)) first status last
 IsLinkAnswer (Read unit bank) first status last = IsReadAnswer unit anything first status last
 IsLinkAnswer (Verify orders report) first status last =
     IsReported (is_some report) (OverOrders (IsVerifyAnswer report_contents)) first status last

@@ -13,7 +13,7 @@ use Rattle.dali_drive.specs.declared.sought.Sought.{Sought}
 use Rattle.dali_drive.specs.SurveyLines.{bytes_line, silent_line}
 use Rattle.dali_drive.specs.Surveys.{IsScan, ScanBroke, IsVerifiedTold, VerifyBrokeTold, link_of}
 use Rattle.dali_drive.specs.Transcript.{Streams}
-use Rattle.dali_drive.specs.Desks.{Look, Settled, IsUnfailed, FailsOpen, ShowsFault, LeavesNoMore}
+use Rattle.dali_drive.specs.Desks.{Look, IsDurableAt, IsUnfailed, FailsOpen, ShowsFault, LeavesNoMore}
 use Rattle.dali_drive.specs.UnitRead.{IsUnitRead, UnitReadBroke}
 use Rattle.dali_report.specs.declared.report.Report.{Report}
 use Rattle.dali_report.specs.Told.{IsToldFound}
@@ -41,7 +41,7 @@ module _ (unit : ℕ) (leaves_only : (List ℕ → Type 0) → Type 0) (first : 
     pub bytes : List ℕ
     pub read : IsUnitRead unit bank_course (Some bytes) (link_of first.streams) (link_of last.streams)
     pub file : Becomes first.streams.journal last.streams.journal (rows_text bytes)
-    pub settled : Settled last
+    pub settled : IsDurableAt last
     pub leaves : leaves_only (λ c. first.may_leave c ⊎ (c ≡ rows_text bytes))
     pub lost : Bool
     pub unfailed : IsUnfailed (with_lines last first.streams.out lost).failed

@@ -1,7 +1,8 @@
-ghost use Rattle.std.specs.Prelude.{◌≡◌, if◌then◌else◌, length};
+ghost use Rattle.std.specs.Prelude.{◌≡◌, length};
 ghost use Rattle.dali_drive.specs.Desks.{IsUnfailed};
 ghost use Rattle.dali_link_commands.specs.Benches.{TellsUnwritten, std_bench};
-ghost use Rattle.dali_link_commands.specs.LinkCommands.{IsShort, IsLinkAnswer, file_of, watched_of};
+ghost use Rattle.dali_link_commands.specs.BehindAnswers.{EndsUnread, IsBehindNamed};
+ghost use Rattle.dali_link_commands.specs.LinkCommands.{IsDriveAnswer, IsLinkAnswer, IsShort, file_of, watched_of};
 ghost use Rattle.dali_link_commands.specs.ReadAnswers.{asked_addresses};
 
 use crate::drive::DriveTask;
@@ -14,7 +15,7 @@ use crate::survey::scan;
 use crate::survey_files::verify_file;
 use dali_drive::{Sought, StdSink, StdSource, StoreDesk};
 use dali_faults::Status;
-use dali_report::{Progress, Watched};
+use dali_report::{Progress, Report, Watched};
 use dali_store::FileStore;
 use std::fs::{File, Files};
 use std::io::{Read, Write};
@@ -22,16 +23,8 @@ use std::io::{Read, Write};
 /// A command over a link (profile).
 #[derive(Clone, Copy)]
 pub enum LinkCommand<'a> {
-    /// `drive`, over orders and a journal, with a report into this file.
-    Drive {
-        task: DriveTask<'a>,
-        report: Option<&'a str>,
-    },
-    /// `drive --follow`, the same over orders that come line by line.
-    Follow {
-        task: DriveTask<'a>,
-        report: Option<&'a str>,
-    },
+    /// `drive`, over orders and a journal.
+    Drive(DriveTask<'a>),
     /// `read`, of the unit at a short address into a file.
     Read {
         unit: u8,
@@ -50,25 +43,12 @@ pub enum LinkCommand<'a> {
 }
 
 impl<'a> LinkCommand<'a> {
-    /// The command that drives: with `follow` over orders that come line by line, else over all those of a file.
-    pub fn driving(follow: bool, task: DriveTask<'a>, report: Option<&'a str>) -> LinkCommand<'a>
-        ensures named { result ≡ (if follow then LinkCommand.Follow task.entry report.entry
-            else LinkCommand.Drive task.entry report.entry) }
-        ensures short { IsShort result }
-    {
-        if follow {
-            LinkCommand::Follow { task, report }
-        } else {
-            LinkCommand::Drive { task, report }
-        }
-    }
-
     /// The name of the file that it writes: that of the journal or of a bank, or none.
     pub fn file(&self) -> &'a str
         ensures { result.now ≡ file_of self.now }
     {
         match *self {
-            LinkCommand::Drive { task, .. } | LinkCommand::Follow { task, .. } => task.journal,
+            LinkCommand::Drive(task) => task.journal,
             LinkCommand::Read { bank, .. } => bank,
             LinkCommand::Verify { .. } | LinkCommand::Scan { .. } => "",
         }
@@ -79,9 +59,7 @@ impl<'a> LinkCommand<'a> {
         ensures { result ≡ watched_of self.now }
     {
         match *self {
-            LinkCommand::Drive { task, .. } | LinkCommand::Follow { task, .. } => {
-                Watched::Drive(task.pace)
-            }
+            LinkCommand::Drive(task) => Watched::Drive(task.pace),
             LinkCommand::Read { .. } => Watched::Read,
             LinkCommand::Verify { .. } => Watched::Verify,
             LinkCommand::Scan { addresses, .. } => Watched::Scan(count_of(addresses)),
@@ -103,15 +81,10 @@ impl<'a> LinkCommand<'a> {
         ensures unwritten { TellsUnwritten result (std_bench L.contents I.remaining O.contents desk.new) }
     {
         match *self {
-            LinkCommand::Drive { task, report } => {
-                let mut file = ReportFile::open(rt, report, others_of(&task), progress);
-                let ended = drive_files(rt, task, desk, &mut file.report);
-                file.end(rt.alloc(), &mut desk.out, report, ended)
-            }
-            LinkCommand::Follow { task, report } => {
-                let mut file = ReportFile::open(rt, report, others_of(&task), progress);
-                let ended = follow_file(rt, task, desk, &mut file.report);
-                file.end(rt.alloc(), &mut desk.out, report, ended)
+            LinkCommand::Drive(task) => {
+                let mut file = ReportFile::open(rt, task.report, others_of(&task), progress);
+                let ended = drive_task(rt, task, desk, &mut file.report);
+                file.end(rt.alloc(), &mut desk.out, task.report, ended)
             }
             LinkCommand::Read { unit, bank } => read_bank(rt.alloc(), unit, bank, desk),
             LinkCommand::Verify { orders, report } => {
@@ -126,6 +99,35 @@ impl<'a> LinkCommand<'a> {
             }
             LinkCommand::Scan { addresses, sought } => scan(rt.alloc(), addresses, sought, desk),
         }
+    }
+}
+
+// Drives the orders of a file: all of them, or line by line.
+fn drive_task<
+    R: Files<File = File> + AllocGlobal,
+    I: Read,
+    L: Write,
+    O: Write,
+    N: Write + Drop,
+>(
+    rt: &R,
+    task: DriveTask<'_>,
+    desk: &mut StoreDesk<StdSource<I>, StdSink<L>, FileStore<'_, R>, Lines<O>>,
+    report: &mut Report<N>,
+) -> Status
+    requires unfailed { IsUnfailed (std_bench L.contents I.remaining O.contents desk.old).failed }
+    ensures driven { IsBehindNamed task.entry.older.now
+        (λ older. IsDriveAnswer N.contents task.entry older report.old report.new
+        (std_bench L.contents I.remaining O.contents desk.old) result
+        (std_bench L.contents I.remaining O.contents desk.new))
+        (EndsUnread report.old report.new (std_bench L.contents I.remaining O.contents desk.old) result
+        (std_bench L.contents I.remaining O.contents desk.new)) }
+    ensures unwritten { TellsUnwritten result (std_bench L.contents I.remaining O.contents desk.new) }
+{
+    if task.follow {
+        follow_file(rt, task, desk, report)
+    } else {
+        drive_files(rt, task, desk, report)
     }
 }
 

@@ -1,7 +1,7 @@
 use crate::json_note::note_of_size;
 use crate::kind::{Kind, is_blank};
 use crate::note::Note;
-use crate::place::Place;
+use crate::position::Position;
 use dali_gear::MOST_BANK;
 use dali_input::TEXT_LIMIT;
 use std::alloc::Global;
@@ -41,19 +41,19 @@ fn note_size(note: &mut Note, input: &[u8]) {
 fn note_letter(note: &mut Note, input: &[u8]) {
     for (count, &byte) in input.iter().enumerate() {
         if !byte.is_ascii_hexdigit() && !is_blank(byte) {
-            tell_letter(note, Place::behind(input, count), byte);
+            tell_letter(note, Position::behind(input, count), byte);
             return;
         }
     }
 }
 
 // Tells a byte that is no hexadecimal digit.
-fn tell_letter(note: &mut Note, place: Place<'_>, byte: u8) {
+fn tell_letter(note: &mut Note, position: Position<'_>, byte: u8) {
     match byte {
         b' '..=b'~' => {
             let letter = char::from(byte);
-            note.add(format_args!("{place}: the character \"{letter}\" is no hexadecimal digit"));
+            note.add(format_args!("{position}: the character \"{letter}\" is no hexadecimal digit"));
         }
-        _ => note.add(format_args!("{place}: the byte {byte:02X}h is no hexadecimal digit")),
+        _ => note.add(format_args!("{position}: the byte {byte:02X}h is no hexadecimal digit")),
     }
 }

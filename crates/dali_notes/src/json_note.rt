@@ -1,7 +1,7 @@
 use crate::described::Described;
 use crate::kind::{Kind, blanks_of, is_blank};
 use crate::note::Note;
-use crate::place::Place;
+use crate::position::Position;
 use dali_input::{InputFault, Shallow, scenario_key as key, value_of_text};
 use json::{MAX_DEPTH, Reader, Scratch};
 use serde_json::Value as Json;
@@ -75,14 +75,14 @@ fn note_place(alloc: Global, note: &mut Note, input: &[u8]) {
         return;
     };
     if is_cut_short(alloc, input, stop) {
-        let place = Place::behind(input, input.len());
-        note.add(format_args!("{place}: the input ends before its JSON does"));
+        let position = Position::behind(input, input.len());
+        note.add(format_args!("{position}: the input ends before its JSON does"));
         return;
     }
     let fault = stop.min(input.len().saturating_sub(1));
     let count = fault.saturating_add(blanks_of(&input[fault..]));
-    let (place, words) = (Place::behind(input, count), trouble_at(alloc, input, count));
-    note.add(format_args!("{place}: {words}"));
+    let (position, words) = (Position::behind(input, count), trouble_at(alloc, input, count));
+    note.add(format_args!("{position}: {words}"));
 }
 
 // How many bytes stand in front of where an input stops being JSON. None where it doesn't, or where there is no memory
@@ -108,13 +108,13 @@ fn is_cut_short(alloc: Global, input: &[u8], stop: usize) -> bool {
 
 // Tells the byte behind so many that is no UTF-8.
 fn note_no_text(note: &mut Note, input: &[u8], count: usize) {
-    let place = Place::behind(input, count);
+    let position = Position::behind(input, count);
     match &input[count.min(input.len())..] {
         [byte @ 0xa0.., ..] => note.add(format_args!(
-            "{place}: the byte {byte:02X}h is a letter in Latin-1, and the input has to be in UTF-8"
+            "{position}: the byte {byte:02X}h is a letter in Latin-1, and the input has to be in UTF-8"
         )),
         [byte, ..] => note.add(format_args!(
-            "{place}: the byte {byte:02X}h is no UTF-8 here, which the input has to be in"
+            "{position}: the byte {byte:02X}h is no UTF-8 here, which the input has to be in"
         )),
         [] => {}
     }

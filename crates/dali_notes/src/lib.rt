@@ -17,7 +17,7 @@ mod json_note;
 mod kind;
 mod near_key;
 mod note;
-mod place;
+mod position;
 mod repeats;
 mod scenario_note;
 mod scenario_rule;

@@ -18,8 +18,10 @@ use Rattle.dali_report.specs.declared.outcome.Outcome.{Outcome}
 use Rattle.dali_report.specs.declared.report.Report.{Report}
 use Rattle.dali_report.specs.declared.report.Spoken.{Spoken}
 use Rattle.dali_report.specs.Lines.{line_of, last_data}
-use Rattle.dali_report.specs.Reports.{resumed, spoken_of, is_number_of, exchanges, told_at, is_last_reply, is_well, IsReportText}
-use Rattle.dali_report.specs.Reports.{IsCauseTold, all_done, all_ended_now, has_last_reply, is_ended_now, outcome_by, outcome_of}
+use Rattle.dali_report.specs.Reports.{resumed, spoken_of, is_number_of, exchanges, told_at, is_last_reply, IsReportText}
+use Rattle.dali_report.specs.Outcomes.{is_well}
+use Rattle.dali_report.specs.Reports.{IsCauseTold, is_ended_now}
+use Rattle.dali_report.specs.Outcomes.{all_done, all_ended_now, has_last_reply, outcome_by, outcome_of}
 use Rattle.dali_report.specs.Tallies.{IsTally}
 use Rattle.dali_report.specs.Told.{IsTold, HasWritten, IsSilent, report_held, has_failed, spoken, is_number}
 

@@ -19,7 +19,8 @@ use Rattle.dali_report.specs.declared.report.Report.{Report}
 use Rattle.dali_report.specs.declared.tally.Tally.{Tally}
 use Rattle.dali_drive.specs.Found.{Found, was_found}
 use Rattle.dali_report.specs.Lines.{cause_data, end_data, escaped, found_data, is_plain, last_data}
-use Rattle.dali_report.specs.Reports.{all_done, exchanges, is_ended_now, outcome_of, IsReportText, resumed, spoken_of}
+use Rattle.dali_report.specs.Reports.{exchanges, is_ended_now, IsReportText, resumed, spoken_of}
+use Rattle.dali_report.specs.Outcomes.{all_done, outcome_of}
 use Rattle.dali_report.specs.Reports.{IsCauseTold, told_at}
 use Rattle.dali_report.specs.Tallies.{IsTally}
 use Rattle.dali_report.specs.Told.{HasWritten, IsTold, IsToldEnd, IsToldFound, has_failed, report_held, spoken}

@@ -1,7 +1,6 @@
 -- What a report tells of a drive: a line for each order at its last reply. A trace has the newest happening first.
 use Rattle.std.specs.Prelude.{◌≡◌, ◌==◌, ◌||◌, ◌&&◌, ℕ, Bool, true, false, List, [], ◌∷◌, ◌++◌, Option, Some, None, length}
 use Rattle.std.specs.Prelude.{option_map}
-use Rattle.std.specs.List.{list_any}
 use Rattle.dali_bank.specs.Order.{Contents}
 use Rattle.dali_frame.specs.declared.forward.Frame.{Frame}
 use Rattle.dali_journal.specs.declared.record.Code.TheVariants as journal
@@ -24,8 +23,6 @@ use Rattle.dali_trace.specs.declared.fault.DriveFault.{DriveFault}
 use Rattle.dali_drive.specs.Found.{Found}
 use Rattle.dali_report.specs.Lines.{counted, last_data, end_data, line_of, IsFoundLine}
 use Rattle.dali_report.specs.declared.line.LastReply.{LastReply}
-use Rattle.dali_report.specs.declared.outcome.Outcome.{Outcome}
-use Rattle.dali_report.specs.declared.outcome.Outcome.TheVariants.{Nothing, DoneNow, Done, NotDone}
 
 -- the order that a standing leaves unfinished
 abbrev pub unfinished_in : Standing → Option Contents
@@ -114,37 +111,3 @@ AreFoundLines run [] text = text ≡ []
 AreFoundLines run (newest ∷ found) text =
     (before : List ℕ) × (line : List ℕ) × AreFoundLines run found before × IsFoundLine run newest line
     × (text ≡ before ++ line)
-
--- ---- what all last replies come to
-
--- some order had its last reply
-abbrev pub has_last_reply : List Happening → Bool
-has_last_reply past = list_any is_last_reply past
-
--- each last reply is `kept 0 Done`
-abbrev pub is_well : Reply → Bool
-is_well replies.Taken = true
-is_well (replies.Kept journal.Done) = true
-is_well other = false
-
-abbrev pub all_done : List Happening → Bool
-all_done [] = true
-all_done (Answered id reply ∷ past) = all_done past && is_well reply
-all_done (other ∷ past) = all_done past
-
--- at each last reply the order's end was kept in this drive
-abbrev pub all_ended_now : Start → List Happening → Bool
-all_ended_now start [] = true
-all_ended_now start (Answered id replies.Taken ∷ past) = all_ended_now start past
-all_ended_now start (Answered id reply ∷ past) = all_ended_now start past && is_ended_now start past id
-all_ended_now start (other ∷ past) = all_ended_now start past
-
--- by whether there was a last reply, all were `kept 0 Done`, and all by this drive
-abbrev pub outcome_by : Bool → Bool → Bool → Outcome
-outcome_by false done now = Nothing
-outcome_by true false now = NotDone
-outcome_by true true false = Done
-outcome_by true true true = DoneNow
-
-abbrev pub outcome_of : Start → List Happening → Outcome
-outcome_of start past = outcome_by (has_last_reply past) (all_done past) (all_ended_now start past)

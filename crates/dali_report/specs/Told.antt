@@ -16,7 +16,8 @@ use Rattle.dali_report.specs.declared.outcome.Outcome.{Outcome}
 use Rattle.dali_report.specs.declared.report.Report.{Report}
 use Rattle.dali_report.specs.declared.report.Spoken.{Spoken}
 use Rattle.dali_report.specs.Reports.{resumed, spoken_of, is_asked, has_end, exchanges, IsCauseTold, IsReportText}
-use Rattle.dali_report.specs.Reports.{IsBrokenText, AreFoundLines, outcome_of}
+use Rattle.dali_report.specs.Reports.{IsBrokenText, AreFoundLines}
+use Rattle.dali_report.specs.Outcomes.{outcome_of}
 use Rattle.dali_report.specs.Tallies.{IsTally}
 
 -- an output that may be none

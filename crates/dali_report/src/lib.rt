@@ -3,7 +3,6 @@
 #![tactic(auto)]
 
 mod attempt;
-mod course;
 mod differences;
 mod expected;
 pub mod laws;
@@ -15,6 +14,7 @@ mod progress_line;
 mod report;
 mod seen;
 mod tally;
+mod watch_state;
 mod watched;
 
 pub use outcome::Outcome;

@@ -1,6 +1,6 @@
 // What all last replies of a drive come to.
 ghost use Rattle.std.specs.Prelude.{◌≡◌, ◌&&◌, Bool, false, true};
-ghost use Rattle.dali_report.specs.Reports.{outcome_by};
+ghost use Rattle.dali_report.specs.Outcomes.{outcome_by};
 
 /// What the last replies of a drive come to.
 #[derive(Clone, Copy, Debug, PartialEq, Eq)]

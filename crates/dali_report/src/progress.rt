@@ -2,7 +2,7 @@
 // it, and no contract tells what it shows.
 ghost use Rattle.std.specs.Prelude.{◌≡◌, is_some};
 
-use crate::course::Course;
+use crate::watch_state::WatchState;
 use crate::expected::{drive_frames, verify_frames};
 use crate::progress_line::{Now, Totals};
 use dali_bank::Order;
@@ -49,7 +49,7 @@ pub struct Progress {
     watched: Watched,
     // How wide the terminal is, where standard error is one.
     columns: Option<usize>,
-    course: Cell<Course>,
+    state: Cell<WatchState>,
     screen: Cell<Screen>,
 }
 
@@ -86,7 +86,7 @@ impl Progress {
             rt,
             watched,
             columns,
-            course: Cell::new(Course::new()),
+            state: Cell::new(WatchState::new()),
             screen: Cell::new(Screen {
                 is_drawn: false,
                 since: FRAMES_BETWEEN,
@@ -97,12 +97,12 @@ impl Progress {
 
     // These are all orders of the command.
     pub(crate) fn expect(&self, orders: &[Order]) {
-        let mut course = self.course.get();
-        course.orders = Some(orders.len() as u64);
+        let mut state = self.state.get();
+        state.orders = Some(orders.len() as u64);
         for order in orders {
-            course.ahead = course.ahead.saturating_add(self.frames_of(order));
+            state.ahead = state.ahead.saturating_add(self.frames_of(order));
         }
-        self.course.set(course);
+        self.state.set(state);
         if self.watched == Watched::Verify {
             self.begin();
         }
@@ -125,10 +125,10 @@ impl Progress {
 
     // A drive begins with this journal.
     pub(crate) fn resume(&self, journal: &Journal) {
-        let mut course = self.course.get();
-        course.resume(&journal.standing());
-        course.meter.start(&self.rt);
-        self.course.set(course);
+        let mut state = self.state.get();
+        state.resume(&journal.standing());
+        state.meter.start(&self.rt);
+        self.state.set(state);
         self.begin();
     }
 
@@ -137,22 +137,22 @@ impl Progress {
         let Watched::Drive(pace) = self.watched else {
             return;
         };
-        let mut course = self.course.get();
+        let mut state = self.state.get();
         match happening {
             Happening::Asked(order, _) => {
-                course.ask(order, journal, pace);
-                course.meter.start(&self.rt);
+                state.ask(order, journal, pace);
+                state.meter.start(&self.rt);
             }
-            Happening::Sent(frame, answer) => course.exchange(frame, *answer),
-            Happening::Kept(Record::Ended(_)) => course.end(),
+            Happening::Sent(frame, answer) => state.exchange(frame, *answer),
+            Happening::Kept(Record::Ended(_)) => state.end(),
             Happening::Answered(_, Reply::Taken) => {}
             Happening::Answered(id, reply) => {
-                course.meter.look(&self.rt);
-                course.answer(*id, matches!(reply, Reply::Kept(Code::Done)));
+                state.meter.look(&self.rt);
+                state.answer(*id, matches!(reply, Reply::Kept(Code::Done)));
             }
             Happening::Kept(_) | Happening::Stopped(_) | Happening::Powered(_) => {}
         }
-        self.course.set(course);
+        self.state.set(state);
         if let Happening::Sent(_, _) = happening {
             self.draw_in_turn();
         }
@@ -160,10 +160,10 @@ impl Progress {
 
     // This was found of an order.
     pub(crate) fn find(&self, order: &Order, found: Option<Finding>) {
-        let mut course = self.course.get();
-        course.meter.look(&self.rt);
-        course.compare(order, found == Some(Finding::Same));
-        self.course.set(course);
+        let mut state = self.state.get();
+        state.meter.look(&self.rt);
+        state.compare(order, found == Some(Finding::Same));
+        self.state.set(state);
     }
 
     // These bytes of frames went to the link. What a drive sends it is told by its report.
@@ -172,13 +172,13 @@ impl Progress {
             return;
         }
         self.begin();
-        let mut course = self.course.get();
-        if course.meter.is_new() {
-            course.meter.start(&self.rt);
+        let mut state = self.state.get();
+        if state.meter.is_new() {
+            state.meter.start(&self.rt);
         }
-        course.count();
-        course.meet(unit_in(bytes));
-        self.course.set(course);
+        state.count();
+        state.meet(unit_in(bytes));
+        self.state.set(state);
         self.draw_in_turn();
     }
 
@@ -201,12 +201,12 @@ impl Progress {
         let Some(columns) = self.columns else {
             return;
         };
-        let mut course = self.course.get();
-        course.meter.look(&self.rt);
-        self.course.set(course);
+        let mut state = self.state.get();
+        state.meter.look(&self.rt);
+        self.state.set(state);
         let line = Now {
             watched: self.watched,
-            course,
+            state,
         };
         if let Ok(text) = drawn(self.rt.alloc(), line, columns) {
             let mut screen = self.screen.get();
@@ -232,14 +232,14 @@ impl Progress {
         if !self.screen.get().has_begun {
             return;
         }
-        let mut course = self.course.get();
-        if course.is_at_work() {
-            course.meter.look(&self.rt);
+        let mut state = self.state.get();
+        if state.is_at_work() {
+            state.meter.look(&self.rt);
         }
-        course.close();
+        state.close();
         let totals = Totals {
             watched: self.watched,
-            course,
+            state,
         };
         if let Ok(text) = ended(self.rt.alloc(), totals, self.columns) {
             let _ = self.rt.stderr().write_all(text.as_slice());

@@ -1,5 +1,5 @@
 // The lines that a person watches.
-use crate::course::{AtHand, Course};
+use crate::watch_state::{AtHand, WatchState};
 use crate::progress::Watched;
 use std::fmt;
 
@@ -7,7 +7,7 @@ use std::fmt;
 #[derive(Clone, Copy)]
 pub(crate) struct Now {
     pub(crate) watched: Watched,
-    pub(crate) course: Course,
+    pub(crate) state: WatchState,
 }
 
 impl fmt::Display for Now {
@@ -23,7 +23,7 @@ impl fmt::Display for Now {
 
 impl Now {
     fn write_order<W: fmt::Write>(&self, f: &mut fmt::Formatter<W>) -> fmt::Result {
-        let Some(order) = self.course.at_hand else {
+        let Some(order) = self.state.at_hand else {
             return Ok(());
         };
         self.write_place(f, &order)?;
@@ -37,15 +37,15 @@ impl Now {
         let misses = order.tally.misses;
         write!(f, ", misses {misses}")?;
         match order.expected {
-            Some(_) => self.write_left(f, order.left().saturating_add(self.course.ahead)),
+            Some(_) => self.write_left(f, order.left().saturating_add(self.state.ahead)),
             None => Ok(()),
         }
     }
 
     // Which of the orders it is.
     fn write_place<W: fmt::Write>(&self, f: &mut fmt::Formatter<W>, order: &AtHand) -> fmt::Result {
-        let given = self.course.given;
-        match self.course.orders {
+        let given = self.state.given;
+        match self.state.orders {
             _ if order.is_resumed => f.write_str("left unfinished: "),
             Some(orders) => write!(f, "{given} of {orders}: "),
             None => write!(f, "{given}: "),
@@ -53,34 +53,34 @@ impl Now {
     }
 
     fn write_compared<W: fmt::Write>(&self, f: &mut fmt::Formatter<W>) -> fmt::Result {
-        let order = self.course.given.saturating_add(1);
-        let orders = self.course.orders.unwrap_or(order);
+        let order = self.state.given.saturating_add(1);
+        let orders = self.state.orders.unwrap_or(order);
         write!(f, "{order} of {orders}: ")?;
         self.write_unit(f)?;
-        let expected = self.course.expected();
+        let expected = self.state.expected();
         write!(f, " of {expected}")?;
-        self.write_left(f, expected.saturating_sub(self.course.frames))
+        self.write_left(f, expected.saturating_sub(self.state.frames))
     }
 
     fn write_asked<W: fmt::Write>(&self, f: &mut fmt::Formatter<W>, units: u64) -> fmt::Result {
-        let asked = self.course.units.max(1);
+        let asked = self.state.units.max(1);
         write!(f, "{asked} of {units}: ")?;
         self.write_unit(f)?;
         let to_ask = units.saturating_sub(asked);
-        self.write_left(f, self.course.frames.saturating_mul(to_ask) / asked)
+        self.write_left(f, self.state.frames.saturating_mul(to_ask) / asked)
     }
 
     fn write_unit<W: fmt::Write>(&self, f: &mut fmt::Formatter<W>) -> fmt::Result {
-        if let Some(unit) = self.course.unit {
+        if let Some(unit) = self.state.unit {
             write!(f, "unit {unit}, ")?;
         }
-        let frames = self.course.frames;
+        let frames = self.state.frames;
         write!(f, "frame {frames}")
     }
 
     // The time that so many more frames should take.
     fn write_left<W: fmt::Write>(&self, f: &mut fmt::Formatter<W>, frames: u64) -> fmt::Result {
-        match self.course.meter.seconds_for(frames) {
+        match self.state.meter.seconds_for(frames) {
             Some(seconds) => {
                 let left = Seconds(seconds);
                 write!(f, ", left {left}")
@@ -94,29 +94,29 @@ impl Now {
 #[derive(Clone, Copy)]
 pub(crate) struct Totals {
     pub(crate) watched: Watched,
-    pub(crate) course: Course,
+    pub(crate) state: WatchState,
 }
 
 impl fmt::Display for Totals {
     fn fmt<W: fmt::Write>(&self, f: &mut fmt::Formatter<W>) -> fmt::Result {
-        let frames = self.course.frames;
+        let frames = self.state.frames;
         match self.watched {
             Watched::Drive(_) => {
                 self.write_undone(f, "not done")?;
-                let good = self.course.good;
-                let known = self.course.known;
-                let misses = self.course.misses;
+                let good = self.state.good;
+                let known = self.state.known;
+                let misses = self.state.misses;
                 write!(f, "written now {good}, known before {known}, ")?;
                 write!(f, "frames {frames}, misses {misses}")?;
             }
             Watched::Verify => {
                 self.write_undone(f, "not the same")?;
-                let good = self.course.good;
+                let good = self.state.good;
                 write!(f, "the same {good}, frames {frames}")?;
             }
             Watched::Read | Watched::Scan(_) => write!(f, "frames {frames}")?,
         }
-        match self.course.meter.seconds() {
+        match self.state.meter.seconds() {
             Some(seconds) => {
                 let seconds = Seconds(seconds);
                 write!(f, ", time {seconds}")
@@ -129,10 +129,10 @@ impl fmt::Display for Totals {
 impl Totals {
     // How many orders are so, which ones, and how many weren't reached.
     fn write_undone<W: fmt::Write>(&self, f: &mut fmt::Formatter<W>, name: &str) -> fmt::Result {
-        let count = self.course.undone.count;
+        let count = self.state.undone.count;
         write!(f, "{name} {count}")?;
         self.write_named(f)?;
-        let left = self.course.unreached();
+        let left = self.state.unreached();
         if left > 0 {
             write!(f, ", not reached {left}")?;
         }
@@ -141,7 +141,7 @@ impl Totals {
 
     // The numbers of the first ones.
     fn write_named<W: fmt::Write>(&self, f: &mut fmt::Formatter<W>) -> fmt::Result {
-        let named = self.course.undone.named();
+        let named = self.state.undone.named();
         if named.is_empty() {
             return Ok(());
         }
@@ -149,7 +149,7 @@ impl Totals {
         for id in named {
             write!(f, " {id}")?;
         }
-        if self.course.undone.count > named.len() as u64 {
+        if self.state.undone.count > named.len() as u64 {
             f.write_str(" ..")?;
         }
         Ok(())

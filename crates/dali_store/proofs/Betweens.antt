@@ -6,7 +6,7 @@ use Rattle.std.proofs.lemmas.List.{append_assoc, append-nil, take_rest}
 use Rattle.std.proofs.Math.Seq.{take-add, take-length}
 use Rattle.std.specs.Io.KnownBytes.{Appends}
 use Rattle.std.proofs.KnownBytes.{Appends-trans}
-use Rattle.dali_store.specs.Stores.{IsSettled, IsBetween, MayAlso, Elapses, LeavesOnly}
+use Rattle.dali_store.specs.Stores.{IsDurable, IsBetween, MayAlso, Elapses, LeavesOnly}
 use Rattle.dali_store.proofs.Moments.{goes_on, so_too}
 
 -- the first so many bytes
@@ -19,7 +19,7 @@ is_behind len bytes c within is = (
 )
 
 -- where a stop leaves what is known, that is between it and it
-pub settled_between : (known : Option (List ℕ)) (outcomes : List ℕ → Type 0) → IsSettled known outcomes
+pub settled_between : (known : Option (List ℕ)) (outcomes : List ℕ → Type 0) → IsDurable known outcomes
     → (c : List ℕ) → outcomes c → IsBetween known known c
 settled_between None outcomes settled c left = tt
 settled_between (Some bytes) outcomes settled c left =

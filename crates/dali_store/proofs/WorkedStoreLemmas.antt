@@ -1,7 +1,7 @@
 -- What the calls of a store do to small bytes and what a stop may leave of them, and what is near it and isn't so.
 use Rattle.std.proofs.Common.{◌≡◌, ◌⊎◌, inl, inr, refl, arith, ℕ, List, [], ◌∷◌, Some, None, Vec, true, false}
 use Rattle.std.specs.declared.alloc.Global.{Global}
-use Rattle.dali_store.specs.Stores.{Shows, IsSettled, IsBetween, IsBehind, MayAlso, Elapses, LeavesOnly}
+use Rattle.dali_store.specs.Stores.{Shows, IsDurable, IsBetween, IsBehind, MayAlso, Elapses, LeavesOnly}
 use Rattle.dali_store.specs.Stores.{Takes, is_refusal, IsWithin, IsLonger, CutsTo, Becomes, KeepsOrBecomes}
 use Rattle.dali_store.specs.Memory.{MayBeLeft, MightBeLeft}
 
@@ -21,10 +21,10 @@ shown = refl
 pub no_other_shown : Shows (Some (1 ∷ [])) (2 ∷ []) → ⊥
 no_other_shown shows = cc
 
-pub settled : IsSettled (Some (1 ∷ 2 ∷ [])) (Just (1 ∷ 2 ∷ []))
+pub settled : IsDurable (Some (1 ∷ 2 ∷ [])) (Just (1 ∷ 2 ∷ []))
 settled c left = left
 
-pub unsynced_isnt_settled : IsSettled (Some (1 ∷ 2 ∷ [])) (Either (1 ∷ 2 ∷ []) (1 ∷ [])) → ⊥
+pub unsynced_isnt_settled : IsDurable (Some (1 ∷ 2 ∷ [])) (Either (1 ∷ 2 ∷ []) (1 ∷ [])) → ⊥
 unsynced_isnt_settled settled = let lost = settled (1 ∷ []) (inr refl) in cc
 
 pub each_part_between : IsBetween (Some (1 ∷ [])) (Some (1 ∷ 2 ∷ [])) (1 ∷ [])

@@ -14,9 +14,9 @@ Shows None bytes = ⊤
 Shows (Some known) bytes = known ≡ bytes
 
 -- a stop leaves the known bytes and nothing else
-abbrev pub IsSettled : Option (List ℕ) → (List ℕ → Type 0) → Type 0
-IsSettled None outcomes = ⊤
-IsSettled (Some bytes) outcomes = (c : List ℕ) → outcomes c → c ≡ bytes
+abbrev pub IsDurable : Option (List ℕ) → (List ℕ → Type 0) → Type 0
+IsDurable None outcomes = ⊤
+IsDurable (Some bytes) outcomes = (c : List ℕ) → outcomes c → c ≡ bytes
 
 -- these bytes begin with the first ones, and the second ones with them
 abbrev pub IsBetween : Option (List ℕ) → Option (List ℕ) → List ℕ → Type 0

@@ -3,7 +3,7 @@ ghost use Rattle.std.specs.Prelude.{◌≡◌, ◌<◌, ◌≤◌, ℕ, List, []
 ghost use Rattle.std.specs.Prelude.{Some, IfOk, IfSome};
 ghost use Rattle.std.proofs.Common.{inl};
 ghost use Rattle.dali_store.specs.Memory.{memory_leaves, memory_left, only_now, seen_left};
-ghost use Rattle.dali_store.specs.Stores.{Takes, CutsTo, IsBetween, IsBehind, IsSettled, MayAlso, Elapses, is_refusal};
+ghost use Rattle.dali_store.specs.Stores.{Takes, CutsTo, IsBetween, IsBehind, IsDurable, MayAlso, Elapses, is_refusal};
 
 use crate::store::{Store, StoreFault};
 use std::alloc::{AllocError, Global};
@@ -192,7 +192,7 @@ impl Store for MemoryStore {
     fn sync(&mut self) -> bool
         ensures still { self.old.unsynced.items ≡ [] → self.new ≡ self.old }
         ensures same { self.new.bytes.items ≡ self.old.bytes.items }
-        ensures settled { result ≡ true → IsSettled (Some self.new.bytes.items) (memory_leaves self.new) }
+        ensures settled { result ≡ true → IsDurable (Some self.new.bytes.items) (memory_leaves self.new) }
         ensures stop { (c : List ℕ) → memory_leaves self.new c → memory_leaves self.old c }
         ensures time { Elapses (length self.old.past.items) (length self.new.past.items) (memory_left self.old)
             (memory_left self.new) (memory_leaves self.new) }

@@ -2,7 +2,7 @@
 ghost use Rattle.std.specs.Prelude.{◌≡◌, ◌≢◌, ◌<◌, ◌≤◌, ◌||◌, ℕ, List, IfOk, IfErr, OnOk};
 ghost use Rattle.dali_journal.specs.declared.version.Version.TheVariants.{Two};
 ghost use Rattle.dali_journal.specs.Spelling.{journal_spelling};
-ghost use Rattle.dali_store.specs.Stores.{IsSettled, Becomes, LeavesOnly, is_failure};
+ghost use Rattle.dali_store.specs.Stores.{IsDurable, Becomes, LeavesOnly, is_failure};
 ghost use Rattle.dali_store.specs.Opened.{IsFound, IsOpened, IsOpenFault, LeavesAlike, is_store_failure};
 
 use crate::store::{Store, StoreFault};
@@ -40,7 +40,7 @@ pub fn open<S: Store>(
     ensures journal { IfOk result (λ journal. IsOpened limit most (S.seen store.old) journal) }
     ensures holds { IfOk result (λ journal.
         Becomes (S.seen store.old) (S.seen store.new) (journal_spelling Two journal.records)) }
-    ensures settled { OnOk result (IsSettled (S.seen store.new) (S.may_leave store.new)) }
+    ensures settled { OnOk result (IsDurable (S.seen store.new) (S.may_leave store.new)) }
     ensures fault { IfErr result (IsOpenFault limit most (S.seen store.old) (S.seen store.new)) }
     ensures any_moment { LeavesOnly S.moment S.left_since store.old store.new
         (LeavesAlike limit (S.seen store.old) (S.may_leave store.old)) }
@@ -104,7 +104,7 @@ fn ready<S: Store>(
         found.now.total }
     ensures holds { OnOk result
         (Becomes (S.seen store.old) (S.seen store.new) (journal_spelling Two found.now.journal.records)) }
-    ensures settled { OnOk result (IsSettled (S.seen store.new) (S.may_leave store.new)) }
+    ensures settled { OnOk result (IsDurable (S.seen store.new) (S.may_leave store.new)) }
     ensures fault { IfErr result (λ fault.
         IsOpenFault limit most (S.seen store.old) (S.seen store.new) (OpenFault.Store fault)) }
     ensures any_moment { LeavesOnly S.moment S.left_since store.old store.new
@@ -137,7 +137,7 @@ fn write_anew<S: Store>(
         found.now.total }
     ensures holds { OnOk result
         (Becomes (S.seen store.old) (S.seen store.new) (journal_spelling Two found.now.journal.records)) }
-    ensures settled { OnOk result (IsSettled (S.seen store.new) (S.may_leave store.new)) }
+    ensures settled { OnOk result (IsDurable (S.seen store.new) (S.may_leave store.new)) }
     ensures fault { IfErr result (λ fault.
         IsOpenFault limit most (S.seen store.old) (S.seen store.new) (OpenFault.Store fault)) }
     ensures any_moment { LeavesOnly S.moment S.left_since store.old store.new
@@ -165,7 +165,7 @@ fn cut_behind<S: Store>(
     requires some { found.now.counted < found.now.total }
     ensures holds { OnOk result
         (Becomes (S.seen store.old) (S.seen store.new) (journal_spelling Two found.now.journal.records)) }
-    ensures settled { OnOk result (IsSettled (S.seen store.new) (S.may_leave store.new)) }
+    ensures settled { OnOk result (IsDurable (S.seen store.new) (S.may_leave store.new)) }
     ensures fault { IfErr result (λ fault.
         IsOpenFault limit most (S.seen store.old) (S.seen store.new) (OpenFault.Store fault)) }
     ensures any_moment { LeavesOnly S.moment S.left_since store.old store.new
@@ -194,7 +194,7 @@ fn sync_whole<S: Store>(
     requires whole { found.now.total ≤ found.now.counted }
     ensures holds { OnOk result
         (Becomes (S.seen store.old) (S.seen store.new) (journal_spelling Two found.now.journal.records)) }
-    ensures settled { OnOk result (IsSettled (S.seen store.new) (S.may_leave store.new)) }
+    ensures settled { OnOk result (IsDurable (S.seen store.new) (S.may_leave store.new)) }
     ensures fault { IfErr result (λ fault.
         IsOpenFault limit most (S.seen store.old) (S.seen store.new) (OpenFault.Store fault)) }
     ensures any_moment { LeavesOnly S.moment S.left_since store.old store.new

@@ -3,7 +3,7 @@ ghost use Rattle.std.specs.Prelude.{◌≡◌, ◌<◌, ◌≤◌, ◌||◌, ℕ
 ghost use Rattle.std.specs.Prelude.{IfOk, IfSome, IsErrOf, OnOk, OnErr, Some};
 ghost use Rattle.std.specs.Io.KnownBytes.{Appends};
 ghost use Rattle.dali_store.specs.declared.store.StoreFault.TheVariants.{TooBig};
-ghost use Rattle.dali_store.specs.Stores.{Shows, IsSettled, IsBetween, IsWithin, MayAlso, Elapses, LeavesOnly};
+ghost use Rattle.dali_store.specs.Stores.{Shows, IsDurable, IsBetween, IsWithin, MayAlso, Elapses, LeavesOnly};
 ghost use Rattle.dali_store.specs.Stores.{Takes, CutsTo, IsBehind, IsLonger, Becomes, KeepsOrBecomes};
 ghost use Rattle.dali_store.specs.Stores.{is_refusal, is_failure};
 
@@ -97,7 +97,7 @@ pub trait Store {
     fn replace(&mut self, bytes: &[u8]) -> bool
         ensures bytes { result ≡ true → Becomes (seen self.old) (seen self.new) bytes.now }
         ensures whole { result ≡ false → KeepsOrBecomes (seen self.old) (seen self.new) bytes.now }
-        ensures settled { result ≡ true → IsSettled (seen self.new) (may_leave self.new) }
+        ensures settled { result ≡ true → IsDurable (seen self.new) (may_leave self.new) }
         ensures stop { MayAlso (λ c. c ≡ bytes.now) (may_leave self.old) (may_leave self.new) }
         ensures time { Elapses (moment self.old) (moment self.new) (left_since self.old) (left_since self.new)
             (may_leave self.new) }
@@ -106,7 +106,7 @@ pub trait Store {
     /// After it a stop leaves what a read gives. `false` where that failed.
     fn sync(&mut self) -> bool
         ensures same { seen self.new ≡ seen self.old }
-        ensures settled { result ≡ true → IsSettled (seen self.new) (may_leave self.new) }
+        ensures settled { result ≡ true → IsDurable (seen self.new) (may_leave self.new) }
         ensures stop { (c : List ℕ) → may_leave self.new c → may_leave self.old c }
         ensures time { Elapses (moment self.old) (moment self.new) (left_since self.old) (left_since self.new)
             (may_leave self.new) }
@@ -136,9 +136,9 @@ fn append_all<S: Store>(store: &mut S, bytes: &[u8]) -> bool
     ensures whole { result ≡ true → Appends (S.seen store.old) (S.seen store.new) bytes.now }
     ensures cut { result ≡ false
         → (k : ℕ) × (k ≤ length bytes.now) × Appends (S.seen store.old) (S.seen store.new) (take k bytes.now) }
-    ensures stop { IsSettled (S.seen store.old) (S.may_leave store.old)
+    ensures stop { IsDurable (S.seen store.old) (S.may_leave store.old)
         → (c : List ℕ) → S.may_leave store.new c → IsBetween (S.seen store.old) (S.seen store.new) c }
-    ensures any_moment { IsSettled (S.seen store.old) (S.may_leave store.old)
+    ensures any_moment { IsDurable (S.seen store.old) (S.may_leave store.old)
         → LeavesOnly S.moment S.left_since store.old store.new (IsBetween (S.seen store.old) (S.seen store.new)) }
     ensures failed { S.failed store.new ≡ (S.failed store.old || not result) }
 {
@@ -158,12 +158,12 @@ fn append_all<S: Store>(store: &mut S, bytes: &[u8]) -> bool
 /// Where a stop left all that was there before, at each moment it leaves that with a first part of what was put.
 pub fn keep<S: Store>(store: &mut S, bytes: &[u8]) -> bool
     ensures whole { result ≡ true → Appends (S.seen store.old) (S.seen store.new) bytes.now }
-    ensures settled { result ≡ true → IsSettled (S.seen store.new) (S.may_leave store.new) }
+    ensures settled { result ≡ true → IsDurable (S.seen store.new) (S.may_leave store.new) }
     ensures cut { result ≡ false
         → (k : ℕ) × (k ≤ length bytes.now) × Appends (S.seen store.old) (S.seen store.new) (take k bytes.now) }
-    ensures stop { IsSettled (S.seen store.old) (S.may_leave store.old)
+    ensures stop { IsDurable (S.seen store.old) (S.may_leave store.old)
         → (c : List ℕ) → S.may_leave store.new c → IsBetween (S.seen store.old) (S.seen store.new) c }
-    ensures any_moment { IsSettled (S.seen store.old) (S.may_leave store.old)
+    ensures any_moment { IsDurable (S.seen store.old) (S.may_leave store.old)
         → LeavesOnly S.moment S.left_since store.old store.new (IsBetween (S.seen store.old) (S.seen store.new)) }
     ensures failed { S.failed store.new ≡ (S.failed store.old || not result) }
 {

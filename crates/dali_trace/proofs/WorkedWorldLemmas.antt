@@ -14,7 +14,7 @@ use Rattle.dali_write.specs.Findings.{IsWritten}
 use Rattle.dali_write.specs.Worlds.{IsAmong}
 use Rattle.dali_bus.specs.Power.{MayRelock}
 use Rattle.dali_trace.specs.declared.happening.Happening.TheVariants.{Kept, Powered}
-use Rattle.dali_trace.specs.Possible.{IsPossible, IsSettled, applied}
+use Rattle.dali_trace.specs.Possible.{IsPossible, IsCertain, applied}
 use Rattle.dali_trace.specs.Fits.{HasBeenOpened, IsLockByte, Fits, OnlyNamed, IsApplied}
 use Rattle.dali_trace.specs.Moments.{FitsAt}
 use Rattle.dali_trace.specs.Moves.{Moves}
@@ -78,22 +78,22 @@ applied_when_done = refl
 pub not_applied_in_doubt : applied 0xFF 5 1 3 ((first_order, reached.Ended Doubt) ∷ []) ≡ 0xFF
 not_applied_in_doubt = refl
 
-pub settled_when_begun : IsSettled 5 1 3 ((first_order, reached.Begun) ∷ [])
+pub settled_when_begun : IsCertain 5 1 3 ((first_order, reached.Begun) ∷ [])
 settled_when_begun = tt
 
-pub not_settled_in_doubt : IsSettled 5 1 3 ((first_order, reached.Ended Doubt) ∷ []) → ⊥
+pub not_settled_in_doubt : IsCertain 5 1 3 ((first_order, reached.Ended Doubt) ∷ []) → ⊥
 not_settled_in_doubt is = is
 
-pub not_settled_by_a_silent_order : IsSettled 5 1 3
+pub not_settled_by_a_silent_order : IsCertain 5 1 3
     ((first_order, reached.Ended Silent) ∷ (first_order, reached.Ended Doubt) ∷ [])
     → ⊥
 not_settled_by_a_silent_order is = is
 
-pub settled_by_a_done_order : IsSettled 5 1 3
+pub settled_by_a_done_order : IsCertain 5 1 3
     ((first_order, reached.Ended Done) ∷ (first_order, reached.Ended Doubt) ∷ [])
 settled_by_a_done_order = tt
 
-pub not_settled_elsewhere : IsSettled 5 1 3
+pub not_settled_elsewhere : IsCertain 5 1 3
     ((third_order, reached.Ended Done) ∷ (first_order, reached.Ended Doubt) ∷ [])
     → ⊥
 not_settled_elsewhere is = is

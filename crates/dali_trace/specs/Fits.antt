@@ -7,7 +7,7 @@ use Rattle.dali_journal.specs.Sentence.{standing_of, named_unit}
 use Rattle.dali_journal.specs.Orders.{orders_of}
 use Rattle.dali_write.specs.Worlds.{IsAmong}
 use Rattle.dali_bus.specs.Power.{MayRelock}
-use Rattle.dali_trace.specs.Possible.{IsPossible, IsSettled, applied}
+use Rattle.dali_trace.specs.Possible.{IsPossible, IsCertain, applied}
 
 -- a unit was opened
 abbrev pub HasBeenOpened : ℕ → List Record → Type 0
@@ -45,5 +45,5 @@ OnlyNamed records now = (address : ℕ) → is_enabled now address ≡ true → 
 abbrev pub IsApplied : World → List Record → World → Type 0
 IsApplied zero records now =
     (address bank location first : ℕ) → (IsLockByte bank location → ⊥) → byte_at zero address bank location ≡ Some first
-    → IsSettled address bank location (orders_of records)
+    → IsCertain address bank location (orders_of records)
     → byte_at now address bank location ≡ Some (applied first address bank location (orders_of records))

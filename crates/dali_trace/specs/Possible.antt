@@ -51,13 +51,13 @@ applied first address bank location (newest ∷ older) =
 
 -- whether one byte alone is possible after an order of this mark, which has this byte for the place, given whether
 -- one was before
-abbrev pub Settles : Mark → Option ℕ → Type 0 → Type 0
-Settles Applied (Some update) before = ⊤
-Settles InDoubt (Some update) before = ⊥
-Settles mark other before = before
+abbrev pub IsCertainAfter : Mark → Option ℕ → Type 0 → Type 0
+IsCertainAfter Applied (Some update) before = ⊤
+IsCertainAfter InDoubt (Some update) before = ⊥
+IsCertainAfter mark other before = before
 
 -- no order in doubt has a byte for the place, but before one that is done and has one
-abbrev pub IsSettled : ℕ → ℕ → ℕ → List (Contents × Progress) → Type 0
-IsSettled address bank location [] = ⊤
-IsSettled address bank location (newest ∷ older) =
-    Settles (mark_of newest.1) (byte_for newest.0 address bank location) (IsSettled address bank location older)
+abbrev pub IsCertain : ℕ → ℕ → ℕ → List (Contents × Progress) → Type 0
+IsCertain address bank location [] = ⊤
+IsCertain address bank location (newest ∷ older) =
+    IsCertainAfter (mark_of newest.1) (byte_for newest.0 address bank location) (IsCertain address bank location older)

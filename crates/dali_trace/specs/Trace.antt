@@ -51,67 +51,66 @@ powered_of before (Powered address ∷ past) = address ∷ powered_of before pas
 powered_of before (other ∷ past) = powered_of before past
 
 -- What is still to be said since the last stop.
-pub data Course : Type 0 where
+pub data Outstanding : Type 0 where
   -- nothing
-  Quiet : Course
+  Quiet : Outstanding
   -- how the order ends that was taken at that moment and hasn't begun
-  Waiting : (order : Contents) → (moment : ℕ) → Course
+  Waiting : (order : Contents) → (moment : ℕ) → Outstanding
   -- how the order ends that was taken and has begun
-  Working : Course
+  Working : Outstanding
   -- how the order ended whose end was just kept
-  JustEnded : Course
+  JustEnded : Outstanding
 
 -- an order that gets the reply Taken waits; another reply changes nothing
-abbrev pub replied : Contents → ℕ → Reply → Course → Course
+abbrev pub replied : Contents → ℕ → Reply → Outstanding → Outstanding
 replied order moment replies.Taken before = Waiting order moment
 replied order moment reply before = before
 
--- the course after another happening; an answer that isn't a reply is a saying: it tells of an order that was taken
--- before
-abbrev pub next_course : Course → Happening → Course
-next_course before (Answered id reply) = Quiet
-next_course before (Kept (Began order moment)) = Working
-next_course before (Kept (Ended code)) = JustEnded
-next_course before (Stopped pace) = Quiet
-next_course before other = before
+-- that after another happening; an answer that isn't a reply is a saying: it tells of an order that was taken before
+abbrev pub next_outstanding : Outstanding → Happening → Outstanding
+next_outstanding before (Answered id reply) = Quiet
+next_outstanding before (Kept (Began order moment)) = Working
+next_outstanding before (Kept (Ended code)) = JustEnded
+next_outstanding before (Stopped pace) = Quiet
+next_outstanding before other = before
 
--- the course of a trace; an answer straight after an order is its reply
-abbrev pub course_of : List Happening → Course
-course_of [] = Quiet
-course_of (Answered id reply ∷ Asked order moment ∷ past) = replied order moment reply (course_of past)
-course_of (newest ∷ past) = next_course (course_of past) newest
+-- that of a trace; an answer straight after an order is its reply
+abbrev pub outstanding_of : List Happening → Outstanding
+outstanding_of [] = Quiet
+outstanding_of (Answered id reply ∷ Asked order moment ∷ past) = replied order moment reply (outstanding_of past)
+outstanding_of (newest ∷ past) = next_outstanding (outstanding_of past) newest
 
 -- the waiting order: it was taken and hasn't begun, with no saying and no stop since
-abbrev pub waits_in : Course → Option Contents
+abbrev pub waits_in : Outstanding → Option Contents
 waits_in (Waiting order moment) = Some order
 waits_in other = None
 
 abbrev pub waiting : List Happening → Option Contents
-waiting past = waits_in (course_of past)
+waiting past = waits_in (outstanding_of past)
 
 -- the moment at which the waiting order was submitted
-abbrev pub since_in : Course → ℕ
+abbrev pub since_in : Outstanding → ℕ
 since_in (Waiting order moment) = moment
 since_in other = 0
 
 abbrev pub waiting_since : List Happening → ℕ
-waiting_since past = since_in (course_of past)
+waiting_since past = since_in (outstanding_of past)
 
 -- since the last stop an order was taken or has ended, with no saying since
-abbrev pub unsaid_in : Course → Bool
+abbrev pub unsaid_in : Outstanding → Bool
 unsaid_in Quiet = false
 unsaid_in other = true
 
 abbrev pub is_unsaid : List Happening → Bool
-is_unsaid past = unsaid_in (course_of past)
+is_unsaid past = unsaid_in (outstanding_of past)
 
 -- since the last stop an order has ended, with none taken and no saying since
-abbrev pub ended_in : Course → Bool
+abbrev pub ended_in : Outstanding → Bool
 ended_in JustEnded = true
 ended_in other = false
 
 abbrev pub has_ended : List Happening → Bool
-has_ended past = ended_in (course_of past)
+has_ended past = ended_in (outstanding_of past)
 
 -- an order was begun and hasn't ended
 abbrev pub is_at_work : Standing → Bool

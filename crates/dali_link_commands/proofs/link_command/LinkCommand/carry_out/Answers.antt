@@ -7,24 +7,12 @@ use Rattle.dali_link_commands.proofs.link_command.LinkCommand.carry_out.Goals as
 
 pub returns-in-Drive-clause-carried_out : goal.returns-in-Drive-clause-carried_out
 returns-in-Drive-clause-carried_out g c = rw c.in-Drive.is
-    (reported (is_some c.in-Drive.report) (is_none c.open-file.result.unopened) _ _
+    (reported (is_some c.in-Drive.task.report) (is_none c.open-file.result.unopened) _ _
     (std_bench g.L.Write.contents g.I.Read.remaining g.O.Write.contents
-    (record c.drive_files-ended.new.desk { out = c.end.new.lines })) c.open-file.result.report
-    c.drive_files-ended.new.report
-    c.drive_files-ended.result c.end.result (held g.O.Write.contents c.drive_files-ended.new.desk.out.output)
-    (has_failed c.drive_files-ended.new.desk.out.output) c.open-file.ensures.unfailed c.open-file.ensures.output
-    c.drive_files-ended.ensures.driven.0 c.end.ensures.told)
-
-pub returns-in-Follow-clause-carried_out : goal.returns-in-Follow-clause-carried_out
-returns-in-Follow-clause-carried_out g c = rw c.in-Follow.is
-    (reported (is_some c.in-Follow.report) (is_none c.open-file-in-Follow.result.unopened) _ _
-    (std_bench g.L.Write.contents g.I.Read.remaining g.O.Write.contents
-    (record c.follow_file-ended.new.desk { out = c.end-in-Follow.new.lines })) c.open-file-in-Follow.result.report
-    c.follow_file-ended.new.report
-    c.follow_file-ended.result c.end-in-Follow.result (held g.O.Write.contents c.follow_file-ended.new.desk.out.output)
-    (has_failed c.follow_file-ended.new.desk.out.output) c.open-file-in-Follow.ensures.unfailed
-    c.open-file-in-Follow.ensures.output
-    c.follow_file-ended.ensures.followed.0 c.end-in-Follow.ensures.told)
+    (record c.drive_task-ended.new.desk { out = c.end.new.lines })) c.open-file.result.report c.drive_task-ended.new.report
+    c.drive_task-ended.result c.end.result (held g.O.Write.contents c.drive_task-ended.new.desk.out.output)
+    (has_failed c.drive_task-ended.new.desk.out.output) c.open-file.ensures.unfailed c.open-file.ensures.output
+    c.drive_task-ended.ensures.driven c.end.ensures.told)
 
 pub returns-in-Verify-clause-carried_out : goal.returns-in-Verify-clause-carried_out
 returns-in-Verify-clause-carried_out g c = rw c.in-Verify.is

@@ -92,7 +92,7 @@ impl AtHand {
 
 /// How far a command is.
 #[derive(Clone, Copy)]
-pub(crate) struct Course {
+pub(crate) struct WatchState {
     /// How many orders there are, where that is known.
     pub(crate) orders: Option<u64>,
     /// How many of them came so far.
@@ -115,10 +115,10 @@ pub(crate) struct Course {
     pub(crate) meter: Meter,
 }
 
-impl Course {
+impl WatchState {
     /// Before anything.
-    pub(crate) fn new() -> Course {
-        Course {
+    pub(crate) fn new() -> WatchState {
+        WatchState {
             orders: None,
             given: 0,
             ahead: 0,

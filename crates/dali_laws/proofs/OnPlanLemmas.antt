@@ -1,4 +1,4 @@
--- A legal trace that keeps to the plans is on course.
+-- What the orders of a legal trace by plan have come to.
 use Rattle.std.proofs.Common.{◌≡◌, inl, inr, refl, sym, ap, subst, ℕ, suc, ◌≤◌, Bool, true, false, List, [], ◌∷◌}
 use Rattle.std.proofs.Common.{Option, Some, None, IsSome, arith}
 use Rattle.dali_frame.specs.declared.forward.Frame.{Frame}
@@ -30,7 +30,7 @@ use Rattle.dali_trace.specs.Legal.{Legal, MaySend}
 use Rattle.dali_trace.specs.Grounds.{EndsIn}
 use Rattle.dali_trace.specs.ByPlan.{told_in, Asks, IsPlanned, ByPlan}
 use Rattle.dali_trace.specs.Work.{stood_at, kept_since}
-use Rattle.dali_laws.proofs.Courses.{ClosedBy, CheckedBy, OpenedBy, EndedBy, NewestEndedBy, HasCome, IsOnCourse}
+use Rattle.dali_laws.proofs.Comings.{ClosedBy, CheckedBy, OpenedBy, EndedBy, NewestEndedBy, HasCome, IsOnPlan}
 use Rattle.dali_laws.proofs.TakenLemmas.{neither, waits}
 use Rattle.dali_laws.proofs.SafeLemmas.{may_keep, may_send}
 use Rattle.dali_laws.proofs.StandingLemmas.{begun_order, open_order}
@@ -155,7 +155,7 @@ ended_newest pace first (standings.Opened order) records code waiter ended sent 
 )
 
 after_ended : (start : Start) (past : List Happening) (code : Code) → Allows (standing_at start past) (Ended code)
-    → IsPlanned start past (Kept (Ended code)) → IsOnCourse start past → IsOnCourse start (Kept (Ended code) ∷ past)
+    → IsPlanned start past (Kept (Ended code)) → IsOnPlan start past → IsOnPlan start (Kept (Ended code) ∷ past)
 after_ended start past code allowed planned come =
     let newest =
     ended_newest (pace_at start past) (stood_at start past) (standing_at start past) (records_of start past) code
@@ -243,60 +243,60 @@ after_began pace first standings.Idle order moment (Some other) next ended order
     come =
     let few = come.2 in (sent, refl, come.1, omega arith)
 
-pub on_course : (start : Start) (past : List Happening) → Legal start past → ByPlan start past → IsOnCourse start past
-on_course start [] legal planned = begins_anew start.pace (standing_of start.records) (orders_of start.records)
-on_course start (Answered id replies.Taken ∷ Asked order moment ∷ past) legal planned =
+pub on_plan : (start : Start) (past : List Happening) → Legal start past → ByPlan start past → IsOnPlan start past
+on_plan start [] legal planned = begins_anew start.pace (standing_of start.records) (orders_of start.records)
+on_plan start (Answered id replies.Taken ∷ Asked order moment ∷ past) legal planned =
     let rest = neither (is_at_work (standing_at start past)) (is_unsaid past) legal.1.1.1 in
     begins_taken (pace_at start past) (standing_at start past) order false (orders_of (records_of start past)) rest.0
-on_course start (Answered id (replies.Kept code) ∷ Asked order moment ∷ past) legal planned =
-    on_course start past legal.0.0 planned.0.0
-on_course start (Answered id replies.IdReused ∷ Asked order moment ∷ past) legal planned =
-    on_course start past legal.0.0 planned.0.0
-on_course start (Answered id replies.Busy ∷ Asked order moment ∷ past) legal planned =
-    on_course start past legal.0.0 planned.0.0
-on_course start (Answered id replies.Full ∷ Asked order moment ∷ past) legal planned =
-    on_course start past legal.0.0 planned.0.0
-on_course start (Answered id (replies.Blocked unit) ∷ Asked order moment ∷ past) legal planned = absurd legal.1.1
-on_course start (Answered id (replies.Kept code) ∷ past) legal planned =
+on_plan start (Answered id (replies.Kept code) ∷ Asked order moment ∷ past) legal planned =
+    on_plan start past legal.0.0 planned.0.0
+on_plan start (Answered id replies.IdReused ∷ Asked order moment ∷ past) legal planned =
+    on_plan start past legal.0.0 planned.0.0
+on_plan start (Answered id replies.Busy ∷ Asked order moment ∷ past) legal planned =
+    on_plan start past legal.0.0 planned.0.0
+on_plan start (Answered id replies.Full ∷ Asked order moment ∷ past) legal planned =
+    on_plan start past legal.0.0 planned.0.0
+on_plan start (Answered id (replies.Blocked unit) ∷ Asked order moment ∷ past) legal planned = absurd legal.1.1
+on_plan start (Answered id (replies.Kept code) ∷ past) legal planned =
     after_saying (pace_at start past) (stood_at start past) (standing_at start past) (waiting past) (has_ended past)
     (orders_of (records_of start past)) (sent_since_taken past) (told_in past) (kept_since past)
-    (on_course start past legal.0 planned.0)
-on_course start (Answered id (replies.Blocked unit) ∷ past) legal planned =
+    (on_plan start past legal.0 planned.0)
+on_plan start (Answered id (replies.Blocked unit) ∷ past) legal planned =
     after_saying (pace_at start past) (stood_at start past) (standing_at start past) (waiting past) (has_ended past)
     (orders_of (records_of start past)) (sent_since_taken past) (told_in past) (kept_since past)
-    (on_course start past legal.0 planned.0)
-on_course start (Answered id reply ∷ past) legal planned = absurd legal.1
-on_course start (Sent frame answer ∷ past) legal planned =
+    (on_plan start past legal.0 planned.0)
+on_plan start (Answered id reply ∷ past) legal planned = absurd legal.1
+on_plan start (Sent frame answer ∷ past) legal planned =
     after_frame (pace_at start past) past (stood_at start past) (standing_at start past) (waiting past) (has_ended past)
     (orders_of (records_of start past)) (sent_since_taken past) (told_in past) (kept_since past)
     (record { frame = frame; answer = answer }) refl (may_send start past frame answer legal.1) planned.1
-    (on_course start past legal.0 planned.0)
-on_course start (Kept (Began order moment) ∷ past) legal planned =
+    (on_plan start past legal.0 planned.0)
+on_plan start (Kept (Began order moment) ∷ past) legal planned =
     let may = may_keep start past (Began order moment) legal.1 in
     after_began (pace_at start past) (stood_at start past) (standing_at start past) order moment (waiting past) None
     (has_ended past)
     (orders_of (records_of start past)) (orders_of (Began order moment ∷ records_of start past))
     (sent_since_taken past) (told_in past) (kept_since past) may.whole.0.1 may.due.0
-    (on_course start past legal.0 planned.0)
-on_course start (Kept (Opened unit) ∷ past) legal planned =
+    (on_plan start past legal.0 planned.0)
+on_plan start (Kept (Opened unit) ∷ past) legal planned =
     let may = may_keep start past (Opened unit) legal.1 in
     let next = planned.1 in
     after_opened (pace_at start past) (stood_at start past) (standing_at start past) unit (waiting past)
     (has_ended past)
     (orders_of (records_of start past)) (orders_of (Opened unit ∷ records_of start past))
     (sent_since_taken past) (told_in past) (kept_since past) next.0 may.whole.0.1 next.1 next.2
-    (on_course start past legal.0 planned.0)
-on_course start (Kept (Ended code) ∷ past) legal planned =
+    (on_plan start past legal.0 planned.0)
+on_plan start (Kept (Ended code) ∷ past) legal planned =
     let may = may_keep start past (Ended code) legal.1 in
-    after_ended start past code may.whole.0.1 planned.1 (on_course start past legal.0 planned.0)
-on_course start (Kept (Closed unit) ∷ past) legal planned =
+    after_ended start past code may.whole.0.1 planned.1 (on_plan start past legal.0 planned.0)
+on_plan start (Kept (Closed unit) ∷ past) legal planned =
     let may = may_keep start past (Closed unit) legal.1 in
     let next = planned.1 in
     after_closed (pace_at start past) (stood_at start past) (standing_at start past) unit (waiting past)
     (has_ended past)
     (orders_of (records_of start past))
     (sent_since_taken past) (told_in past) (kept_since past) next.0 may.whole.0.1 may.due.0 next.1 next.2
-    (on_course start past legal.0 planned.0)
-on_course start (Stopped pace ∷ past) legal planned =
+    (on_plan start past legal.0 planned.0)
+on_plan start (Stopped pace ∷ past) legal planned =
     begins_anew pace (standing_at start past) (orders_of (records_of start past))
-on_course start (_ ∷ past) legal planned = on_course start past legal.0 planned.0
+on_plan start (_ ∷ past) legal planned = on_plan start past legal.0 planned.0

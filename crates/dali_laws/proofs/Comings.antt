@@ -74,7 +74,7 @@ HasCome pace first now None true orders sent told kept = NewestEndedBy pace firs
 HasCome pace first now None false orders sent told kept = ⊤
 
 -- and so it is of the trace
-abbrev pub IsOnCourse : Start → List Happening → Type 0
-IsOnCourse start past =
+abbrev pub IsOnPlan : Start → List Happening → Type 0
+IsOnPlan start past =
     HasCome (pace_at start past) (stood_at start past) (standing_at start past) (waiting past) (has_ended past)
     (orders_of (records_of start past)) (sent_since_taken past) (told_in past) (kept_since past)

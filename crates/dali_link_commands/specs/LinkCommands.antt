@@ -79,25 +79,14 @@ pub record IsReported (wanted : Bool)
   pub answered : answers before after first ended (with_lines last lines failed)
   pub reported : EndsReported (is_lost wanted (has_output before) after) ended status lines last.streams.out
 
--- one over a file of orders
-abbrev pub OverOrders : (Report ReportOutput → Report ReportOutput → List Contents → Look → Status → Look → Type 0)
-    → Report ReportOutput → Report ReportOutput → Look → Status → Look → Type 0
-OverOrders answers before after first status last =
-    IsFileAnswer (answers before after) (after ≡ before) first status last
-
 -- a drive of a task behind an older journal or none: of orders that come line by line, or of all those of a file
-abbrev pub Drives : {N : Type 0} → Bool → (N → Option (List ℕ)) → DriveTask → Option JournalState → Report N → Report N
+abbrev pub Drives : {N : Type 0} → Bool → DriveTask → (N → Option (List ℕ)) → Option JournalState → Report N → Report N
     → Look → Status → Look → Type 0
-Drives true contents task older before after first status last =
+Drives true task contents older before after first status last =
     IsFileFollow older file_contents contents task.moment task.pace task.required before after first status last
-Drives false contents task older before after first status last =
+Drives false task contents older before after first status last =
     IsFileAnswer (IsAnswerBehind older contents task.moment task.pace task.required before after) (after ≡ before)
     first status last
-
-abbrev pub IsDriveAnswer : {N : Type 0} → (N → Option (List ℕ)) → DriveTask → Option JournalState → Report N
-    → Report N → Look → Status → Look → Type 0
-IsDriveAnswer contents task older before after first status last =
-    Drives task.follow contents task older before after first status last
 
 -- of what a stop may leave of the file of a bank nothing is known
 abbrev pub anything : (List ℕ → Type 0) → Type 0
@@ -105,11 +94,12 @@ anything leaves = ⊤
 
 abbrev pub IsLinkAnswer : LinkCommand → Look → Status → Look → Type 0
 IsLinkAnswer (Drive task) first status last =
-    IsReported (is_some task.report) (λ before after. λ begun ended behind.
-    IsBehindNamed task.older.now (λ older. IsDriveAnswer report_contents task older before after begun ended behind)
+    IsReported (is_some task.report) (λ before after begun ended behind. IsBehindNamed task.older.now
+    (λ older. Drives task.follow task report_contents older before after begun ended behind)
     (EndsUnread before after begun ended behind)) first status last
 IsLinkAnswer (Read unit bank) first status last = IsReadAnswer unit anything first status last
 IsLinkAnswer (Verify orders report) first status last =
-    IsReported (is_some report) (OverOrders (IsVerifyAnswer report_contents)) first status last
+    IsReported (is_some report) (λ before after. IsFileAnswer (IsVerifyAnswer report_contents before after)
+    (after ≡ before)) first status last
 IsLinkAnswer (Scan addresses sought) first status last =
     IsScanAnswer sought (asked_addresses addresses.now) first status last

@@ -2,7 +2,7 @@ ghost use Rattle.std.specs.Prelude.{◌≡◌, length};
 ghost use Rattle.dali_drive.specs.Desks.{IsUnfailed};
 ghost use Rattle.dali_link_commands.specs.Benches.{TellsUnwritten, std_bench};
 ghost use Rattle.dali_link_commands.specs.BehindAnswers.{EndsUnread, IsBehindNamed};
-ghost use Rattle.dali_link_commands.specs.LinkCommands.{IsDriveAnswer, IsLinkAnswer, IsShort, file_of, watched_of};
+ghost use Rattle.dali_link_commands.specs.LinkCommands.{Drives, IsLinkAnswer, IsShort, file_of, watched_of};
 ghost use Rattle.dali_link_commands.specs.ReadAnswers.{asked_addresses};
 
 use crate::drive::DriveTask;
@@ -117,7 +117,7 @@ fn drive_task<
 ) -> Status
     requires unfailed { IsUnfailed (std_bench L.contents I.remaining O.contents desk.old).failed }
     ensures driven { IsBehindNamed task.entry.older.now
-        (λ older. IsDriveAnswer N.contents task.entry older report.old report.new
+        (λ older. Drives task.entry.follow task.entry N.contents older report.old report.new
         (std_bench L.contents I.remaining O.contents desk.old) result
         (std_bench L.contents I.remaining O.contents desk.new))
         (EndsUnread report.old report.new (std_bench L.contents I.remaining O.contents desk.old) result

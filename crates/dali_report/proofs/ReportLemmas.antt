@@ -1,4 +1,5 @@
 -- How a report goes on.
+use Rattle.std.specs.List.{list_any}
 use Rattle.std.proofs.Common.{◌≡◌, ◌∙◌, refl, sym, true≢false, ◌||◌, ◌&&◌, ◌++◌, ℕ, Bool, true, false, List, [], ◌∷◌, Option, Some, None}
 use Rattle.std.proofs.Common.{option_map, subst, inl, inr, ◌⊎◌, IsOkAnd, IfOk, Result, Ok, Err, Vec, Global}
 use Rattle.std.specs.Io.KnownBytes.{Appends}
@@ -19,9 +20,8 @@ use Rattle.dali_report.specs.declared.report.Report.{Report}
 use Rattle.dali_report.specs.declared.report.Spoken.{Spoken}
 use Rattle.dali_report.specs.Lines.{line_of, last_data}
 use Rattle.dali_report.specs.Reports.{resumed, spoken_of, is_number_of, exchanges, told_at, is_last_reply, IsReportText}
-use Rattle.dali_report.specs.Outcomes.{is_well}
 use Rattle.dali_report.specs.Reports.{IsCauseTold, is_ended_now}
-use Rattle.dali_report.specs.Outcomes.{all_done, all_ended_now, has_last_reply, outcome_by, outcome_of}
+use Rattle.dali_report.specs.Outcomes.{all_done, all_ended_now, is_well, outcome_by, outcome_of}
 use Rattle.dali_report.specs.Tallies.{IsTally}
 use Rattle.dali_report.specs.Told.{IsTold, HasWritten, IsSilent, report_held, has_failed, spoken, is_number}
 
@@ -106,7 +106,7 @@ outcome_of_last start past id replies.Full last = refl
 outcome_of_last start past id (replies.Blocked unit) last = refl
 
 -- before the first of them nothing was said against any
-pub none_yet : (start : Start) (past : List Happening) → has_last_reply past ≡ false
+pub none_yet : (start : Start) (past : List Happening) → list_any is_last_reply past ≡ false
     → (all_done past ≡ true) × (all_ended_now start past ≡ true)
 none_yet start [] none = (refl, refl)
 none_yet start (Answered id replies.Taken ∷ past) none =
@@ -169,7 +169,8 @@ module _ {W : Type 0} (contents : W → Option (List ℕ)) (start : Start) (firs
       let is_now : now ≡ is_ended_now start past id =
       rw (ends, told.ended_is, told.resumed_is, number_of id (resumed start)) refl in
       rw (← is_now, ← well)
-      (with (has_last_reply past) (all_done past) (all_ended_now start past) told.outcome_is (none_yet start past))
+      (with (list_any is_last_reply past) (all_done past) (all_ended_now start past) told.outcome_is
+      (none_yet start past))
 
   -- its line was written, and the next one begins
   pub told_last : (new : Report W) → is_last_reply (Answered id reply) ≡ true

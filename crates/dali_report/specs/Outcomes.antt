@@ -11,10 +11,6 @@ use Rattle.dali_report.specs.Reports.{is_ended_now, is_last_reply}
 use Rattle.dali_report.specs.declared.outcome.Outcome.{Outcome}
 use Rattle.dali_report.specs.declared.outcome.Outcome.TheVariants.{Nothing, DoneNow, Done, NotDone}
 
--- some order had its last reply
-abbrev pub has_last_reply : List Happening → Bool
-has_last_reply past = list_any is_last_reply past
-
 -- each last reply is `kept 0 Done`
 abbrev pub is_well : Reply → Bool
 is_well replies.Taken = true
@@ -41,4 +37,4 @@ outcome_by true true false = Done
 outcome_by true true true = DoneNow
 
 abbrev pub outcome_of : Start → List Happening → Outcome
-outcome_of start past = outcome_by (has_last_reply past) (all_done past) (all_ended_now start past)
+outcome_of start past = outcome_by (list_any is_last_reply past) (all_done past) (all_ended_now start past)

@@ -109,9 +109,7 @@ first_here wanted location count own byte behind has other = record {
   parts = refl;
   place = refl;
   as_wanted = λ index same is. cc;
-  own = own;
-  has_own = has;
-  other = other;
+  other = (own, has, other);
 }
 
 -- it is behind one that has to be there
@@ -124,8 +122,6 @@ first_later wanted at count fewer own read location byte has first = record {
   parts = ap (λ (l : List ℕ). own ∷ l) first.parts;
   place = first.place ∙ moved_next at (length first.before);
   as_wanted = each;
-  own = first.own;
-  has_own = first.has_own;
   other = first.other;
 }
   where

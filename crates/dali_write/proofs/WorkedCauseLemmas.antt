@@ -76,9 +76,7 @@ second_is_the_first_other = record {
   parts = refl;
   place = refl;
   as_wanted = before;
-  own = 0x35;
-  has_own = inr (inr (inl (refl, refl)));
-  other = λ same. omega (arith, same);
+  other = (0x35, inr (inr (inl (refl, refl))), λ same. omega (arith, same));
 }
   where
     before : (index same : ℕ) → slice_get (0x18 ∷ []) index ≡ Some same
@@ -90,7 +88,7 @@ second_is_the_first_other = record {
 pub none_where_all_are_wanted : (location byte : ℕ)
     → IsFirstOther (read_backs updates) (block 0x13 2) (0x18 ∷ 0x35 ∷ []) location byte → ⊥
 none_where_all_are_wanted location byte first =
-    by first.before first.parts first.place first.own first.has_own first.other
+    by first.before first.parts first.place first.other.0 first.other.1 first.other.2
   where
     by : (before : List ℕ) → 0x18 ∷ 0x35 ∷ [] ≡ before ++ (byte ∷ first.behind)
         → location ≡ moved_on 0x13 (length before) → (own : ℕ) → Has (read_backs updates) location own → byte ≢ own → ⊥

@@ -66,11 +66,8 @@ pub record IsFirstOther (wanted : List (ℕ × ℕ)) (block : Block) (bytes : Li
   pub behind : List ℕ
   pub parts : bytes ≡ before ++ (byte ∷ behind)
   pub place : location ≡ moved_on block.location (length before)
-  pub as_wanted : (index same : ℕ) → slice_get before index ≡ Some same
-      → Has wanted (moved_on block.location index) same
-  pub own : ℕ
-  pub has_own : Has wanted location own
-  pub other : byte ≢ own
+  pub as_wanted : (index own : ℕ) → slice_get before index ≡ Some own → Has wanted (moved_on block.location index) own
+  pub other : (own : ℕ) × Has wanted location own × (byte ≢ own)
 
 -- a block was read that has such a byte
 pub record ReadAnother (unit : ℕ) (updates : List (ℕ × ℕ)) (told : List Exchange) (location byte : ℕ) : Type 0 where

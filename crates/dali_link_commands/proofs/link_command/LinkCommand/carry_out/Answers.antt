@@ -9,10 +9,10 @@ pub returns-in-Drive-clause-carried_out : goal.returns-in-Drive-clause-carried_o
 returns-in-Drive-clause-carried_out g c = rw c.in-Drive.is
     (reported (is_some c.in-Drive.task.report) (is_none c.open-file.result.unopened) _ _
     (std_bench g.L.Write.contents g.I.Read.remaining g.O.Write.contents
-    (record c.drive_task-ended.new.desk { out = c.end.new.lines })) c.open-file.result.report c.drive_task-ended.new.report
-    c.drive_task-ended.result c.end.result (held g.O.Write.contents c.drive_task-ended.new.desk.out.output)
-    (has_failed c.drive_task-ended.new.desk.out.output) c.open-file.ensures.unfailed c.open-file.ensures.output
-    c.drive_task-ended.ensures.driven c.end.ensures.told)
+    (record c.drive_task-ended.new.desk { out = c.end.new.lines })) c.open-file.result.report
+    c.drive_task-ended.new.report c.drive_task-ended.result c.end.result
+    (held g.O.Write.contents c.drive_task-ended.new.desk.out.output) (has_failed c.drive_task-ended.new.desk.out.output)
+    c.open-file.ensures.unfailed c.open-file.ensures.output c.drive_task-ended.ensures.driven c.end.ensures.told)
 
 pub returns-in-Verify-clause-carried_out : goal.returns-in-Verify-clause-carried_out
 returns-in-Verify-clause-carried_out g c = rw c.in-Verify.is

@@ -5,11 +5,16 @@ ghost use Rattle.std.specs.Prelude.{◌≤◌};
 ghost use Rattle.std.specs.List.{AllByRecursion};
 ghost use Rattle.dali_link_commands.specs.LinkCommands.{IsShort};
 
+mod fault_stream;
+mod refusal;
+
+use crate::fault_stream::{FaultStream, out_of_memory, print_fault, tell_cause, unopened};
+use crate::refusal::refused;
 use dali_drive::{Sought, StdSink, StdSource, StoreDesk};
-use dali_faults::{Fault, Status, write_fault};
+use dali_faults::Status;
 use dali_file_commands::FileCommand;
 use dali_file_commands::frame::frame;
-use dali_input::{Input, InputFault};
+use dali_input::Input;
 use dali_job::{Job, job_of};
 use dali_link_commands::LinkCommand;
 use dali_link_commands::asked::read_asked;
@@ -34,21 +39,6 @@ const AT_A_TERMINAL: &str =
 
 // Where older journals are named beside none that is asked.
 const OLDER_ALONE: &str = "error: --older stands beside --journal: name that too";
-
-// What `clap` advises of an option that it doesn't know: another one, or how to give it as a value, which is of use for
-// a word of hexadecimal digits alone.
-const A_TIP: &str = "  tip: ";
-
-const AS_A_VALUE: &str = "  tip: to pass '";
-
-// What is told behind a wrong moment.
-const A_MOMENT: &str =
-    "A moment is a whole number from 0 to 18446744073709551615, as the clock's seconds: --moment $(date +%s)";
-
-// The system's number where the program may open no more files, and what is told behind its words then.
-const TOO_MANY_FILES: i32 = 24;
-
-const MORE_FILES: &str = ": raise the limit, as by ulimit -n 1024";
 
 fn main(rt: HostRuntime) -> ExitCode {
     let status = match std::env::args(&rt) {
@@ -172,51 +162,6 @@ fn has_link(name: &str) -> bool {
     matches!(name, "drive" | "read" | "verify" | "scan")
 }
 
-// Prints what `clap` says of a wrong command line, in which it repeats words of that.
-fn refused(rt: &HostRuntime, words: &[&str], error: &clap::Error, stream: FaultStream) -> Status {
-    let Ok(text) = format!(in rt.alloc(); "{error}") else {
-        return out_of_memory(rt, stream);
-    };
-    for line in text.as_str().lines() {
-        if !line.starts_with(AS_A_VALUE) || takes_digits(words) {
-            let line = Escaped::whole(line);
-            let _ = eprintln!(rt; "{line}");
-        }
-        if line.starts_with(A_TIP) && !takes_digits(words) {
-            tell_help(rt, words);
-        }
-    }
-    if text.as_str().contains("'--moment <M>'") || has_signed_moment(words) {
-        let _ = eprintln!(rt; "{A_MOMENT}");
-    }
-    Status::Refused
-}
-
-// Whether the words are those of `frame`, with hexadecimal digits behind a minus.
-fn takes_digits(words: &[&str]) -> bool {
-    words.len() == 3 && words[1] == "frame" && !words[2].starts_with("--")
-}
-
-// Prints where it stands what the command takes.
-fn tell_help(rt: &HostRuntime, words: &[&str]) {
-    if words.len() > 1 {
-        let command = Escaped::whole(words[1]);
-        let _ = eprintln!(rt; "  tip: dali_bench {command} --help tells what it takes");
-    }
-}
-
-// Whether a moment was given with a minus before it, which `clap` takes for an option.
-fn has_signed_moment(words: &[&str]) -> bool {
-    let mut is_moment = false;
-    for word in words {
-        if is_moment && word.starts_with("-") && *word != "--" {
-            return true;
-        }
-        is_moment = *word == "--moment";
-    }
-    false
-}
-
 fn print_version(rt: &HostRuntime) -> Status {
     let mut output = Output::new(io::writer(rt));
     let status = match writeln!(output, "{VERSION}") {
@@ -224,17 +169,6 @@ fn print_version(rt: &HostRuntime) -> Status {
         Err(_) => Status::Unwritten,
     };
     tell_cause(rt, status, output.cause())
-}
-
-// The status, after telling why the output can't be written, if that is so. Where nobody reads it any more, as in
-// `check FILE | head`, nothing is told.
-fn tell_cause(rt: &HostRuntime, status: Status, cause: Option<ErrorKind>) -> Status {
-    let _ = match cause {
-        None | Some(ErrorKind::BrokenPipe) => Ok(()),
-        Some(ErrorKind::Uncategorized) => eprintln!(rt; "error: the output can't be written"),
-        Some(cause) => eprintln!(rt; "error: the output can't be written: {cause}"),
-    };
-    status
 }
 
 fn texts_of<'a>(alloc: Global, words: &'a Vec<String>) -> Result<Vec<&'a str>, AllocError> {
@@ -476,47 +410,5 @@ fn carried_out(rt: &HostRuntime, command: LinkCommand<'_>, progress: Option<&Pro
         (Err(cause), _, _) | (_, Err(cause), _) | (_, _, Err(cause)) => {
             unopened(rt, "/", cause, FaultStream::Lines)
         }
-    }
-}
-
-// Where a fault is told that comes before its command runs: some have the link for their output.
-#[derive(Clone, Copy)]
-enum FaultStream {
-    Output,
-    Lines,
-}
-
-// Prints that a file can't be opened, why, and where too many are open what to do.
-fn unopened(rt: &HostRuntime, name: &str, cause: io::Error, stream: FaultStream) -> Status {
-    let name = Escaped::whole(name);
-    let advice = if cause.raw_os_error() == Some(TOO_MANY_FILES) {
-        MORE_FILES
-    } else {
-        ""
-    };
-    let _ = eprintln!(rt; "error: the input can't be opened or read: {name}: {cause}{advice}");
-    print_fault(rt, Fault::Input(InputFault::File), stream)
-}
-
-// Prints that memory ran out before any command ran.
-fn out_of_memory(rt: &HostRuntime, stream: FaultStream) -> Status {
-    let _ = eprintln!(rt; "error: memory ran out");
-    print_fault(rt, Fault::Input(InputFault::Memory), stream)
-}
-
-// Prints a fault that comes before any command runs.
-fn print_fault(rt: &HostRuntime, fault: Fault, stream: FaultStream) -> Status {
-    match stream {
-        FaultStream::Output => {
-            let mut output = Output::new(io::writer(rt));
-            match write_fault(&mut output, fault) {
-                Ok(()) => fault.status(),
-                Err(_) => tell_cause(rt, Status::Unwritten, output.cause()),
-            }
-        }
-        FaultStream::Lines => match write_fault(&mut Output::new(rt.stderr()), fault) {
-            Ok(()) => fault.status(),
-            Err(_) => Status::Unwritten,
-        },
     }
 }

@@ -7,7 +7,7 @@ use Rattle.dali_write.specs.declared.ask.Cause.{Cause}
 use Rattle.dali_write.specs.declared.stage.Task.TheVariants as tasks
 use Rattle.dali_write.specs.Causes.{IsShown}
 use Rattle.dali_write.proofs.CauseLemmas.{cause_shown}
-use Rattle.dali_write.proofs.OtherByteLemmas.{rises_above_lock}
+use Rattle.dali_write.proofs.RisingLemmas.{rises_above_lock}
 use Rattle.dali_trace.specs.declared.happening.Happening.{Happening}
 use Rattle.dali_trace.specs.Trace.{Start, standing_at, pace_at}
 use Rattle.dali_trace.specs.ByPlan.{told_in}

@@ -32,7 +32,8 @@ use Rattle.dali_write.proofs.PowerLemmas.{drifts_keep}
 use Rattle.dali_write.proofs.DriftLemmas.{drifts_bank}
 use Rattle.dali_write.proofs.StillReadLemmas.{stands_true}
 use Rattle.dali_write.proofs.RestLemmas.{closing_rests}
-use Rattle.dali_write.proofs.SuccessLemmas.{gone, closing_goes, fresh_goes, unlock_goes, world_alone, takes_still}
+use Rattle.dali_write.proofs.SuccessLemmas.{gone, closing_goes, fresh_goes, world_alone}
+use Rattle.dali_write.proofs.OpenedSuccessLemmas.{unlock_goes, takes_still}
 use Rattle.dali_write.proofs.ElseLemmas.{closing_keeps_bank, run_apart, none_on, same_bank, alone_with}
 use Rattle.dali_trace.specs.declared.happening.Reply.TheVariants as replies
 use Rattle.dali_trace.specs.declared.happening.Happening.{Happening}

@@ -1,12 +1,11 @@
 -- A read behind which a session gives up has told another byte than has to be there, since the updates rise: each
 -- location has one byte.
-use Rattle.std.proofs.Common.{◌≡◌, ◌≢◌, ◌∙◌, inl, inr, refl, ap, subst, ℕ, zero, suc, ◌<◌, Bool, true, false, ◌==◌}
-use Rattle.std.proofs.Common.{◌&&◌, nat_lt, if◌then◌else◌, List, [], ◌∷◌, length, Option, Some, None, arith}
+use Rattle.std.proofs.Common.{◌≡◌, ◌≢◌, ◌∙◌, inl, inr, refl, ap, subst, ℕ, zero, suc, Bool, true, false, ◌==◌}
+use Rattle.std.proofs.Common.{nat_lt, if◌then◌else◌, List, [], ◌∷◌, length, Option, Some, None, arith}
 use Rattle.std.specs.Prelude.{slice_get, ⊤, get_or, min}
 use Rattle.std.specs.Str.{bytes_eq}
-use Rattle.std.specs.List.{AllByRecursion}
-use Rattle.std.proofs.lemmas.Bool.{eqb-true, eqb-false, and_parts}
-use Rattle.dali_bank.specs.Order.{AreUpdates, IsWritable, RisesAbove}
+use Rattle.std.proofs.lemmas.Bool.{eqb-true, eqb-false}
+use Rattle.dali_bank.specs.Order.{RisesAbove}
 use Rattle.dali_bus.specs.Hears.{up}
 use Rattle.dali_write.specs.declared.access.Access.{Access}
 use Rattle.dali_write.specs.declared.access.Access.TheVariants.{ReadFrom}
@@ -21,7 +20,7 @@ use Rattle.dali_write.specs.declared.stage.Task.{Task}
 use Rattle.dali_write.specs.declared.stage.Task.TheVariants.{Fresh, Opened, Closing, Reading, ReadingBlock}
 use Rattle.dali_write.specs.Requests.{block, moved_on}
 use Rattle.dali_write.specs.Plans.{Plan, Finish, Make, next_plan, plan_after, either_way, give_up, close, expect}
-use Rattle.dali_write.specs.Plans.{read_back, rows_of, row_before, most_of, read_backs, write_next, write_on}
+use Rattle.dali_write.specs.Plans.{read_back, rows_of, most_of, read_backs, write_next, write_on}
 use Rattle.dali_write.specs.Plans.{read_all_back, read_length, read_format, read_format_low, judge_format, greatest}
 use Rattle.dali_write.specs.Plans.{judge_length, read_on}
 use Rattle.dali_write.specs.Stages.{plan_of, updates_for}
@@ -29,26 +28,12 @@ use Rattle.dali_write.specs.Causes.{another, is_wanted, is_write, IsFirstOther}
 use Rattle.dali_write.specs.Touches.{Has}
 use Rattle.dali_write.proofs.PlaceLemmas.{moved_next}
 use Rattle.dali_write.proofs.PlanLemmas.{if_all}
-use Rattle.dali_write.proofs.RowLemmas.{AllInRow, AllInRows}
+use Rattle.dali_write.proofs.RisingLemmas.{has_above}
+use Rattle.dali_write.proofs.RowLemmas.{AllInRow, AllInRows, rows_hold}
 
--- ---- rising updates have one byte for a location
+-- ---- what has to be there
 
-pub has_above : (bound : ℕ) (updates : List (ℕ × ℕ)) (location byte : ℕ) → RisesAbove bound updates
-    → Has updates location byte → bound < location
-has_above bound [] location byte rises has = absurd has
-has_above bound (update ∷ updates) location byte rises (inl here) = grind arith
-has_above bound (update ∷ updates) location byte rises (inr later) =
-    grind (arith, has_above update.0 updates location byte rises.1 later)
-
--- those of an order lie above the lock byte
-pub rises_above_lock : (updates : List (ℕ × ℕ)) → AreUpdates updates → RisesAbove 2 updates
-rises_above_lock [] are = tt
-rises_above_lock (update ∷ updates) are = (above are.writable.0, are.rising.1) where
-  above : IsWritable update.0 → 2 < update.0
-  above (inl first) = omega (arith, first.0)
-  above (inr second) = omega (arith, second.0)
-
--- so whether a byte is wanted there tells whether it is that one
+-- whether a byte is wanted at a place tells whether it is the one of that place
 wanted_is : (bound : ℕ) (wanted : List (ℕ × ℕ)) (location own byte : ℕ) → RisesAbove bound wanted
     → Has wanted location own → is_wanted wanted location byte ≡ (own == byte)
 wanted_is bound [] location own byte rises has = absurd has
@@ -60,37 +45,6 @@ wanted_is bound (update ∷ wanted) location own byte rises (inr later) =
       has_above update.0 wanted location own rises.1 later,
       wanted_is update.0 wanted location own byte rises.1 later,
     )
-
--- ---- what holds of updates holds of their rows
-
-row_before_holds : (P : ℕ → ℕ → Type 0) (most : ℕ) (update : ℕ × ℕ) (some : List (ℕ × List ℕ))
-    → P update.0 update.1 → AllInRows P some → AllInRows P (row_before most update some)
-row_before_holds P most update [] first all = ((first, tt), tt)
-row_before_holds P most update (row ∷ more) first all =
-    by ((row.0 == up update.0) && nat_lt (length row.1) most) refl
-  where
-    by : (b : Bool) → ((row.0 == up update.0) && nat_lt (length row.1) most) ≡ b
-        → AllInRows P (if b then (update.0, update.1 ∷ row.1) ∷ more else (update.0, update.1 ∷ []) ∷ row ∷ more)
-    by true same =
-        let next = eqb-true row.0 (up update.0) (and_parts _ _ same).0 in
-        ((first, subst (λ (at : ℕ). AllInRow P at row.1) next all.0), all.1)
-    by false other = ((first, tt), all)
-
-rows_hold : (P : ℕ → ℕ → Type 0) (most : ℕ) (updates : List (ℕ × ℕ))
-    → AllByRecursion (λ update. P update.0 update.1) updates → AllInRows P (rows_of most updates)
-rows_hold P most [] all = tt
-rows_hold P most (update ∷ updates) all =
-    row_before_holds P most update (rows_of most updates) all.0 (rows_hold P most updates all.1)
-
-has_more : (update : ℕ × ℕ) (wanted some : List (ℕ × ℕ))
-    → AllByRecursion (λ (u : ℕ × ℕ). Has wanted u.0 u.1) some
-    → AllByRecursion (λ (u : ℕ × ℕ). Has (update ∷ wanted) u.0 u.1) some
-has_more update wanted [] all = tt
-has_more update wanted (one ∷ some) all = (inr all.0, has_more update wanted some all.1)
-
-has_each : (wanted : List (ℕ × ℕ)) → AllByRecursion (λ (u : ℕ × ℕ). Has wanted u.0 u.1) wanted
-has_each [] = tt
-has_each (update ∷ wanted) = (inl (refl, refl), has_more update wanted wanted (has_each wanted))
 
 -- ---- the byte that is told
 
@@ -246,7 +200,7 @@ on_each pace updates [] rises =
     write_each (TellsOther updates) pace 2 0xFF (read_all_back pace updates)
     (close_each (TellsOther updates) Doubt DoubtOpen)
     (back_each updates (rows_of (most_of pace) (read_backs updates)) rises
-    (rows_hold (Has (read_backs updates)) (most_of pace) (read_backs updates) (has_each (read_backs updates))))
+    (rows_hold (Has (read_backs updates)) (most_of pace) (read_backs updates) (λ location byte has. has)))
 on_each pace updates (update ∷ left) rises =
     write_each (TellsOther updates) pace update.0 update.1 (write_on pace updates left)
     (close_each (TellsOther updates) Doubt DoubtOpen) (on_each pace updates left rises)

@@ -1,5 +1,5 @@
 -- The rows of updates that are read back.
-use Rattle.std.proofs.Common.{◌≡◌, refl, sym, ap, subst, ◌∙◌, ℕ, zero, suc, ◌+◌, ◌*◌, ◌<◌, ◌≤◌, Bool, true, false, ◌==◌, ◌&&◌}
+use Rattle.std.proofs.Common.{◌≡◌, inl, inr, refl, sym, ap, subst, ◌∙◌, ℕ, zero, suc, ◌+◌, ◌*◌, ◌<◌, ◌≤◌, Bool, true, false, ◌==◌, ◌&&◌}
 use Rattle.std.proofs.Common.{List, [], ◌∷◌, length, map, take, drop, Some, slice_get, arith}
 use Rattle.std.specs.Prelude.{nat_lt, if◌then◌else◌, ⊤}
 use Rattle.std.specs.List.{AllByRecursion, Contains}
@@ -9,6 +9,7 @@ use Rattle.dali_write.specs.Requests.{moved_on}
 use Rattle.dali_write.specs.Plans.{row_before, rows_of}
 use Rattle.dali_write.proofs.PlaceLemmas.{moved_next}
 use Rattle.dali_write.specs.Requests.{block}
+use Rattle.dali_write.specs.Touches.{Has}
 use Rattle.dali_write.specs.Counts.{rows_frames}
 use Rattle.dali_write.proofs.BlockShapeLemmas.{block_frames_are}
 
@@ -92,6 +93,27 @@ all_in_rows P most [] all = tt
 all_in_rows P most (update ∷ updates) all =
     let both = row_before_all P most update (rows_of most updates) all in
     (both.0, all_in_rows P most updates both.1)
+
+row_before_holds : (P : ℕ → ℕ → Type 0) (most : ℕ) (update : ℕ × ℕ) (some : List (ℕ × List ℕ))
+    → P update.0 update.1 → AllInRows P some → AllInRows P (row_before most update some)
+row_before_holds P most update [] first all = ((first, tt), tt)
+row_before_holds P most update (row ∷ more) first all =
+    by ((row.0 == up update.0) && nat_lt (length row.1) most) refl
+  where
+    by : (b : Bool) → ((row.0 == up update.0) && nat_lt (length row.1) most) ≡ b
+        → AllInRows P (if b then (update.0, update.1 ∷ row.1) ∷ more else (update.0, update.1 ∷ []) ∷ row ∷ more)
+    by true same =
+        let next = eqb-true row.0 (up update.0) (and_parts _ _ same).0 in
+        ((first, subst (λ (at : ℕ). AllInRow P at row.1) next all.0), all.1)
+    by false other = ((first, tt), all)
+
+-- and what holds of each update holds of the rows
+pub rows_hold : (P : ℕ → ℕ → Type 0) (most : ℕ) (updates : List (ℕ × ℕ))
+    → ((location byte : ℕ) → Has updates location byte → P location byte) → AllInRows P (rows_of most updates)
+rows_hold P most [] each = tt
+rows_hold P most (update ∷ updates) each =
+    row_before_holds P most update (rows_of most updates) (each update.0 update.1 (inl (refl, refl)))
+    (rows_hold P most updates (λ location byte has. each location byte (inr has)))
 
 -- as it is said by an index
 pub by_index : (P : ℕ → ℕ → Type 0) (location : ℕ) (bytes : List ℕ)

@@ -1,5 +1,5 @@
 use Rattle.dali_write.proofs.CauseLemmas.{cause_shown, opened_has_cause, fresh_has_cause}
-use Rattle.dali_write.proofs.OtherByteLemmas.{rises_above_lock}
+use Rattle.dali_write.proofs.RisingLemmas.{rises_above_lock}
 use Rattle.dali_write.proofs.laws.causes_are_told.Goals as goal
 
 pub returns : goal.returns

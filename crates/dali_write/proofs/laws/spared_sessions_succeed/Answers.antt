@@ -1,6 +1,7 @@
 use Rattle.dali_write.specs.Worlds.{IsAmong}
 use Rattle.dali_write.proofs.RunLemmas.{spared_along, few_too}
-use Rattle.dali_write.proofs.SuccessLemmas.{fresh_succeeds, opened_succeeds, closing_succeeds, reading_succeeds}
+use Rattle.dali_write.proofs.OpenedSuccessLemmas.{opened_succeeds}
+use Rattle.dali_write.proofs.SuccessLemmas.{fresh_succeeds, closing_succeeds, reading_succeeds}
 use Rattle.dali_write.proofs.laws.spared_sessions_succeed.Goals as goal
 
 pub returns-clause-fresh : goal.returns-clause-fresh

@@ -1,0 +1,64 @@
+// What is told of a fault outside of any command.
+use dali_faults::{Fault, Status, write_fault};
+use dali_input::InputFault;
+use dali_text::{Escaped, Output};
+use std::io;
+use std::io::ErrorKind;
+
+// The system's number where the program may open no more files, and what is told behind its words then.
+const TOO_MANY_FILES: i32 = 24;
+
+const MORE_FILES: &str = ": raise the limit, as by ulimit -n 1024";
+
+// The status, after telling why the output can't be written, if that is so. Where nobody reads it any more, as in
+// `check FILE | head`, nothing is told.
+pub(crate) fn tell_cause(rt: &HostRuntime, status: Status, cause: Option<ErrorKind>) -> Status {
+    let _ = match cause {
+        None | Some(ErrorKind::BrokenPipe) => Ok(()),
+        Some(ErrorKind::Uncategorized) => eprintln!(rt; "error: the output can't be written"),
+        Some(cause) => eprintln!(rt; "error: the output can't be written: {cause}"),
+    };
+    status
+}
+
+// Where a fault is told that comes before its command runs: some have the link for their output.
+#[derive(Clone, Copy)]
+pub(crate) enum FaultStream {
+    Output,
+    Lines,
+}
+
+// Prints that a file can't be opened, why, and where too many are open what to do.
+pub(crate) fn unopened(rt: &HostRuntime, name: &str, cause: io::Error, stream: FaultStream) -> Status {
+    let name = Escaped::whole(name);
+    let advice = if cause.raw_os_error() == Some(TOO_MANY_FILES) {
+        MORE_FILES
+    } else {
+        ""
+    };
+    let _ = eprintln!(rt; "error: the input can't be opened or read: {name}: {cause}{advice}");
+    print_fault(rt, Fault::Input(InputFault::File), stream)
+}
+
+// Prints that memory ran out before any command ran.
+pub(crate) fn out_of_memory(rt: &HostRuntime, stream: FaultStream) -> Status {
+    let _ = eprintln!(rt; "error: memory ran out");
+    print_fault(rt, Fault::Input(InputFault::Memory), stream)
+}
+
+// Prints a fault that comes before any command runs.
+pub(crate) fn print_fault(rt: &HostRuntime, fault: Fault, stream: FaultStream) -> Status {
+    match stream {
+        FaultStream::Output => {
+            let mut output = Output::new(io::writer(rt));
+            match write_fault(&mut output, fault) {
+                Ok(()) => fault.status(),
+                Err(_) => tell_cause(rt, Status::Unwritten, output.cause()),
+            }
+        }
+        FaultStream::Lines => match write_fault(&mut Output::new(rt.stderr()), fault) {
+            Ok(()) => fault.status(),
+            Err(_) => Status::Unwritten,
+        },
+    }
+}

@@ -1,0 +1,59 @@
+// What is told of a wrong command line, in words for a person.
+use crate::fault_stream::{FaultStream, out_of_memory};
+use dali_faults::Status;
+use dali_text::Escaped;
+
+// What `clap` advises of an option that it doesn't know: another one, or how to give it as a value, which is of use for
+// a word of hexadecimal digits alone.
+const A_TIP: &str = "  tip: ";
+
+const AS_A_VALUE: &str = "  tip: to pass '";
+
+// What is told behind a wrong moment.
+const A_MOMENT: &str =
+    "A moment is a whole number from 0 to 18446744073709551615, as the clock's seconds: --moment $(date +%s)";
+
+// Prints what `clap` says of a wrong command line, in which it repeats words of that.
+pub(crate) fn refused(rt: &HostRuntime, words: &[&str], error: &clap::Error, stream: FaultStream) -> Status {
+    let Ok(text) = format!(in rt.alloc(); "{error}") else {
+        return out_of_memory(rt, stream);
+    };
+    for line in text.as_str().lines() {
+        if !line.starts_with(AS_A_VALUE) || takes_digits(words) {
+            let line = Escaped::whole(line);
+            let _ = eprintln!(rt; "{line}");
+        }
+        if line.starts_with(A_TIP) && !takes_digits(words) {
+            tell_help(rt, words);
+        }
+    }
+    if text.as_str().contains("'--moment <M>'") || has_signed_moment(words) {
+        let _ = eprintln!(rt; "{A_MOMENT}");
+    }
+    Status::Refused
+}
+
+// Whether the words are those of `frame`, with hexadecimal digits behind a minus.
+fn takes_digits(words: &[&str]) -> bool {
+    words.len() == 3 && words[1] == "frame" && !words[2].starts_with("--")
+}
+
+// Prints where it stands what the command takes.
+fn tell_help(rt: &HostRuntime, words: &[&str]) {
+    if words.len() > 1 {
+        let command = Escaped::whole(words[1]);
+        let _ = eprintln!(rt; "  tip: dali_bench {command} --help tells what it takes");
+    }
+}
+
+// Whether a moment was given with a minus before it, which `clap` takes for an option.
+fn has_signed_moment(words: &[&str]) -> bool {
+    let mut is_moment = false;
+    for word in words {
+        if is_moment && word.starts_with("-") && *word != "--" {
+            return true;
+        }
+        is_moment = *word == "--moment";
+    }
+    false
+}

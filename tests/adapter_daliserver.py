@@ -11,7 +11,7 @@ import threading
 import time
 
 from adapter_desk import ADAPTERS, player, run, shown_frames, want_link_without_frames, want_named_descriptors
-from drive_desk import want
+from base import want
 from driven import load
 
 DALISERVER = ADAPTERS / "daliserver_link.py"

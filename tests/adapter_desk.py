@@ -10,7 +10,7 @@ import sys
 import tempfile
 import traceback
 
-from drive_desk import want
+from base import want
 from driven import ROOT
 
 ADAPTERS = ROOT / "adapters"

@@ -16,7 +16,7 @@ import time
 import tty
 
 from adapter_desk import ADAPTERS, player, run, shown_frames, want_link_without_frames, want_named_descriptors
-from drive_desk import want
+from base import want
 from driven import ROOT
 
 SERIAL = ADAPTERS / "serial_link.py"

@@ -7,7 +7,8 @@ import resource
 import signal
 
 import driven
-from drive_desk import desk_of, settings, want
+from base import BenchTest, settings, want
+from drive_desk import desk_of
 from drive_report import UNTOLD, blank_bus, reporting
 from drive_units import BLANK
 from driven import Desk, groups_of, judge, kept_lines
@@ -33,7 +34,7 @@ def bus_of(chance):
 
 
 def whole_lines(path):
-    """Give the values of a report's whole lines, each of which has to be JSON, and raise where any else stands there."""
+    """Give the values of a report's whole lines, which have to be JSON, and raise where any else stands there."""
     text = path.read_text() if path.exists() else ""
     lines = text.splitlines(keepends=True)
     assert all(line.endswith("\n") for line in lines[:-1]), text
@@ -69,57 +70,6 @@ def drive_and_kill(desk, bus, chance, path):
     raise AssertionError("it never came to its end")
 
 
-def test_two_buses_that_are_killed_with_a_report_each(folder):
-    def drive(seed):
-        chance = random.Random(seed)
-        room = folder / str(seed)
-        room.mkdir()
-        orders, bus = orders_of(chance), bus_of(chance)
-        desk = Desk(settings["program"], room, orders)
-        path = reporting(desk)
-        kills, ended = drive_and_kill(desk, bus, chance, path)
-        assert kills > 3, kills
-        want((ended.status, set(kept_lines(desk.held())) <= set(ended.told.splitlines())), (0, True))
-        judge_all(desk, bus, orders)
-        last = [line for line in whole_lines(path) if line.get("reply")][-COUNT:]
-        want([line["order"] for line in last], [it["order"] for it in orders])
-        return desk.held()
-
-    with concurrent.futures.ThreadPoolExecutor(2) as pool:
-        first, second = pool.map(drive, SEEDS)
-    assert first != second
-
-
-def test_a_second_drive_on_a_journal_changes_nothing(folder):
-    chance = random.Random(SEEDS[0])
-    orders, bus = orders_of(chance)[:6], blank_bus(*UNITS)
-    desk, other = desk_of(folder, orders), desk_of(folder, orders)
-    path, others = reporting(desk), folder / "another_report"
-    other.options = ["--report", others]
-    refused = f"error: the journal is in use by another drive: {other.journal}\nfault 21 File\n"
-    tries = 0
-
-    class Disturbed(driven.simulated_link.Bus):
-        """A bus beside which a second drive starts, at every 40th frame."""
-
-        def carry(self, word):
-            nonlocal tries
-            if self.frames % 40 == 7:
-                held = desk.held()
-                ended = other.give(b"--\n" * 20)
-                want(ended, (2, b"", refused))
-                want((desk.held(), whole_lines(others)), (held, []))
-                tries += 1
-            return super().carry(word)
-
-    disturbed = Disturbed(bus.units)
-    ended = desk.over(disturbed)
-    want(ended.status, 0)
-    judge_all(desk, disturbed, orders)
-    want([line["order"] for line in whole_lines(path)], [it["order"] for it in orders])
-    assert tries > 3, tries
-
-
 def small_files():
     """Limit the length of files, as a full disk does, in the child that is to be the program."""
     signal.signal(signal.SIGXFSZ, signal.SIG_IGN)
@@ -134,32 +84,83 @@ class Small(Desk):
         return super().start(environment, preexec_fn=small_files, **options)
 
 
-def test_a_report_for_which_the_disk_is_full(folder):
-    """The report has no room for all its lines; the journal has, or the drive breaks off."""
-    for count in (20, COUNT):
-        chance = random.Random(SEEDS[1])
-        room = folder / str(count)
-        room.mkdir()
-        orders, bus = orders_of(chance)[:count], bus_of(chance)
-        desk = Small(settings["program"], room, orders)
-        path = reporting(desk)
-        ended = drive_and_kill(desk, bus, chance, path)[1]
-        has_room = count == 20
-        last = UNTOLD.format(path, FULL)
-        want((count, ended.status, ended.told.endswith(last)), (count, 2, True))
-        want("drive fault 1 Journal" in ended.told, not has_room)
-        assert 0 < path.stat().st_size <= MOST_IN_A_FILE, path.stat()
-        if not has_room:
+class BusesTest(BenchTest):
+    """Several drives, each with its report."""
+
+    def test_two_buses_that_are_killed_with_a_report_each(self):
+        def drive(seed):
+            chance = random.Random(seed)
+            room = self.folder / str(seed)
+            room.mkdir()
+            orders, bus = orders_of(chance), bus_of(chance)
             desk = Desk(settings["program"], room, orders)
-            want(desk.over(bus).status, 0)
+            path = reporting(desk)
+            kills, ended = drive_and_kill(desk, bus, chance, path)
+            assert kills > 3, kills
+            self.assertEqual((ended.status, set(kept_lines(desk.held())) <= set(ended.told.splitlines())), (0, True))
+            judge_all(desk, bus, orders)
+            last = [line for line in whole_lines(path) if line.get("reply")][-COUNT:]
+            self.assertEqual([line["order"] for line in last], [it["order"] for it in orders])
+            return desk.held()
+
+        with concurrent.futures.ThreadPoolExecutor(2) as pool:
+            first, second = pool.map(drive, SEEDS)
+        assert first != second
+
+    def test_a_second_drive_on_a_journal_changes_nothing(self):
+        chance = random.Random(SEEDS[0])
+        orders, bus = orders_of(chance)[:6], blank_bus(*UNITS)
+        desk, other = desk_of(self.folder, orders), desk_of(self.folder, orders)
+        path, others = reporting(desk), self.folder / "another_report"
+        other.options = ["--report", others]
+        refused = f"error: the journal is in use by another drive: {other.journal}\nfault 21 File\n"
+        tries = 0
+
+        class Disturbed(driven.simulated_link.Bus):
+            """A bus beside which a second drive starts, at every 40th frame."""
+
+            def carry(self, word):
+                nonlocal tries
+                if self.frames % 40 == 7:
+                    held = desk.held()
+                    ended = other.give(b"--\n" * 20)
+                    want(ended, (2, b"", refused))
+                    want((desk.held(), whole_lines(others)), (held, []))
+                    tries += 1
+                return super().carry(word)
+
+        disturbed = Disturbed(bus.units)
+        ended = desk.over(disturbed)
+        self.assertEqual(ended.status, 0)
+        judge_all(desk, disturbed, orders)
+        self.assertEqual([line["order"] for line in whole_lines(path)], [it["order"] for it in orders])
+        assert tries > 3, tries
+
+    def test_a_report_for_which_the_disk_is_full(self):
+        """The report has no room for all its lines; the journal has, or the drive breaks off."""
+        for count in (20, COUNT):
+            chance = random.Random(SEEDS[1])
+            room = self.folder / str(count)
+            room.mkdir()
+            orders, bus = orders_of(chance)[:count], bus_of(chance)
+            desk = Small(settings["program"], room, orders)
+            path = reporting(desk)
+            ended = drive_and_kill(desk, bus, chance, path)[1]
+            has_room = count == 20
+            last = UNTOLD.format(path, FULL)
+            self.assertEqual((count, ended.status, ended.told.endswith(last)), (count, 2, True))
+            self.assertEqual("drive fault 1 Journal" in ended.told, not has_room)
+            assert 0 < path.stat().st_size <= MOST_IN_A_FILE, path.stat()
+            if not has_room:
+                desk = Desk(settings["program"], room, orders)
+                self.assertEqual(desk.over(bus).status, 0)
+            judge_all(desk, bus, orders)
+
+    def test_a_report_on_a_device_that_is_full(self):
+        chance = random.Random(SEEDS[0])
+        orders, bus = orders_of(chance), bus_of(chance)
+        desk = desk_of(self.folder, orders)
+        desk.options = ["--report", "/dev/full"]
+        ended = drive_and_kill(desk, bus, chance, self.folder / "none")[1]
+        self.assertEqual((ended.status, ended.told.endswith(UNTOLD.format("/dev/full", "no storage space"))), (2, True))
         judge_all(desk, bus, orders)
-
-
-def test_a_report_on_a_device_that_is_full(folder):
-    chance = random.Random(SEEDS[0])
-    orders, bus = orders_of(chance), bus_of(chance)
-    desk = desk_of(folder, orders)
-    desk.options = ["--report", "/dev/full"]
-    ended = drive_and_kill(desk, bus, chance, folder / "none")[1]
-    want((ended.status, ended.told.endswith(UNTOLD.format("/dev/full", "no storage space"))), (2, True))
-    judge_all(desk, bus, orders)

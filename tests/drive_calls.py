@@ -2,7 +2,9 @@
 
 import errno
 import signal
+from functools import partialmethod
 
+from base import BenchTest, preloaded, want
 from drive_desk import (
     ABSENT,
     ABSENT_BEGAN,
@@ -16,10 +18,7 @@ from drive_desk import (
     goes_on,
     last_line,
     new_of,
-    parts,
     put_journal,
-    settings,
-    want,
 )
 from drive_units import BLANK, CHANGED_BY_KILLS, DOUBTFUL, LOSSY, SCENES, Scene, finish
 from driven import groups_of, judge, kept_lines, records_of
@@ -44,7 +43,7 @@ class Call:
 
 def shim(desk, act=None, log=None):
     """Give the variables that preload the shim."""
-    variables = {"LD_PRELOAD": settings["shims"] / "drive_shim.so", "DRIVE_SHIM_ORDERS": desk.orders,
+    variables = {"LD_PRELOAD": preloaded("drive_shim"), "DRIVE_SHIM_ORDERS": desk.orders,
                  "DRIVE_SHIM_JOURNAL": desk.journal, "DRIVE_SHIM_ACT": act, "DRIVE_SHIM_LOG": log}
     return {name: str(value) for name, value in variables.items() if value is not None}
 
@@ -109,33 +108,34 @@ def check_ground(line, written):
     assert last.may_leave_enabled() or last.code is None and not may_write, (line, last)
 
 
-def test_records_are_synced_before_frames(folder):
-    for name, scene in [("gtin", Scene(PRESENT, [(5, BLANK, ())], {})), ("lossy", LOSSY), ("doubtful", DOUBTFUL)]:
-        (folder / name).mkdir()
-        desk, bus = desk_of(folder / name, scene.orders), scene.bus()
-        calls, ended = calls_of(desk, lambda variables: desk.over(bus, environment=variables))
-        want(ended.status, 0)
-        check_order(calls, desk.held())
-        want(ended.told.count(" kept "), len(scene.orders))
+class CallsTest(BenchTest):
+    """The order in which the calls are made."""
 
+    def test_records_are_synced_before_frames(self):
+        for name, scene in [("gtin", Scene(PRESENT, [(5, BLANK, ())], {})), ("lossy", LOSSY), ("doubtful", DOUBTFUL)]:
+            (self.folder / name).mkdir()
+            desk, bus = desk_of(self.folder / name, scene.orders), scene.bus()
+            calls, ended = calls_of(desk, lambda variables: desk.over(bus, environment=variables))
+            self.assertEqual(ended.status, 0)
+            check_order(calls, desk.held())
+            self.assertEqual(ended.told.count(" kept "), len(scene.orders))
 
-def test_a_cut_is_synced_before_frames(folder):
-    for start in (ABSENT_BEGAN + b"E", ABSENT_BEGAN[:14]):
-        desk = desk_of(folder, ABSENT, start)
+    def test_a_cut_is_synced_before_frames(self):
+        for start in (ABSENT_BEGAN + b"E", ABSENT_BEGAN[:14]):
+            desk = desk_of(self.folder, ABSENT, start)
+            calls, _ = calls_of(desk, lambda variables: desk.give(SILENCE, variables))
+            check_order(calls, ABSENT_JOURNAL, start)
+            kinds = [call.kind for call in calls if call.target == "journal"]
+            assert "sync" in kinds[kinds.index("cut"):kinds.index("write")], kinds
+
+    def test_what_was_loaded_is_synced_before_frames(self):
+        desk = desk_of(self.folder, ABSENT, ABSENT_BEGAN)
         calls, _ = calls_of(desk, lambda variables: desk.give(SILENCE, variables))
-        check_order(calls, ABSENT_JOURNAL, start)
-        kinds = [call.kind for call in calls if call.target == "journal"]
-        assert "sync" in kinds[kinds.index("cut"):kinds.index("write")], kinds
-
-
-def test_what_was_loaded_is_synced_before_frames(folder):
-    desk = desk_of(folder, ABSENT, ABSENT_BEGAN)
-    calls, _ = calls_of(desk, lambda variables: desk.give(SILENCE, variables))
-    first = next(place for place, call in enumerate(calls) if (call.kind, call.target) == ("write", "out"))
-    for target in ("journal", "folder"):
-        assert any((call.kind, call.target) == ("sync", target) for call in calls[:first]), calls[:first]
-    assert not any(call.target == "new" for call in calls), calls
-    check_order(calls, ABSENT_JOURNAL, ABSENT_BEGAN)
+        first = next(place for place, call in enumerate(calls) if (call.kind, call.target) == ("write", "out"))
+        for target in ("journal", "folder"):
+            assert any((call.kind, call.target) == ("sync", target) for call in calls[:first]), calls[:first]
+        assert not any(call.target == "new" for call in calls), calls
+        check_order(calls, ABSENT_JOURNAL, ABSENT_BEGAN)
 
 
 def faults_of(call):
@@ -187,45 +187,6 @@ def each_call_spoiled(folder, effect, value):
             yield desk, call, desk.give(SILENCE, shim(desk, call.act(effect, value)))
 
 
-@parts(2)
-def test_each_call_failing(folder, part, _):
-    for desk, call, ended in each_call_spoiled(folder, "fail", (errno.EIO, errno.ENOSPC)[part]):
-        status, sent, line = last_line(ended)
-        assert status == 2 and line in faults_of(call), (call, ended)
-        check_named(desk, call, ended)
-        assert ABSENT_FRAMES.startswith(sent), (call, sent)
-        assert sent == b"" or call.target in ("in", "out", "err") or call.is_of_record, (call, sent)
-        assert not desk.journal.exists() or records_of(desk.held()), call
-        goes_on(desk)
-
-
-def test_interrupted_calls_change_nothing(folder):
-    for desk, call, ended in each_call_spoiled(folder, "fail", errno.EINTR):
-        want((call, ended.status, ended.sent), (call, 0, ABSENT_FRAMES))
-        want(desk.held(), ABSENT_JOURNAL)
-
-
-def test_short_calls_change_nothing(folder):
-    for desk, call, ended in each_call_spoiled(folder, "short", 0):
-        want((call, ended.status, ended.sent), (call, 0, ABSENT_FRAMES))
-        want(desk.held(), ABSENT_JOURNAL)
-    for kind, target in [("write", "journal"), ("write", "new"), ("write", "out"), ("write", "err"), ("write", "any"),
-                         ("read", "any")]:
-        for start in (b"", ABSENT_BEGAN + b"E", OLD_ABSENT_BEGAN + b"E"):
-            desk = desk_of(folder, ABSENT, start)
-            ended = desk.give(SILENCE, shim(desk, f"{kind} {target} 0 short"))
-            want((kind, target, ended.status, ended.sent), (kind, target, 0, ABSENT_FRAMES))
-            want(desk.held(), ABSENT_JOURNAL)
-
-
-@parts(2)
-def test_kills_at_each_call(folder, part, _):
-    for desk, call, ended in each_call_spoiled(folder, ("kill", "killed")[part], 0):
-        want((call, ended.status), (call, -signal.SIGKILL))
-        assert ABSENT_FRAMES.startswith(ended.sent), (call, ended)
-        goes_on(desk)
-
-
 def acts_on(calls):
     """Give the acts that kill before, after and in the midst of each call on the journal's files and of each reply."""
     for call in calls:
@@ -261,19 +222,12 @@ def kill_at_each(desk, name, acts):
             raise AssertionError(f"{name}, with the act {act}") from fault
 
 
-@parts(4)
-def test_kills_at_each_record_and_reply(folder, part, count):
-    for name, scene in SCENES.items():
-        desk = desk_of(folder, scene.orders)
-        kill_at_each(desk, name, acts_of(desk, scene)[part::count * min(scene.step, 7)])
-
-
 def refuse_each_allocation(desk, start, numbers):
     """Run the absent unit with one of its allocations refused, each in turn; tell how many ended as want of memory."""
     ran_out = 0
     for number in numbers:
         put_journal(desk, start)
-        preload = {"LD_PRELOAD": str(settings["shims"] / "refuse_alloc.so"), "REFUSED_ALLOCATION": str(number)}
+        preload = {"LD_PRELOAD": str(preloaded("refuse_alloc")), "REFUSED_ALLOCATION": str(number)}
         ended = desk.give(SILENCE, preload)
         told = ended.told.replace("an allocation was refused\n", "")
         if told == ended.told:
@@ -291,8 +245,64 @@ def refuse_each_allocation(desk, start, numbers):
     return ran_out
 
 
-@parts(4)
-def test_each_allocation_refused(folder, part, _):
-    start = (b"", OLD_ABSENT_BEGAN)[part // 2]
-    ran_out = refuse_each_allocation(desk_of(folder, ABSENT), start, range(1 + part % 2, 100000, 2))
-    assert ran_out, "no refused allocation ended as want of memory"
+class SpoiledCallsTest(BenchTest):
+    """Calls that fail, are cut short, or are the last one."""
+
+    def each_call_failing(self, part):
+        for desk, call, ended in each_call_spoiled(self.folder, "fail", (errno.EIO, errno.ENOSPC)[part]):
+            status, sent, line = last_line(ended)
+            assert status == 2 and line in faults_of(call), (call, ended)
+            check_named(desk, call, ended)
+            assert ABSENT_FRAMES.startswith(sent), (call, sent)
+            assert sent == b"" or call.target in ("in", "out", "err") or call.is_of_record, (call, sent)
+            assert not desk.journal.exists() or records_of(desk.held()), call
+            goes_on(desk)
+
+    test_each_call_failing_part_1 = partialmethod(each_call_failing, 0)
+    test_each_call_failing_part_2 = partialmethod(each_call_failing, 1)
+
+    def test_interrupted_calls_change_nothing(self):
+        for desk, call, ended in each_call_spoiled(self.folder, "fail", errno.EINTR):
+            self.assertEqual((call, ended.status, ended.sent), (call, 0, ABSENT_FRAMES))
+            self.assertEqual(desk.held(), ABSENT_JOURNAL)
+
+    def test_short_calls_change_nothing(self):
+        for desk, call, ended in each_call_spoiled(self.folder, "short", 0):
+            self.assertEqual((call, ended.status, ended.sent), (call, 0, ABSENT_FRAMES))
+            self.assertEqual(desk.held(), ABSENT_JOURNAL)
+        for kind, target in [("write", "journal"), ("write", "new"), ("write", "out"), ("write", "err"),
+                             ("write", "any"), ("read", "any")]:
+            for start in (b"", ABSENT_BEGAN + b"E", OLD_ABSENT_BEGAN + b"E"):
+                desk = desk_of(self.folder, ABSENT, start)
+                ended = desk.give(SILENCE, shim(desk, f"{kind} {target} 0 short"))
+                self.assertEqual((kind, target, ended.status, ended.sent), (kind, target, 0, ABSENT_FRAMES))
+                self.assertEqual(desk.held(), ABSENT_JOURNAL)
+
+    def kills_at_each_call(self, part):
+        for desk, call, ended in each_call_spoiled(self.folder, ("kill", "killed")[part], 0):
+            self.assertEqual((call, ended.status), (call, -signal.SIGKILL))
+            assert ABSENT_FRAMES.startswith(ended.sent), (call, ended)
+            goes_on(desk)
+
+    test_kills_at_each_call_part_1 = partialmethod(kills_at_each_call, 0)
+    test_kills_at_each_call_part_2 = partialmethod(kills_at_each_call, 1)
+
+    def kills_at_each_record_and_reply(self, part, count):
+        for name, scene in SCENES.items():
+            desk = desk_of(self.folder, scene.orders)
+            kill_at_each(desk, name, acts_of(desk, scene)[part::count * min(scene.step, 7)])
+
+    test_kills_at_each_record_and_reply_part_1 = partialmethod(kills_at_each_record_and_reply, 0, 4)
+    test_kills_at_each_record_and_reply_part_2 = partialmethod(kills_at_each_record_and_reply, 1, 4)
+    test_kills_at_each_record_and_reply_part_3 = partialmethod(kills_at_each_record_and_reply, 2, 4)
+    test_kills_at_each_record_and_reply_part_4 = partialmethod(kills_at_each_record_and_reply, 3, 4)
+
+    def each_allocation_refused(self, part):
+        start = (b"", OLD_ABSENT_BEGAN)[part // 2]
+        ran_out = refuse_each_allocation(desk_of(self.folder, ABSENT), start, range(1 + part % 2, 100000, 2))
+        assert ran_out, "no refused allocation ended as want of memory"
+
+    test_each_allocation_refused_part_1 = partialmethod(each_allocation_refused, 0)
+    test_each_allocation_refused_part_2 = partialmethod(each_allocation_refused, 1)
+    test_each_allocation_refused_part_3 = partialmethod(each_allocation_refused, 2)
+    test_each_allocation_refused_part_4 = partialmethod(each_allocation_refused, 3)

@@ -1,5 +1,6 @@
-"""What the tests of `drive` share: its worked example, a unit that isn't there, and how a test is judged."""
+"""What the tests of `drive` share: its worked example, a unit that isn't there, and how a run is judged."""
 
+from base import settings, want
 from driven import HEADER, Desk
 
 GTIN = "4006381333931"
@@ -25,8 +26,6 @@ FAULT_21 = (2, b"", "fault 21 File")
 OUT_LINES = ("drive fault 7 Out", "reply 1 taken", "reply 1 kept 3 Silent", "")
 NOBODY = 65534
 
-settings = {}
-
 
 class Skipped(Exception):
     """This can't be tested here."""
@@ -40,11 +39,6 @@ def parts(count):
         return test
 
     return mark
-
-
-def want(found, wanted):
-    """Raise unless both are equal."""
-    assert found == wanted, f"found {found!r}, wanted {wanted!r}"
 
 
 def desk_of(folder, orders, journal=None):

@@ -1,12 +1,12 @@
-"""Tests of the short plan: its frames, losses, units that don't do as asked, and drives that are killed and go on by the
-other plan."""
+"""Tests of the short plan: its frames, losses, units that don't do as asked, and kills behind which the plan turns."""
 
 import json
 import signal
 import subprocess
+from functools import partialmethod
 
-import driven
-from drive_desk import DONE_JOURNAL, DONE_TOLD, GTIN, GTIN_BYTES, PRESENT, desk_of, parts, settings, want
+from base import BenchTest, settings
+from drive_desk import DONE_JOURNAL, DONE_TOLD, GTIN, GTIN_BYTES, PRESENT, desk_of
 from drive_units import ALL_FIELDS, BLANK, DOUBTFUL, LEFT, LOSSY, SCENES, bank_of, finish
 from driven import Desk, judge, simulated_link
 
@@ -58,46 +58,6 @@ def frames_of(lines):
     return next(int(line[6:]) for line in lines if line.startswith("total "))
 
 
-def test_frames_of_both_plans(folder):
-    for order, checked, short in COUNTS:
-        desk = desk_of(folder, [order], b"")
-        for options, frames in ([], checked), (["--short-plan"], short):
-            desk.options, bus = options, simulated_link.Bus([simulated_link.Unit(5)])
-            desk.journal.write_bytes(b"")
-            want((desk.over(bus).told, bus.frames), (DONE_TOLD, frames))
-            judge(bus, {5: BLANK}, desk.held())
-        want([frames_of(played(order, plan)) for plan in ("checked", "short")], [checked, short])
-
-
-def test_what_the_short_plan_writes(folder):
-    desk, bus = short_desk(folder, PRESENT), simulated_link.Bus([simulated_link.Unit(5)])
-    desk.over(bus)
-    want((bytes(bus.units[0].banks[1]), desk.held()), (BLANK[:3] + GTIN_BYTES + BLANK[9:], DONE_JOURNAL))
-
-
-@parts(4)
-def test_each_frame_and_answer_lost(folder, part, count):
-    for order, _, short in COUNTS[::4]:
-        done = [line for line in played(order) if line.startswith("bank ")]
-        for frame in range(part, short, count):
-            for loss in {"lost": [5]}, {"answer_lost": True}:
-                lines = played(order, fates=[{"times": frame}] * (frame > 0) + [loss])
-                assert DONE in lines and done == [line for line in lines if line.startswith("bank ")], (frame, loss)
-                assert short <= frames_of(lines) <= short + MOST_OF_A_MISS, (frame, loss, frames_of(lines))
-
-
-def test_power_lost_behind_each_step(folder):
-    codes = set()
-    for steps in range(1, 67):
-        lines = played(PRESENT[0], events=[{"submit": PRESENT[0]}, {"steps": steps}, {"power": 5}, {"steps": 2000}])
-        code = next(line for line in lines if line.startswith("reply 1 kept"))
-        bank = next(line for line in lines if line.startswith("bank 5 00"))
-        assert any(line.startswith("unit 5 ") and line.endswith("enabled no") for line in lines), (steps, lines)
-        assert code != DONE or bank.startswith("bank 5 00 77FFFF03A4CEEFADAB"), (steps, bank)
-        codes.add(code)
-    want(codes, {DONE, "reply 1 kept 4 Doubt"})
-
-
 # An order, its unit's bank and fixed locations, what befalls, and the code that it ends with by either plan.
 UNSUITED = [
     (PRESENT[0], BLANK, [5], [], "4 Doubt"),
@@ -105,13 +65,6 @@ UNSUITED = [
     (YEAR, bank_of(0x78, x12=0x04), [], [], "2 Format"),
     (PRESENT[0], BLANK, [], [{"times": 30}, {"times": 8, "refuse": True}], "0 Done"),
 ]
-
-
-def test_units_that_do_not_suit(folder):
-    for order, bank, fixed, fates, code in UNSUITED:
-        for plan in "checked", "short":
-            lines = played(order, plan, bank, fixed, fates)
-            want((plan, [line for line in lines if " kept " in line]), (plan, [f"reply 1 kept {code}"]))
 
 
 class Forgetful(simulated_link.Unit):
@@ -122,20 +75,6 @@ class Forgetful(simulated_link.Unit):
         is_stored = super()._write(byte, refusing)
         self.is_enabled = False
         return is_stored
-
-
-def test_a_unit_that_drops_write_enable(folder):
-    # Each of the seven writes behind the first one takes seven frames more: the try that misses has five.
-    desk, bus = short_desk(folder, PRESENT), simulated_link.Bus([Forgetful(5)])
-    want((desk.over(bus).told, bus.frames), (DONE_TOLD, 62 + 7 * 7))
-    judge(bus, {5: BLANK}, desk.held())
-
-
-def test_scenes_by_the_short_plan(folder):
-    for name, scene in SCENES.items():
-        (folder / name).mkdir()
-        finish(short_desk(folder / name, scene.orders), scene, scene.bus(),
-               scene.codes if scene in (LOSSY, DOUBTFUL, ALL_FIELDS) else None)
 
 
 def turned_run(folder, scene, stops):
@@ -149,10 +88,76 @@ def turned_run(folder, scene, stops):
     finish(desk, scene, bus)
 
 
-@parts(4)
-def test_kills_with_the_plan_turned(folder, part, count):
-    for scene in LOSSY, LEFT:
-        total = len(desk_of(folder, scene.orders, b"").over(scene.bus()).sent) // 5
-        for frame in range(1 + part, total + 1, count):
-            moment = ("sent", "carried")[frame % 2]
-            turned_run(folder, scene, [(frame, moment), (1 + frame % 23, "sent"), (1 + frame % 7, "carried")])
+class PlansTest(BenchTest):
+    """What the short plan sends and writes, beside the checked one."""
+
+    def test_frames_of_both_plans(self):
+        for order, checked, short in COUNTS:
+            desk = desk_of(self.folder, [order], b"")
+            for options, frames in ([], checked), (["--short-plan"], short):
+                desk.options, bus = options, simulated_link.Bus([simulated_link.Unit(5)])
+                desk.journal.write_bytes(b"")
+                self.assertEqual((desk.over(bus).told, bus.frames), (DONE_TOLD, frames))
+                judge(bus, {5: BLANK}, desk.held())
+            self.assertEqual([frames_of(played(order, plan)) for plan in ("checked", "short")], [checked, short])
+
+    def test_what_the_short_plan_writes(self):
+        desk, bus = short_desk(self.folder, PRESENT), simulated_link.Bus([simulated_link.Unit(5)])
+        desk.over(bus)
+        self.assertEqual((bytes(bus.units[0].banks[1]), desk.held()),
+                         (BLANK[:3] + GTIN_BYTES + BLANK[9:], DONE_JOURNAL))
+
+    def each_frame_and_answer_lost(self, part, count):
+        for order, _, short in COUNTS[::4]:
+            done = [line for line in played(order) if line.startswith("bank ")]
+            for frame in range(part, short, count):
+                for loss in {"lost": [5]}, {"answer_lost": True}:
+                    lines = played(order, fates=[{"times": frame}] * (frame > 0) + [loss])
+                    assert DONE in lines and done == [line for line in lines if line.startswith("bank ")], (frame, loss)
+                    assert short <= frames_of(lines) <= short + MOST_OF_A_MISS, (frame, loss, frames_of(lines))
+
+    test_each_frame_and_answer_lost_part_1 = partialmethod(each_frame_and_answer_lost, 0, 4)
+    test_each_frame_and_answer_lost_part_2 = partialmethod(each_frame_and_answer_lost, 1, 4)
+    test_each_frame_and_answer_lost_part_3 = partialmethod(each_frame_and_answer_lost, 2, 4)
+    test_each_frame_and_answer_lost_part_4 = partialmethod(each_frame_and_answer_lost, 3, 4)
+
+    def test_power_lost_behind_each_step(self):
+        codes = set()
+        for steps in range(1, 67):
+            lines = played(PRESENT[0], events=[{"submit": PRESENT[0]}, {"steps": steps}, {"power": 5}, {"steps": 2000}])
+            code = next(line for line in lines if line.startswith("reply 1 kept"))
+            bank = next(line for line in lines if line.startswith("bank 5 00"))
+            assert any(line.startswith("unit 5 ") and line.endswith("enabled no") for line in lines), (steps, lines)
+            assert code != DONE or bank.startswith("bank 5 00 77FFFF03A4CEEFADAB"), (steps, bank)
+            codes.add(code)
+        self.assertEqual(codes, {DONE, "reply 1 kept 4 Doubt"})
+
+    def test_units_that_do_not_suit(self):
+        for order, bank, fixed, fates, code in UNSUITED:
+            for plan in "checked", "short":
+                lines = played(order, plan, bank, fixed, fates)
+                self.assertEqual((plan, [line for line in lines if " kept " in line]), (plan, [f"reply 1 kept {code}"]))
+
+    def test_a_unit_that_drops_write_enable(self):
+        # Each of the seven writes behind the first one takes seven frames more: the try that misses has five.
+        desk, bus = short_desk(self.folder, PRESENT), simulated_link.Bus([Forgetful(5)])
+        self.assertEqual((desk.over(bus).told, bus.frames), (DONE_TOLD, 62 + 7 * 7))
+        judge(bus, {5: BLANK}, desk.held())
+
+    def test_scenes_by_the_short_plan(self):
+        for name, scene in SCENES.items():
+            (self.folder / name).mkdir()
+            finish(short_desk(self.folder / name, scene.orders), scene, scene.bus(),
+                   scene.codes if scene in (LOSSY, DOUBTFUL, ALL_FIELDS) else None)
+
+    def kills_with_the_plan_turned(self, part, count):
+        for scene in LOSSY, LEFT:
+            total = len(desk_of(self.folder, scene.orders, b"").over(scene.bus()).sent) // 5
+            for frame in range(1 + part, total + 1, count):
+                moment = ("sent", "carried")[frame % 2]
+                turned_run(self.folder, scene, [(frame, moment), (1 + frame % 23, "sent"), (1 + frame % 7, "carried")])
+
+    test_kills_with_the_plan_turned_part_1 = partialmethod(kills_with_the_plan_turned, 0, 4)
+    test_kills_with_the_plan_turned_part_2 = partialmethod(kills_with_the_plan_turned, 1, 4)
+    test_kills_with_the_plan_turned_part_3 = partialmethod(kills_with_the_plan_turned, 2, 4)
+    test_kills_with_the_plan_turned_part_4 = partialmethod(kills_with_the_plan_turned, 3, 4)

@@ -1,10 +1,11 @@
-"""Tests of the file of `--report`: what it may hold, how it grows run by run, and what becomes of a line that is torn."""
+"""Tests of the file of `--report`: what it may hold, how it grows run by run, and what becomes of a torn line."""
 
 import fcntl
 import json
 import os
 import resource
 
+from base import BenchTest
 from drive_desk import (
     ABSENT,
     ABSENT_BEGAN,
@@ -16,10 +17,9 @@ from drive_desk import (
     absent_records,
     desk_of,
     last_line,
-    want,
 )
 from drive_report import DONE, UNTOLD, Verifying, blank_bus, kept, lines_of, reporting, text_of
-from driven import HEADER, Desk, Ended, Following, line_from
+from driven import HEADER, Ended, Following, line_from
 
 FOREIGN = "what is there is no report"
 TAKEN = "the command has this file for something else"
@@ -34,73 +34,6 @@ EARLIER_FOUND = {key: FOUND[key] for key in FOUND if key != "differs"}
 EARLIER_LAST = {key: LAST[key] for key in LAST if key != "cause"}
 
 
-def test_runs_are_counted(folder):
-    desk = desk_of(folder, PRESENT)
-    desk.journal.unlink(missing_ok=True)
-    path = reporting(desk)
-    bus = blank_bus(5)
-    wanted = []
-    commands = [desk, desk, Verifying(desk.program, folder, PRESENT)]
-    for command in commands:
-        command.options = desk.options
-        want(command.over(bus).status, 0)
-    wanted = [{**kept(1, 5, 0, "now", 112, 0), "run": 1}, {**BEFORE, "run": 2}, FOUND]
-    want(path.read_text(), text_of(*wanted))
-    # A command that has nothing to tell is no run.
-    desk.write_orders([])
-    want((desk.over(bus).status, path.read_text()), (0, text_of(*wanted)))
-    stream = Following(desk.program, folder, PRESENT + PRESENT)
-    stream.options = desk.options
-    want(stream.over(bus).status, 0)
-    want(path.read_text(), text_of(*wanted, {**BEFORE, "run": 4}, {**BEFORE, "run": 4}))
-    # There is none behind the last count.
-    path.write_text(text_of({**LAST, "run": 2 ** 64 - 2}))
-    desk.write_orders(PRESENT)
-    for _ in range(2):
-        want(desk.over(bus).status, 0)
-    want([json.loads(line)["run"] for line in path.read_text().splitlines()], [2 ** 64 - 2, 2 ** 64 - 1, 2 ** 64 - 1])
-
-
-def test_a_report_of_an_earlier_version(folder):
-    desk = desk_of(folder, PRESENT, DONE_JOURNAL)
-    path = reporting(desk)
-    earlier = text_of(*({key: line[key] for key in line if key != "run"}
-                        for line in (EARLIER_LAST, END, EARLIER_FOUND)))
-    path.write_text(earlier)
-    for runs in ([1], [1, 2]):
-        want(desk.over(blank_bus(5)).status, 0)
-        want(path.read_text(), earlier + text_of(*({**BEFORE, "run": run} for run in runs)))
-    # One that has a run already, and no fields.
-    path.write_text(earlier + text_of(EARLIER_FOUND))
-    want(desk.over(blank_bus(5)).status, 0)
-    want(path.read_text(), earlier + text_of(EARLIER_FOUND, {**BEFORE, "run": 4}))
-
-
-def test_a_line_is_torn_at_each_byte(folder):
-    desk = desk_of(folder, PRESENT, DONE_JOURNAL)
-    path = reporting(desk)
-    before = text_of({**LAST, "run": 6})
-    for line in (LAST, END, FOUND):
-        torn = text_of({**line, "run": 7})
-        for count in range(1, len(torn)):
-            path.write_text(before + torn[:count])
-            # A line of which just the line feed is missing is a whole one.
-            run = 8 if count == len(torn) - 1 else 7
-            wanted = before + torn[:count] + "\n" + text_of({**BEFORE, "run": run})
-            want((count, desk.give(b"").status, path.read_text()), (count, 0, wanted))
-        want((desk.give(b"").status, path.read_text()), (0, wanted + text_of({**BEFORE, "run": 9})))
-
-
-def test_a_torn_line_in_the_middle(folder):
-    desk = desk_of(folder, PRESENT, DONE_JOURNAL)
-    path = reporting(desk)
-    held = text_of(LAST) + text_of(LAST)[:50] + "\n"
-    for text, run in [(held, 4), (held + text_of({**LAST, "run": 9}), 10), (held * 200, 4), ("{\n", 1), ("{", 1)]:
-        path.write_text(text)
-        want(desk.give(b"").status, 0)
-        want(path.read_text(), text.rstrip("\n") + "\n" + text_of({**BEFORE, "run": run}))
-
-
 def most_differences():
     """Give all fields, each with the longest texts that a unit may have and an order may want."""
     sizes = {"gtin": 6, "identification": 8, "year": 1, "week": 1, "input_power": 2, "min_dim_power": 2,
@@ -111,203 +44,270 @@ def most_differences():
     return [{"field": field, "has": text, "wants": text} for field, text in texts.items()]
 
 
-def test_the_longest_lines(folder):
-    desk = desk_of(folder, PRESENT, DONE_JOURNAL)
-    path = reporting(desk)
-    most = 2 ** 64 - 1
-    long = {"cause": {"byte": 255, "location": 0x77, "was": "other"}, "code": 255, "ended": "before", "frames": most, "misses": most, "moment": most, "name": "DoubtOpen",
-            "order": most, "reply": "kept 5 DoubtOpen", "run": 1, "unit": 63}
-    answer = {**END, "answer": "\\xFF" * 9, "name": "TooLong", "run": 1}
-    found = {"byte": 255, "differs": most_differences(), "found": "other", "location": 0x77, "order": most, "run": 1,
-             "unit": 63}
-    want(len(text_of({**found, "run": most})), 1277)
-    text = text_of(long, answer, found) * 500
-    path.write_text(text)
-    want((desk.give(b"").status, path.read_text()), (0, text + text_of({**BEFORE, "run": 2})))
+class ReportFilesTest(BenchTest):
+    """Reports of more than one run, and files that are none."""
 
-
-def test_a_full_disk_tears_a_line(folder):
-    for more in (0, 1, 60, len(text_of({**BEFORE, "run": 2})) - 1):
-        desk = desk_of(folder, PRESENT, DONE_JOURNAL)
+    def test_runs_are_counted(self):
+        desk = desk_of(self.folder, PRESENT)
+        desk.journal.unlink(missing_ok=True)
         path = reporting(desk)
-        held = text_of({**BEFORE, "run": 1})
-        path.write_text(held)
-        limit = len(held) + more
-
-        def limited(limit=limit):
-            resource.setrlimit(resource.RLIMIT_FSIZE, (limit, limit))
-
-        ended = desk.give(b"", preexec_fn=limited, restore_signals=False)
-        untold = f"error: the report can't be written: {path}: "
-        want((more, ended.status, ended.told[:len(DONE + untold)]), (more, 2, DONE + untold))
-        torn = held + text_of({**BEFORE, "run": 2})[:more]
-        want((more, path.read_text()), (more, torn))
-        ends = "\n" if more else ""
-        run = 3 if more > 100 else 2
-        want((more, desk.give(b"").status, path.read_text()), (more, 0, torn + ends + text_of({**BEFORE, "run": run})))
-
-
-def test_two_commands_over_one_report(folder):
-    for name in ("one", "other"):
-        (folder / name).mkdir()
-    first, second = desk_of(folder / "one", ABSENT), desk_of(folder / "other", PRESENT, DONE_JOURNAL)
-    first.options = second.options = ["--report", folder / "report"]
-    running = first.start()
-    try:
-        # Its first frame comes behind the opening of the report.
-        want(line_from(running.stdout), b"C301\n")
-        want(second.give(b""), Ended(2, b"", DONE + UNTOLD.format(folder / "report", IN_USE)))
-        running.communicate(SILENCE, 20)
-    finally:
-        running.kill()
-    want((running.returncode, lines_of(folder / "report")), (0, [kept(1, 9, 3, "now", 16, 8)]))
-    want((second.give(b"").status, lines_of(folder / "report", 2)), (0, [BEFORE]))
-
-
-def test_a_pipe_that_somebody_reads(folder):
-    desk = desk_of(folder, PRESENT, DONE_JOURNAL)
-    path = reporting(desk)
-    os.mkfifo(path)
-    reader = os.open(path, os.O_RDONLY | os.O_NONBLOCK)
-    try:
+        bus = blank_bus(5)
+        wanted = []
+        commands = [desk, desk, Verifying(desk.program, self.folder, PRESENT)]
+        for command in commands:
+            command.options = desk.options
+            self.assertEqual(command.over(bus).status, 0)
+        wanted = [{**kept(1, 5, 0, "now", 112, 0), "run": 1}, {**BEFORE, "run": 2}, FOUND]
+        self.assertEqual(path.read_text(), text_of(*wanted))
+        # A command that has nothing to tell is no run.
+        desk.write_orders([])
+        self.assertEqual((desk.over(bus).status, path.read_text()), (0, text_of(*wanted)))
+        stream = Following(desk.program, self.folder, PRESENT + PRESENT)
+        stream.options = desk.options
+        self.assertEqual(stream.over(bus).status, 0)
+        self.assertEqual(path.read_text(), text_of(*wanted, {**BEFORE, "run": 4}, {**BEFORE, "run": 4}))
+        # There is none behind the last count.
+        path.write_text(text_of({**LAST, "run": 2 ** 64 - 2}))
+        desk.write_orders(PRESENT)
         for _ in range(2):
-            want(desk.give(b""), Ended(0, b"", DONE))
-            want(os.read(reader, 4096).decode(), text_of({**BEFORE, "run": 1}))
-    finally:
-        os.close(reader)
+            self.assertEqual(desk.over(bus).status, 0)
+        self.assertEqual([json.loads(line)["run"] for line in path.read_text().splitlines()],
+                         [2 ** 64 - 2, 2 ** 64 - 1, 2 ** 64 - 1])
 
+    def test_a_report_of_an_earlier_version(self):
+        desk = desk_of(self.folder, PRESENT, DONE_JOURNAL)
+        path = reporting(desk)
+        earlier = text_of(*({key: line[key] for key in line if key != "run"}
+                            for line in (EARLIER_LAST, END, EARLIER_FOUND)))
+        path.write_text(earlier)
+        for runs in ([1], [1, 2]):
+            self.assertEqual(desk.over(blank_bus(5)).status, 0)
+            self.assertEqual(path.read_text(), earlier + text_of(*({**BEFORE, "run": run} for run in runs)))
+        # One that has a run already, and no fields.
+        path.write_text(earlier + text_of(EARLIER_FOUND))
+        self.assertEqual(desk.over(blank_bus(5)).status, 0)
+        self.assertEqual(path.read_text(), earlier + text_of(EARLIER_FOUND, {**BEFORE, "run": 4}))
 
-def test_a_pipe_that_nobody_reads(folder):
-    desk = desk_of(folder, PRESENT, DONE_JOURNAL)
-    path = reporting(desk)
-    os.mkfifo(path)
-    for command in (desk, Verifying(desk.program, folder, PRESENT)):
-        command.options = desk.options
-        ended = command.over(blank_bus(5))
-        untold = UNTOLD.format(path, "broken pipe")
-        want((ended.status, ended.told.splitlines()[-1] + "\n"), (2, untold))
-    # Where there is nothing to tell, nobody is missed.
-    desk.write_orders([])
-    want(desk.give(b""), Ended(0, b"", ""))
+    def test_a_line_is_torn_at_each_byte(self):
+        desk = desk_of(self.folder, PRESENT, DONE_JOURNAL)
+        path = reporting(desk)
+        before = text_of({**LAST, "run": 6})
+        for line in (LAST, END, FOUND):
+            torn = text_of({**line, "run": 7})
+            for count in range(1, len(torn)):
+                path.write_text(before + torn[:count])
+                # A line of which just the line feed is missing is a whole one.
+                run = 8 if count == len(torn) - 1 else 7
+                wanted = before + torn[:count] + "\n" + text_of({**BEFORE, "run": run})
+                self.assertEqual((count, desk.give(b"").status, path.read_text()), (count, 0, wanted))
+            self.assertEqual((desk.give(b"").status, path.read_text()), (0, wanted + text_of({**BEFORE, "run": 9})))
 
+    def test_a_torn_line_in_the_middle(self):
+        desk = desk_of(self.folder, PRESENT, DONE_JOURNAL)
+        path = reporting(desk)
+        held = text_of(LAST) + text_of(LAST)[:50] + "\n"
+        for text, run in [(held, 4), (held + text_of({**LAST, "run": 9}), 10), (held * 200, 4), ("{\n", 1), ("{", 1)]:
+            path.write_text(text)
+            self.assertEqual(desk.give(b"").status, 0)
+            self.assertEqual(path.read_text(), text.rstrip("\n") + "\n" + text_of({**BEFORE, "run": run}))
 
-def test_reports_that_can_not_be_written(folder):
-    # Of the folder and of the file in one that isn't there only the beginning is known.
-    places = {"/dev/full": "no storage space\n", folder: "", folder / "none" / "report": ""}
-    for place, cause in places.items():
-        for orders, answers, told in [(PRESENT, None, DONE_TOLD), (ABSENT, b"", "reply 1 taken\ndrive fault 4 End\n")]:
-            desk = desk_of(folder, orders)
-            desk.journal.unlink(missing_ok=True)
+    def test_the_longest_lines(self):
+        desk = desk_of(self.folder, PRESENT, DONE_JOURNAL)
+        path = reporting(desk)
+        most = 2 ** 64 - 1
+        long = {"cause": {"byte": 255, "location": 0x77, "was": "other"}, "code": 255, "ended": "before",
+                "frames": most, "misses": most, "moment": most, "name": "DoubtOpen", "order": most,
+                "reply": "kept 5 DoubtOpen", "run": 1, "unit": 63}
+        answer = {**END, "answer": "\\xFF" * 9, "name": "TooLong", "run": 1}
+        found = {"byte": 255, "differs": most_differences(), "found": "other", "location": 0x77, "order": most,
+                 "run": 1, "unit": 63}
+        self.assertEqual(len(text_of({**found, "run": most})), 1277)
+        text = text_of(long, answer, found) * 500
+        path.write_text(text)
+        self.assertEqual((desk.give(b"").status, path.read_text()), (0, text + text_of({**BEFORE, "run": 2})))
+
+    def test_a_full_disk_tears_a_line(self):
+        for more in (0, 1, 60, len(text_of({**BEFORE, "run": 2})) - 1):
+            desk = desk_of(self.folder, PRESENT, DONE_JOURNAL)
+            path = reporting(desk)
+            held = text_of({**BEFORE, "run": 1})
+            path.write_text(held)
+            limit = len(held) + more
+
+            def limited(limit=limit):
+                resource.setrlimit(resource.RLIMIT_FSIZE, (limit, limit))
+
+            ended = desk.give(b"", preexec_fn=limited, restore_signals=False)
+            untold = f"error: the report can't be written: {path}: "
+            self.assertEqual((more, ended.status, ended.told[:len(DONE + untold)]), (more, 2, DONE + untold))
+            torn = held + text_of({**BEFORE, "run": 2})[:more]
+            self.assertEqual((more, path.read_text()), (more, torn))
+            ends = "\n" if more else ""
+            run = 3 if more > 100 else 2
+            self.assertEqual((more, desk.give(b"").status, path.read_text()),
+                             (more, 0, torn + ends + text_of({**BEFORE, "run": run})))
+
+    def test_two_commands_over_one_report(self):
+        for name in ("one", "other"):
+            (self.folder / name).mkdir()
+        first, second = desk_of(self.folder / "one", ABSENT), desk_of(self.folder / "other", PRESENT, DONE_JOURNAL)
+        first.options = second.options = ["--report", self.folder / "report"]
+        running = first.start()
+        try:
+            # Its first frame comes behind the opening of the report.
+            self.assertEqual(line_from(running.stdout), b"C301\n")
+            self.assertEqual(second.give(b""), Ended(2, b"", DONE + UNTOLD.format(self.folder / "report", IN_USE)))
+            running.communicate(SILENCE, 20)
+        finally:
+            running.kill()
+        self.assertEqual((running.returncode, lines_of(self.folder / "report")), (0, [kept(1, 9, 3, "now", 16, 8)]))
+        self.assertEqual((second.give(b"").status, lines_of(self.folder / "report", 2)), (0, [BEFORE]))
+
+    def test_a_pipe_that_somebody_reads(self):
+        desk = desk_of(self.folder, PRESENT, DONE_JOURNAL)
+        path = reporting(desk)
+        os.mkfifo(path)
+        reader = os.open(path, os.O_RDONLY | os.O_NONBLOCK)
+        try:
+            for _ in range(2):
+                self.assertEqual(desk.give(b""), Ended(0, b"", DONE))
+                self.assertEqual(os.read(reader, 4096).decode(), text_of({**BEFORE, "run": 1}))
+        finally:
+            os.close(reader)
+
+    def test_a_pipe_that_nobody_reads(self):
+        desk = desk_of(self.folder, PRESENT, DONE_JOURNAL)
+        path = reporting(desk)
+        os.mkfifo(path)
+        for command in (desk, Verifying(desk.program, self.folder, PRESENT)):
+            command.options = desk.options
+            ended = command.over(blank_bus(5))
+            untold = UNTOLD.format(path, "broken pipe")
+            self.assertEqual((ended.status, ended.told.splitlines()[-1] + "\n"), (2, untold))
+        # Where there is nothing to tell, nobody is missed.
+        desk.write_orders([])
+        self.assertEqual(desk.give(b""), Ended(0, b"", ""))
+
+    def test_reports_that_can_not_be_written(self):
+        # Of the folder and of the file in one that isn't there only the beginning is known.
+        places = {"/dev/full": "no storage space\n", self.folder: "", self.folder / "none" / "report": ""}
+        for place, cause in places.items():
+            for orders, answers, told in [(PRESENT, None, DONE_TOLD),
+                                          (ABSENT, b"", "reply 1 taken\ndrive fault 4 End\n")]:
+                desk = desk_of(self.folder, orders)
+                desk.journal.unlink(missing_ok=True)
+                desk.options = ["--report", place]
+                ended = desk.over(blank_bus(5)) if answers is None else desk.give(answers)
+                untold = f"error: the report can't be written: {place}: {cause}"
+                self.assertEqual((place, ended.status, ended.told[:len(told + untold)]), (place, 2, told + untold))
+                self.assertEqual((place, ended.told[len(told):].count("\n")), (place, 1))
+        self.assertEqual(desk.held(), ABSENT_BEGAN)
+
+    def test_files_that_are_no_report(self):
+        desk = desk_of(self.folder, PRESENT, DONE_JOURNAL)
+        report = reporting(desk)
+        good = text_of(LAST)
+        foreign = [
+            # Orders line by line, a scenario, a bank, other JSON, and no JSON.
+            '{"order":1}\n', '{"submit":{}}\n', '{"limit":1}', "77 FF\n", "[]\n", "null", "\n", "\0", "\ufeff" + good,
+            # One key less, one more, another one, and one of another kind.
+            text_of({key: LAST[key] for key in LAST if key != "unit"}), text_of({**LAST, "more": 1}),
+            text_of({**{key: LAST[key] for key in LAST if key != "unit"}, "more": 1}), text_of({**FOUND, "code": 0}),
+            text_of({**EARLIER_FOUND, "differ": []}), text_of({**EARLIER_LAST, "causes": None}),
+            text_of({key: FOUND[key] for key in FOUND if key != "run"}),
+            '{"code":0}\n', '{"answer":"--"}\n', '{"byte":1}\n',
+            # A run that is no count, and lines that are too long or begin otherwise.
+            text_of({**LAST, "run": "3"}), text_of({**LAST, "run": -1}), text_of({**LAST, "run": 1.5}),
+            text_of({**LAST, "run": None}), '{"code":' + " " * 2041, '{"codes":', '{ "code":', "{}\n", '{"ab', "}\n",
+        ]
+        for text in foreign:
+            for held in (text, good + text, good + text.rstrip("\n") + "\n" + good):
+                report.write_text(held)
+                self.assertEqual((held, desk.over(blank_bus(5))),
+                                 (held, Ended(2, b"", DONE + UNTOLD.format(report, FOREIGN))))
+                self.assertEqual(report.read_text(), held)
+        report.write_bytes(good.encode() + b"\xff\n")
+        self.assertEqual(desk.over(blank_bus(5)).status, 2)
+
+    def test_files_of_the_command_are_no_report(self):
+        desk = desk_of(self.folder, PRESENT, DONE_JOURNAL)
+        older, other = self.folder / "older", self.folder / "other"
+        older.write_bytes(HEADER + absent_records(7))
+        other.hardlink_to(desk.journal)
+        for place in (desk.journal, desk.orders, older, other):
+            held = place.read_bytes()
+            desk.options = ["--older", older, "--report", place]
+            self.assertEqual((place, desk.over(blank_bus(5))),
+                             (place, Ended(2, b"", DONE + UNTOLD.format(place, TAKEN))))
+            self.assertEqual(place.read_bytes(), held)
+        for place in (self.folder / "link", self.folder / "to_none"):
+            place.symlink_to(older if place.name == "link" else self.folder / "none")
             desk.options = ["--report", place]
-            ended = desk.over(blank_bus(5)) if answers is None else desk.give(answers)
-            untold = f"error: the report can't be written: {place}: {cause}"
-            want((place, ended.status, ended.told[:len(told + untold)]), (place, 2, told + untold))
-            want((place, ended.told[len(told):].count("\n")), (place, 1))
-    want(desk.held(), ABSENT_BEGAN)
+            self.assertEqual(desk.over(blank_bus(5)),
+                             Ended(2, b"", DONE + UNTOLD.format(place, "it is a link: name the file itself")))
+        assert not (self.folder / "none").exists()
+        desk.options = ["--report", "-"]
+        self.assertEqual(desk.over(blank_bus(5)),
+                         Ended(2, b"", DONE + UNTOLD.format("-", "it is standard output, where the frames go")))
+        self.assertEqual((desk.held(), older.read_bytes()), (DONE_JOURNAL, HEADER + absent_records(7)))
+        scenario = Verifying(desk.program, self.folder, PRESENT)
+        scenario.options = ["--report", scenario.orders]
+        held = scenario.orders.read_bytes()
+        self.assertEqual(last_line(scenario.over(blank_bus(5)))[2], UNTOLD.format(scenario.orders, TAKEN).rstrip("\n"))
+        self.assertEqual(scenario.orders.read_bytes(), held)
 
+    def test_a_report_never_takes_the_place_of_a_journal(self):
+        for start in (None, b"", OLD_DONE_JOURNAL, DONE_JOURNAL):
+            for name in ("journal.new", "journal", "./journal", "./journal.new"):
+                desk = desk_of(self.folder, PRESENT)
+                for left in (desk.journal, desk.journal.with_name(desk.journal.name + ".new")):
+                    left.unlink(missing_ok=True)
+                if start is not None:
+                    desk.journal.write_bytes(start)
+                place = f"{desk.journal.parent}/{name.replace('journal', desk.journal.name)}"
+                desk.options = ["--report", place]
+                ended = desk.over(blank_bus(5))
+                self.assertEqual((start, name, last_line(ended)[2]),
+                                 (start, name, UNTOLD.format(place, TAKEN).rstrip("\n")))
+                self.assertEqual((start, desk.held()[:4]), (start, HEADER[:4]))
+                desk.options = []
+                self.assertEqual(desk.over(blank_bus(5)).told, DONE)
 
-def test_files_that_are_no_report(folder):
-    desk = desk_of(folder, PRESENT, DONE_JOURNAL)
-    report = reporting(desk)
-    good = text_of(LAST)
-    foreign = [
-        # Orders line by line, a scenario, a bank, other JSON, and no JSON.
-        '{"order":1}\n', '{"submit":{}}\n', '{"limit":1}', "77 FF\n", "[]\n", "null", "\n", "\0", "\ufeff" + good,
-        # One key less, one more, another one, and one of another kind.
-        text_of({key: LAST[key] for key in LAST if key != "unit"}), text_of({**LAST, "more": 1}),
-        text_of({**{key: LAST[key] for key in LAST if key != "unit"}, "more": 1}), text_of({**FOUND, "code": 0}),
-        text_of({**EARLIER_FOUND, "differ": []}), text_of({**EARLIER_LAST, "causes": None}), text_of({key: FOUND[key] for key in FOUND if key != "run"}),
-        '{"code":0}\n', '{"answer":"--"}\n', '{"byte":1}\n',
-        # A run that is no count, and lines that are too long or begin otherwise.
-        text_of({**LAST, "run": "3"}), text_of({**LAST, "run": -1}), text_of({**LAST, "run": 1.5}),
-        text_of({**LAST, "run": None}), '{"code":' + " " * 2041, '{"codes":', '{ "code":', "{}\n", '{"ab', "}\n",
-    ]
-    for text in foreign:
-        for held in (text, good + text, good + text.rstrip("\n") + "\n" + good):
-            report.write_text(held)
-            want((held, desk.over(blank_bus(5))), (held, Ended(2, b"", DONE + UNTOLD.format(report, FOREIGN))))
-            want(report.read_text(), held)
-    report.write_bytes(good.encode() + b"\xff\n")
-    want(desk.over(blank_bus(5)).status, 2)
+    def test_a_report_in_the_way_of_a_journal_behind_a_link(self):
+        desk = desk_of(self.folder, PRESENT)
+        real = self.folder / "real"
+        real.mkdir()
+        (real / "journal").write_bytes(OLD_DONE_JOURNAL)
+        desk.journal.unlink(missing_ok=True)
+        desk.journal.symlink_to(real / "journal")
+        desk.options = ["--report", real / "journal.new"]
+        ended = desk.over(blank_bus(5))
+        self.assertEqual((ended.status, ended.sent, last_line(ended)[2]), (2, b"", "fault 21 File"))
+        self.assertEqual((real / "journal").read_bytes(), OLD_DONE_JOURNAL)
+        desk.options = []
+        self.assertEqual(desk.over(blank_bus(5)).told, DONE)
 
-
-def test_files_of_the_command_are_no_report(folder):
-    desk = desk_of(folder, PRESENT, DONE_JOURNAL)
-    older, other = folder / "older", folder / "other"
-    older.write_bytes(HEADER + absent_records(7))
-    other.hardlink_to(desk.journal)
-    for place in (desk.journal, desk.orders, older, other):
-        held = place.read_bytes()
-        desk.options = ["--older", older, "--report", place]
-        want((place, desk.over(blank_bus(5))), (place, Ended(2, b"", DONE + UNTOLD.format(place, TAKEN))))
-        want(place.read_bytes(), held)
-    for place in (folder / "link", folder / "to_none"):
-        place.symlink_to(older if place.name == "link" else folder / "none")
-        desk.options = ["--report", place]
-        want(desk.over(blank_bus(5)), Ended(2, b"", DONE + UNTOLD.format(place, "it is a link: name the file itself")))
-    assert not (folder / "none").exists()
-    desk.options = ["--report", "-"]
-    want(desk.over(blank_bus(5)), Ended(2, b"", DONE + UNTOLD.format("-", "it is standard output, where the frames go")))
-    want((desk.held(), older.read_bytes()), (DONE_JOURNAL, HEADER + absent_records(7)))
-    scenario = Verifying(desk.program, folder, PRESENT)
-    scenario.options = ["--report", scenario.orders]
-    held = scenario.orders.read_bytes()
-    want(last_line(scenario.over(blank_bus(5)))[2], UNTOLD.format(scenario.orders, TAKEN).rstrip("\n"))
-    want(scenario.orders.read_bytes(), held)
-
-
-def test_a_report_never_takes_the_place_of_a_journal(folder):
-    for start in (None, b"", OLD_DONE_JOURNAL, DONE_JOURNAL):
-        for name in ("journal.new", "journal", "./journal", "./journal.new"):
-            desk = desk_of(folder, PRESENT)
-            for left in (desk.journal, desk.journal.with_name(desk.journal.name + ".new")):
-                left.unlink(missing_ok=True)
-            if start is not None:
-                desk.journal.write_bytes(start)
-            place = f"{desk.journal.parent}/{name.replace('journal', desk.journal.name)}"
-            desk.options = ["--report", place]
-            ended = desk.over(blank_bus(5))
-            want((start, name, last_line(ended)[2]), (start, name, UNTOLD.format(place, TAKEN).rstrip("\n")))
-            want((start, desk.held()[:4]), (start, HEADER[:4]))
-            desk.options = []
-            want(desk.over(blank_bus(5)).told, DONE)
-
-
-def test_a_report_in_the_way_of_a_journal_behind_a_link(folder):
-    desk = desk_of(folder, PRESENT)
-    real = folder / "real"
-    real.mkdir()
-    (real / "journal").write_bytes(OLD_DONE_JOURNAL)
-    desk.journal.unlink(missing_ok=True)
-    desk.journal.symlink_to(real / "journal")
-    desk.options = ["--report", real / "journal.new"]
-    ended = desk.over(blank_bus(5))
-    want((ended.status, ended.sent, last_line(ended)[2]), (2, b"", "fault 21 File"))
-    want((real / "journal").read_bytes(), OLD_DONE_JOURNAL)
-    desk.options = []
-    want(desk.over(blank_bus(5)).told, DONE)
-
-
-def test_a_report_stays_where_there_is_nothing_to_add(folder):
-    desk = desk_of(folder, PRESENT)
-    desk.journal.unlink(missing_ok=True)
-    path = reporting(desk)
-    want(desk.over(blank_bus(5)).status, 0)
-    held, orders = path.read_bytes(), desk.orders.read_bytes()
-    desk.orders.write_text("[")
-    want((desk.over(blank_bus(5)).status, path.read_bytes()), (1, held))
-    desk.orders.unlink()
-    want((desk.over(blank_bus(5)).status, path.read_bytes()), (2, held))
-    desk.orders.write_bytes(orders)
-    desk.options = [*desk.options, "--older", folder / "none"]
-    want((desk.over(blank_bus(5)).status, path.read_bytes()), (2, held))
-    desk.options = desk.options[:2]
-    with open(desk.journal, "rb") as journal:
-        fcntl.flock(journal, fcntl.LOCK_EX)
-        want((desk.over(blank_bus(5)).status, path.read_bytes()), (2, held))
-    with open(path, "rb") as report:
-        fcntl.flock(report, fcntl.LOCK_EX)
-        want(desk.over(blank_bus(5)), Ended(2, b"", DONE + UNTOLD.format(path, "another command writes it")))
-        want(path.read_bytes(), held)
-    desk.orders.write_text("[]")
-    want((desk.over(blank_bus(5)).status, path.read_bytes()), (0, held))
+    def test_a_report_stays_where_there_is_nothing_to_add(self):
+        desk = desk_of(self.folder, PRESENT)
+        desk.journal.unlink(missing_ok=True)
+        path = reporting(desk)
+        self.assertEqual(desk.over(blank_bus(5)).status, 0)
+        held, orders = path.read_bytes(), desk.orders.read_bytes()
+        desk.orders.write_text("[")
+        self.assertEqual((desk.over(blank_bus(5)).status, path.read_bytes()), (1, held))
+        desk.orders.unlink()
+        self.assertEqual((desk.over(blank_bus(5)).status, path.read_bytes()), (2, held))
+        desk.orders.write_bytes(orders)
+        desk.options = [*desk.options, "--older", self.folder / "none"]
+        self.assertEqual((desk.over(blank_bus(5)).status, path.read_bytes()), (2, held))
+        desk.options = desk.options[:2]
+        with open(desk.journal, "rb") as journal:
+            fcntl.flock(journal, fcntl.LOCK_EX)
+            self.assertEqual((desk.over(blank_bus(5)).status, path.read_bytes()), (2, held))
+        with open(path, "rb") as report:
+            fcntl.flock(report, fcntl.LOCK_EX)
+            self.assertEqual(desk.over(blank_bus(5)),
+                             Ended(2, b"", DONE + UNTOLD.format(path, "another command writes it")))
+            self.assertEqual(path.read_bytes(), held)
+        desk.orders.write_text("[]")
+        self.assertEqual((desk.over(blank_bus(5)).status, path.read_bytes()), (0, held))

@@ -7,8 +7,10 @@ import pty
 import signal
 import stat
 import time
+from functools import partialmethod
 
 import driven
+from base import BenchTest, want
 from drive_calls import acts_on, calls_of, check_named, check_order, shim
 from drive_desk import (
     ABSENT,
@@ -29,9 +31,7 @@ from drive_desk import (
     goes_on,
     last_line,
     new_of,
-    parts,
     put_journal,
-    want,
 )
 from drive_places import as_nobody
 from drive_units import BLANK, many_orders
@@ -85,57 +85,55 @@ def end_of(desk, bus):
     return ended, desk.held(), new_of(desk).exists(), banks
 
 
-def test_worked_journals(folder):
-    longest = [(place, place ^ 0xA5) for place in [*range(0x03, 0x11), *range(0x13, 0x78)]]
-    pairs = bytes([5, len(longest)]) + b"".join(bytes(pair) for pair in longest) + b"O\x05E\x00"
-    number = (2 ** 64 - 2).to_bytes(8, "big")
-    for start, journal, told in [(None, HEADER, ""), (b"", HEADER, ""), (OLD_DONE_JOURNAL, DONE_JOURNAL, ""),
-                                 (OLD_DONE_JOURNAL[:24], DONE_JOURNAL[:35], "drive fault 4 End\n"),
-                                 (OLD_JOURNAL, JOURNAL, ""), (OLD_JOURNAL[:22], HEADER, ""),
-                                 (b"B" + number + pairs, HEADER + b"B" + number + bytes(8) + pairs, "")]:
-        want((start, in_version_2(start or b"")), (start, journal))
-        desk = desk_of(folder, [])
-        put_journal(desk, start)
-        for _ in range(2):
-            ended = desk.give(b"")
-            want((start, ended.status, ended.told), (start, 1 if told else 0, told))
-            want((start, desk.held(), new_of(desk).exists()), (start, journal, False))
+class UpgradeTest(BenchTest):
+    """What an older journal becomes."""
 
+    def test_worked_journals(self):
+        longest = [(place, place ^ 0xA5) for place in [*range(0x03, 0x11), *range(0x13, 0x78)]]
+        pairs = bytes([5, len(longest)]) + b"".join(bytes(pair) for pair in longest) + b"O\x05E\x00"
+        number = (2 ** 64 - 2).to_bytes(8, "big")
+        for start, journal, told in [(None, HEADER, ""), (b"", HEADER, ""), (OLD_DONE_JOURNAL, DONE_JOURNAL, ""),
+                                     (OLD_DONE_JOURNAL[:24], DONE_JOURNAL[:35], "drive fault 4 End\n"),
+                                     (OLD_JOURNAL, JOURNAL, ""), (OLD_JOURNAL[:22], HEADER, ""),
+                                     (b"B" + number + pairs, HEADER + b"B" + number + bytes(8) + pairs, "")]:
+            self.assertEqual((start, in_version_2(start or b"")), (start, journal))
+            desk = desk_of(self.folder, [])
+            put_journal(desk, start)
+            for _ in range(2):
+                ended = desk.give(b"")
+                self.assertEqual((start, ended.status, ended.told), (start, 1 if told else 0, told))
+                self.assertEqual((start, desk.held(), new_of(desk).exists()), (start, journal, False))
 
-def test_each_prefix_goes_on_as_in_version_2(folder):
-    for length in range(len(OLD_JOURNAL) + 1):
-        start = OLD_JOURNAL[:length]
-        desk = desk_of(folder, ORDERS, start)
-        end = end_of(desk, bus_for(start))
-        want((length, end[0].told.splitlines()), (length, [f"reply {it}" for it in REPLIES[records_of(start)[1]]]))
-        assert end[0].status == 0 and end[1].startswith(in_version_2(start)) and not end[2], (length, end)
-        put_journal(desk, in_version_2(start))
-        want((length, end), (length, end_of(desk, bus_for(start))))
-    want(end, (Ended(0, b"", end[0].told), JOURNAL, False, end[3]))
+    def test_each_prefix_goes_on_as_in_version_2(self):
+        for length in range(len(OLD_JOURNAL) + 1):
+            start = OLD_JOURNAL[:length]
+            desk = desk_of(self.folder, ORDERS, start)
+            end = end_of(desk, bus_for(start))
+            self.assertEqual((length, end[0].told.splitlines()),
+                             (length, [f"reply {it}" for it in REPLIES[records_of(start)[1]]]))
+            assert end[0].status == 0 and end[1].startswith(in_version_2(start)) and not end[2], (length, end)
+            put_journal(desk, in_version_2(start))
+            self.assertEqual((length, end), (length, end_of(desk, bus_for(start))))
+        self.assertEqual(end, (Ended(0, b"", end[0].told), JOURNAL, False, end[3]))
 
+    def test_an_old_order_has_moment_0(self):
+        desk = desk_of(self.folder, [*ABSENT, {**ABSENT[0], "order": 2}], OLD_ABSENT_BEGAN)
+        desk.options = ["--moment", "1700000000"]
+        told = KEPT_SILENT * 2 + "reply 2 taken\nreply 2 kept 3 Silent\n"
+        self.assertEqual(desk.give(SILENCE * 2), Ended(0, ABSENT_FRAMES * 2, told))
+        self.assertEqual(desk.held(), ABSENT_JOURNAL + absent_records(2, 1700000000))
 
-def test_an_old_order_has_moment_0(folder):
-    desk = desk_of(folder, [*ABSENT, {**ABSENT[0], "order": 2}], OLD_ABSENT_BEGAN)
-    desk.options = ["--moment", "1700000000"]
-    told = KEPT_SILENT * 2 + "reply 2 taken\nreply 2 kept 3 Silent\n"
-    want(desk.give(SILENCE * 2), Ended(0, ABSENT_FRAMES * 2, told))
-    want(desk.held(), ABSENT_JOURNAL + absent_records(2, 1700000000))
-
-
-def test_a_full_old_journal(folder):
-    again, more = {"order": 7, "unit": 9, "year": 24}, {"order": 100000, "unit": 9, "year": 24}
-    records = many_orders(*range(100000))
-    desk = desk_of(folder, [again, more, again], driven.in_version_1(HEADER + records))
-    want(desk.journal.stat().st_size, 1500000)
-    told = "reply 7 kept 3 Silent\nreply 100000 full\nreply 7 kept 3 Silent\n"
-    want(desk.give(b""), Ended(0, b"", told))
-    assert desk.held() == HEADER + records
-    desk.journal.write_bytes(driven.in_version_1(HEADER + records + many_orders(100000)))
-    want(last_line(desk.give(b"")), (1, b"", "journal fault 6 Full at 1500000"))
-    want((desk.journal.stat().st_size, new_of(desk).exists()), (1500015, False))
-
-
-# The calls, in their order and spoiled
+    def test_a_full_old_journal(self):
+        again, more = {"order": 7, "unit": 9, "year": 24}, {"order": 100000, "unit": 9, "year": 24}
+        records = many_orders(*range(100000))
+        desk = desk_of(self.folder, [again, more, again], driven.in_version_1(HEADER + records))
+        self.assertEqual(desk.journal.stat().st_size, 1500000)
+        told = "reply 7 kept 3 Silent\nreply 100000 full\nreply 7 kept 3 Silent\n"
+        self.assertEqual(desk.give(b""), Ended(0, b"", told))
+        assert desk.held() == HEADER + records
+        desk.journal.write_bytes(driven.in_version_1(HEADER + records + many_orders(100000)))
+        self.assertEqual(last_line(desk.give(b"")), (1, b"", "journal fault 6 Full at 1500000"))
+        self.assertEqual((desk.journal.stat().st_size, new_of(desk).exists()), (1500015, False))
 
 
 def opening_in(calls):
@@ -162,22 +160,6 @@ def check_upgrade(calls, journal):
     assert frames == [] or keys.index(("sync", "folder"), renamed) < frames[0], keys
 
 
-def test_an_upgrade_is_on_the_disk_before_frames(folder):
-    desk = desk_of(folder, ABSENT)
-    for start in ABSENT_STARTS:
-        put_journal(desk, start)
-        calls, _ = calls_of(desk, lambda variables: desk.give(SILENCE, variables))
-        check_order(calls, ABSENT_JOURNAL, start or b"")
-        check_upgrade(calls, in_version_2(start or b""))
-    desk.write_orders(ORDERS)
-    for length in LENGTHS:
-        put_journal(desk, OLD_JOURNAL[:length])
-        bus = bus_for(OLD_JOURNAL[:length])
-        calls, _ = calls_of(desk, lambda variables: desk.over(bus, environment=variables))
-        check_order(calls, desk.held(), OLD_JOURNAL[:length])
-        check_upgrade(calls, in_version_2(OLD_JOURNAL[:length]))
-
-
 def upgrades(folder):
     """Give for some prefixes of the old journal the desk, the prefix, the calls that come first, and the right end."""
     desk = desk_of(folder, ORDERS)
@@ -189,53 +171,75 @@ def upgrades(folder):
         yield desk, start, opening_in(calls), end_of(desk, bus_for(start))
 
 
-@parts(4)
-def test_kills_amid_an_upgrade(folder, part, count):
-    for desk, start, calls, end in upgrades(folder):
-        for act in [act for act in acts_on(calls) if "torn" not in act][part::count]:
+class UpgradeCallsTest(BenchTest):
+    """The calls of an upgrade, in their order and spoiled."""
+
+    def test_an_upgrade_is_on_the_disk_before_frames(self):
+        desk = desk_of(self.folder, ABSENT)
+        for start in ABSENT_STARTS:
             put_journal(desk, start)
-            bus = bus_for(start)
-            want((act, desk.over(bus, environment=shim(desk, act))), (act, Ended(-signal.SIGKILL, b"", "")))
-            assert desk.held() in (start, in_version_2(start)), (act, desk.held())
-            want((act, end_of(desk, bus)), (act, end))
+            calls, _ = calls_of(desk, lambda variables: desk.give(SILENCE, variables))
+            check_order(calls, ABSENT_JOURNAL, start or b"")
+            check_upgrade(calls, in_version_2(start or b""))
+        desk.write_orders(ORDERS)
+        for length in LENGTHS:
+            put_journal(desk, OLD_JOURNAL[:length])
+            bus = bus_for(OLD_JOURNAL[:length])
+            calls, _ = calls_of(desk, lambda variables: desk.over(bus, environment=variables))
+            check_order(calls, desk.held(), OLD_JOURNAL[:length])
+            check_upgrade(calls, in_version_2(OLD_JOURNAL[:length]))
 
+    def kills_amid_an_upgrade(self, part, count):
+        for desk, start, calls, end in upgrades(self.folder):
+            for act in [act for act in acts_on(calls) if "torn" not in act][part::count]:
+                put_journal(desk, start)
+                bus = bus_for(start)
+                self.assertEqual((act, desk.over(bus, environment=shim(desk, act))),
+                                 (act, Ended(-signal.SIGKILL, b"", "")))
+                assert desk.held() in (start, in_version_2(start)), (act, desk.held())
+                self.assertEqual((act, end_of(desk, bus)), (act, end))
 
-def test_an_upgrade_that_is_torn(folder):
-    for start, orders in [(OLD_ABSENT_BEGAN, ABSENT), (OLD_JOURNAL, ORDERS)]:
-        desk = desk_of(folder, orders, in_version_2(start))
-        end = desk.give(SILENCE), desk.held()
-        for length in range(1, len(in_version_2(start))):
-            put_journal(desk, start)
-            ended = desk.give(SILENCE, shim(desk, f"write new 1 torn {length}"))
-            want((length, ended, desk.held()), (length, Ended(-signal.SIGKILL, b"", ""), start))
-            want((length, (desk.give(SILENCE), desk.held())), (length, end))
+    test_kills_amid_an_upgrade_part_1 = partialmethod(kills_amid_an_upgrade, 0, 4)
+    test_kills_amid_an_upgrade_part_2 = partialmethod(kills_amid_an_upgrade, 1, 4)
+    test_kills_amid_an_upgrade_part_3 = partialmethod(kills_amid_an_upgrade, 2, 4)
+    test_kills_amid_an_upgrade_part_4 = partialmethod(kills_amid_an_upgrade, 3, 4)
 
+    def test_an_upgrade_that_is_torn(self):
+        for start, orders in [(OLD_ABSENT_BEGAN, ABSENT), (OLD_JOURNAL, ORDERS)]:
+            desk = desk_of(self.folder, orders, in_version_2(start))
+            end = desk.give(SILENCE), desk.held()
+            for length in range(1, len(in_version_2(start))):
+                put_journal(desk, start)
+                ended = desk.give(SILENCE, shim(desk, f"write new 1 torn {length}"))
+                self.assertEqual((length, ended, desk.held()), (length, Ended(-signal.SIGKILL, b"", ""), start))
+                self.assertEqual((length, (desk.give(SILENCE), desk.held())), (length, end))
 
-@parts(2)
-def test_failures_amid_an_upgrade(folder, part, _):
-    for desk, start, calls, end in upgrades(folder):
-        is_renamed = False
-        for call in calls:
-            put_journal(desk, start)
-            bus = bus_for(start)
-            act = call.act("fail", (errno.EIO, errno.ENOSPC)[part])
-            ended = desk.over(bus, environment=shim(desk, act))
-            want((call, last_line(ended)), (call, FAULT_21))
-            check_named(desk, call, ended)
-            want((call, desk.held()), (call, in_version_2(start) if is_renamed else start))
-            want((call, end_of(desk, bus)), (call, end))
-            is_renamed = is_renamed or call.kind == "rename"
+    def failures_amid_an_upgrade(self, part):
+        for desk, start, calls, end in upgrades(self.folder):
+            is_renamed = False
+            for call in calls:
+                put_journal(desk, start)
+                bus = bus_for(start)
+                act = call.act("fail", (errno.EIO, errno.ENOSPC)[part])
+                ended = desk.over(bus, environment=shim(desk, act))
+                self.assertEqual((call, last_line(ended)), (call, FAULT_21))
+                check_named(desk, call, ended)
+                self.assertEqual((call, desk.held()), (call, in_version_2(start) if is_renamed else start))
+                self.assertEqual((call, end_of(desk, bus)), (call, end))
+                is_renamed = is_renamed or call.kind == "rename"
 
+    test_failures_amid_an_upgrade_part_1 = partialmethod(failures_amid_an_upgrade, 0)
+    test_failures_amid_an_upgrade_part_2 = partialmethod(failures_amid_an_upgrade, 1)
 
-def test_what_a_stopped_drive_left(folder):
-    desk = desk_of(folder, ABSENT)
-    for start in ABSENT_STARTS:
-        whole = in_version_2(start or b"")
-        for length in range(len(whole) + 1):
-            put_journal(desk, start)
-            new_of(desk).write_bytes(whole[:length])
-            new_of(desk).chmod(0o600)
-            goes_on(desk)
+    def test_what_a_stopped_drive_left(self):
+        desk = desk_of(self.folder, ABSENT)
+        for start in ABSENT_STARTS:
+            whole = in_version_2(start or b"")
+            for length in range(len(whole) + 1):
+                put_journal(desk, start)
+                new_of(desk).write_bytes(whole[:length])
+                new_of(desk).chmod(0o600)
+                goes_on(desk)
 
 
 def check_in_the_way(desk, start, others=()):
@@ -249,84 +253,79 @@ def check_in_the_way(desk, start, others=()):
     want((new.lstat().st_mode, sorted(os.listdir(desk.folder))), (kind, names))
 
 
-def test_what_no_drive_left(folder):
-    desk = desk_of(folder, ABSENT)
-    for start in ABSENT_STARTS:
-        whole = in_version_2(start or b"")
-        for left in (whole + b"B", whole[:-1] + b"\xff", DONE_JOURNAL, many_orders(*range(50)), OLD_JOURNAL,
-                     b"\xff" * 5000, b"\0" * len(whole)):
-            put_journal(desk, start)
-            new_of(desk).write_bytes(left)
-            check_in_the_way(desk, start, [new_of(desk)])
+class InTheWayTest(BenchTest):
+    """What stands in the way of an upgrade, and the rights that it leaves."""
 
+    def test_what_no_drive_left(self):
+        desk = desk_of(self.folder, ABSENT)
+        for start in ABSENT_STARTS:
+            whole = in_version_2(start or b"")
+            for left in (whole + b"B", whole[:-1] + b"\xff", DONE_JOURNAL, many_orders(*range(50)), OLD_JOURNAL,
+                         b"\xff" * 5000, b"\0" * len(whole)):
+                put_journal(desk, start)
+                new_of(desk).write_bytes(left)
+                check_in_the_way(desk, start, [new_of(desk)])
 
-def test_what_is_no_file_of_its_own_where_it_would_be_written(folder):
-    desk, other = desk_of(folder, ABSENT), folder / "other.journal"
-    for start in ABSENT_STARTS:
-        for held in (b"", HEADER, DONE_JOURNAL):
+    def test_what_is_no_file_of_its_own_where_it_would_be_written(self):
+        desk, other = desk_of(self.folder, ABSENT), self.folder / "other.journal"
+        for start in ABSENT_STARTS:
+            for held in (b"", HEADER, DONE_JOURNAL):
+                for make in (os.symlink, os.link):
+                    put_journal(desk, start)
+                    other.write_bytes(held)
+                    make(other, new_of(desk))
+                    check_in_the_way(desk, start, [other])
+            for make in (os.mkfifo, lambda path: os.symlink(self.folder / "none", path)):
+                put_journal(desk, start)
+                make(new_of(desk))
+                check_in_the_way(desk, start)
+
+    def test_orders_where_the_journal_would_be_written(self):
+        desk = desk_of(self.folder, ABSENT)
+        orders = desk.orders
+        for start in (b"", OLD_ABSENT_BEGAN):
             for make in (os.symlink, os.link):
                 put_journal(desk, start)
-                other.write_bytes(held)
-                make(other, new_of(desk))
-                check_in_the_way(desk, start, [other])
-        for make in (os.mkfifo, lambda path: os.symlink(folder / "none", path)):
+                make(orders, new_of(desk))
+                check_in_the_way(desk, start, [orders])
             put_journal(desk, start)
-            make(new_of(desk))
+            desk.orders = new_of(desk)
+            desk.write_orders(ABSENT)
+            check_in_the_way(desk, start, [desk.orders])
+            desk.orders = orders
+
+    def test_a_folder_stands_where_it_would_be_written(self):
+        desk = desk_of(self.folder, ABSENT)
+        for start in (b"", OLD_ABSENT_BEGAN):
+            put_journal(desk, start)
+            new_of(desk).mkdir()
             check_in_the_way(desk, start)
+            new_of(desk).rmdir()
+            goes_on(desk)
 
-
-def test_orders_where_the_journal_would_be_written(folder):
-    desk = desk_of(folder, ABSENT)
-    orders = desk.orders
-    for start in (b"", OLD_ABSENT_BEGAN):
-        for make in (os.symlink, os.link):
+    def test_a_folder_in_which_nothing_can_be_made(self):
+        desk = desk_of(self.folder, ABSENT)
+        for start, end in [(b"", FAULT_21), (OLD_ABSENT_BEGAN, FAULT_21), (ABSENT_BEGAN, (0, ABSENT_FRAMES))]:
             put_journal(desk, start)
-            make(orders, new_of(desk))
-            check_in_the_way(desk, start, [orders])
-        put_journal(desk, start)
-        desk.orders = new_of(desk)
-        desk.write_orders(ABSENT)
-        check_in_the_way(desk, start, [desk.orders])
-        desk.orders = orders
+            desk.journal.chmod(0o666)
+            self.folder.chmod(0o555)
+            self.assertEqual((start, last_line(as_nobody(desk))[:len(end)]), (start, end))
+            self.folder.chmod(0o755)
+            self.assertEqual(desk.held(), ABSENT_JOURNAL if start == ABSENT_BEGAN else start)
+            goes_on(desk)
 
-
-def test_a_folder_stands_where_it_would_be_written(folder):
-    desk = desk_of(folder, ABSENT)
-    for start in (b"", OLD_ABSENT_BEGAN):
-        put_journal(desk, start)
-        new_of(desk).mkdir()
-        check_in_the_way(desk, start)
-        new_of(desk).rmdir()
-        goes_on(desk)
-
-
-def test_a_folder_in_which_nothing_can_be_made(folder):
-    desk = desk_of(folder, ABSENT)
-    for start, end in [(b"", FAULT_21), (OLD_ABSENT_BEGAN, FAULT_21), (ABSENT_BEGAN, (0, ABSENT_FRAMES))]:
-        put_journal(desk, start)
-        desk.journal.chmod(0o666)
-        folder.chmod(0o555)
-        want((start, last_line(as_nobody(desk))[:len(end)]), (start, end))
-        folder.chmod(0o755)
-        want(desk.held(), ABSENT_JOURNAL if start == ABSENT_BEGAN else start)
-        goes_on(desk)
-
-
-def test_the_permission_bits_stay(folder):
-    desk = desk_of(folder, ABSENT)
-    for mode in (0o600, 0o640, 0o604, 0o666, 0o700, 0o777):
-        for start in (b"", OLD_ABSENT_BEGAN, ABSENT_BEGAN):
-            put_journal(desk, start)
-            desk.journal.chmod(mode)
-            want(desk.give(SILENCE, umask=0o077).status, 0)
-            want((start, stat.S_IMODE(desk.journal.stat().st_mode)), (start, mode))
-            want(desk.held(), ABSENT_JOURNAL)
-    put_journal(desk, None)
-    want(desk.give(SILENCE, umask=0o027).status, 0)
-    want(stat.S_IMODE(desk.journal.stat().st_mode), 0o640)
-
-
-# Two drives at once
+    def test_the_permission_bits_stay(self):
+        desk = desk_of(self.folder, ABSENT)
+        for mode in (0o600, 0o640, 0o604, 0o666, 0o700, 0o777):
+            for start in (b"", OLD_ABSENT_BEGAN, ABSENT_BEGAN):
+                put_journal(desk, start)
+                desk.journal.chmod(mode)
+                self.assertEqual(desk.give(SILENCE, umask=0o077).status, 0)
+                self.assertEqual((start, stat.S_IMODE(desk.journal.stat().st_mode)), (start, mode))
+                self.assertEqual(desk.held(), ABSENT_JOURNAL)
+        put_journal(desk, None)
+        self.assertEqual(desk.give(SILENCE, umask=0o027).status, 0)
+        self.assertEqual(stat.S_IMODE(desk.journal.stat().st_mode), 0o640)
 
 
 def wait_until_stopped(command):
@@ -352,103 +351,106 @@ def give_around(desk, act, run):
     return Ended(command.returncode, sent, told.decode()), found
 
 
-@parts(2)
-def test_one_of_two_drives_runs(folder, part, _):
-    effect, desk = ("pause", "paused")[part], desk_of(folder, ABSENT)
-    for start in (None, b"", OLD_ABSENT_BEGAN, ABSENT_BEGAN):
-        put_journal(desk, start)
-        calls, _ = calls_of(desk, lambda variables: desk.give(SILENCE, variables))
-        has_lock = False
-        for call in opening_in(calls):
-            has_lock = has_lock or effect == "paused" and call.kind == "lock"
+class TwoDrivesTest(BenchTest):
+    """Two drives at once."""
+
+    def one_of_two_drives_runs(self, part):
+        effect, desk = ("pause", "paused")[part], desk_of(self.folder, ABSENT)
+        for start in (None, b"", OLD_ABSENT_BEGAN, ABSENT_BEGAN):
             put_journal(desk, start)
-            first, second = give_around(desk, call.act(effect), lambda: desk.give(SILENCE))
-            runs, other = (first, second) if has_lock or first.sent else (second, first)
-            want((start, call, runs[:2]), (start, call, (0, ABSENT_FRAMES)))
-            # One that comes to the lock once the other has ended may come to its file, or to one that is gone.
-            may_end = (FAULT_21,) if has_lock else (FAULT_21, (0, b"", KEPT_SILENT.strip()))
-            assert last_line(other) in may_end, (start, call, other)
-            want((desk.held(), new_of(desk).exists()), (ABSENT_JOURNAL, False))
-            has_lock = has_lock or call.kind == "lock"
+            calls, _ = calls_of(desk, lambda variables: desk.give(SILENCE, variables))
+            has_lock = False
+            for call in opening_in(calls):
+                has_lock = has_lock or effect == "paused" and call.kind == "lock"
+                put_journal(desk, start)
+                first, second = give_around(desk, call.act(effect), lambda: desk.give(SILENCE))
+                runs, other = (first, second) if has_lock or first.sent else (second, first)
+                self.assertEqual((start, call, runs[:2]), (start, call, (0, ABSENT_FRAMES)))
+                # One that comes to the lock once the other has ended may come to its file, or to one that is gone.
+                may_end = (FAULT_21,) if has_lock else (FAULT_21, (0, b"", KEPT_SILENT.strip()))
+                assert last_line(other) in may_end, (start, call, other)
+                self.assertEqual((desk.held(), new_of(desk).exists()), (ABSENT_JOURNAL, False))
+                has_lock = has_lock or call.kind == "lock"
 
+    test_one_of_two_drives_runs_part_1 = partialmethod(one_of_two_drives_runs, 0)
+    test_one_of_two_drives_runs_part_2 = partialmethod(one_of_two_drives_runs, 1)
 
-def test_a_drive_that_opened_the_old_file_is_kept_out(folder):
-    desk, longer = desk_of(folder, ABSENT), OLD_ABSENT_BEGAN + LONG_TAIL
-    assert len(longer) > len(ABSENT_BEGAN)
-    for start in (b"", OLD_ABSENT_BEGAN, longer, longer[:len(ABSENT_BEGAN)]):
-        put_journal(desk, start)
-        first, changed = None, time.time_ns() - 10 ** 10
-        os.utime(desk.journal, ns=(changed, changed))
-
-        def begin():
-            nonlocal first
-            first = desk.start()
-            want(driven.line_from(first.stdout), ABSENT_FRAMES[:5])
-            # Neither its time nor, in the last case, its length tells the new file from the old one.
+    def test_a_drive_that_opened_the_old_file_is_kept_out(self):
+        desk, longer = desk_of(self.folder, ABSENT), OLD_ABSENT_BEGAN + LONG_TAIL
+        assert len(longer) > len(ABSENT_BEGAN)
+        for start in (b"", OLD_ABSENT_BEGAN, longer, longer[:len(ABSENT_BEGAN)]):
+            put_journal(desk, start)
+            first, changed = None, time.time_ns() - 10 ** 10
             os.utime(desk.journal, ns=(changed, changed))
 
-        try:
-            second, _ = give_around(desk, "lock journal 1 pause", begin)
-            want(last_line(second), FAULT_21)
-            want(desk.held(), ABSENT_BEGAN)
-            want(first.communicate(SILENCE, driven.PATIENCE)[0], ABSENT_FRAMES[5:])
-        finally:
-            first.kill()
-        want((first.returncode, desk.held()), (0, ABSENT_JOURNAL))
+            def begin():
+                nonlocal first
+                first = desk.start()
+                self.assertEqual(driven.line_from(first.stdout), ABSENT_FRAMES[:5])
+                # Neither its time nor, in the last case, its length tells the new file from the old one.
+                os.utime(desk.journal, ns=(changed, changed))
+
+            try:
+                second, _ = give_around(desk, "lock journal 1 pause", begin)
+                self.assertEqual(last_line(second), FAULT_21)
+                self.assertEqual(desk.held(), ABSENT_BEGAN)
+                self.assertEqual(first.communicate(SILENCE, driven.PATIENCE)[0], ABSENT_FRAMES[5:])
+            finally:
+                first.kill()
+            self.assertEqual((first.returncode, desk.held()), (0, ABSENT_JOURNAL))
 
 
-# Journals under other names, and such as are no regular files
+class NamesTest(BenchTest):
+    """Journals under other names, and such as are no regular files."""
 
+    def test_a_link_stays_one(self):
+        (self.folder / "inner").mkdir()
+        real = self.folder / "inner" / "real.journal"
+        desk = desk_of(self.folder, ABSENT)
+        desk.journal = self.folder / "link.journal"
+        desk.journal.symlink_to("other.journal")
+        (self.folder / "other.journal").symlink_to("inner/real.journal")
+        names = ["inner", "link.journal", "orders.json", "other.journal"]
+        for start in ABSENT_STARTS:
+            real.unlink(missing_ok=True)
+            if start is not None:
+                real.write_bytes(start)
+            calls, _ = calls_of(desk, lambda variables: desk.give(SILENCE, variables))
+            check_order(calls, ABSENT_JOURNAL, start or b"")
+            self.assertEqual((real.read_bytes(), os.readlink(desk.journal)), (ABSENT_JOURNAL, "other.journal"))
+            self.assertEqual((sorted(os.listdir(self.folder)), os.listdir(self.folder / "inner")),
+                             (names, ["real.journal"]))
 
-def test_a_link_stays_one(folder):
-    (folder / "inner").mkdir()
-    real = folder / "inner" / "real.journal"
-    desk = desk_of(folder, ABSENT)
-    desk.journal = folder / "link.journal"
-    desk.journal.symlink_to("other.journal")
-    (folder / "other.journal").symlink_to("inner/real.journal")
-    names = ["inner", "link.journal", "orders.json", "other.journal"]
-    for start in ABSENT_STARTS:
-        real.unlink(missing_ok=True)
-        if start is not None:
+    def test_the_new_file_stands_beside_the_old_one(self):
+        (self.folder / "inner").mkdir()
+        real = self.folder / "inner" / "real.journal"
+        desk = desk_of(self.folder, ABSENT)
+        desk.journal = self.folder / "link.journal"
+        desk.journal.symlink_to(real)
+        for start in (b"", OLD_ABSENT_BEGAN):
             real.write_bytes(start)
-        calls, _ = calls_of(desk, lambda variables: desk.give(SILENCE, variables))
-        check_order(calls, ABSENT_JOURNAL, start or b"")
-        want((real.read_bytes(), os.readlink(desk.journal)), (ABSENT_JOURNAL, "other.journal"))
-        want((sorted(os.listdir(folder)), os.listdir(folder / "inner")), (names, ["real.journal"]))
+            self.assertEqual(desk.give(SILENCE, shim(desk, "rename new 1 kill")), Ended(-signal.SIGKILL, b"", ""))
+            self.assertEqual(real.with_name("real.journal.new").read_bytes(), in_version_2(start))
+            self.assertEqual((real.read_bytes(), new_of(desk).exists()), (start, False))
+            goes_on(desk)
+            self.assertEqual(os.listdir(self.folder / "inner"), ["real.journal"])
 
+    def test_what_is_no_regular_file_is_refused(self):
+        near, far = pty.openpty()
+        desk = desk_of(self.folder, ABSENT)
+        for name in ("/dev/null", "/dev/zero", "/dev/full", os.ttyname(far)):
+            desk.journal = pathlib.Path(name)
+            self.assertEqual(desk.give(SILENCE),
+                             Ended(2, b"", f"error: the journal is a character device: {name}\nfault 21 File\n"))
+        os.close(near)
+        os.close(far)
 
-def test_the_new_file_stands_beside_the_old_one(folder):
-    (folder / "inner").mkdir()
-    real = folder / "inner" / "real.journal"
-    desk = desk_of(folder, ABSENT)
-    desk.journal = folder / "link.journal"
-    desk.journal.symlink_to(real)
-    for start in (b"", OLD_ABSENT_BEGAN):
-        real.write_bytes(start)
-        want(desk.give(SILENCE, shim(desk, "rename new 1 kill")), Ended(-signal.SIGKILL, b"", ""))
-        want(real.with_name("real.journal.new").read_bytes(), in_version_2(start))
-        want((real.read_bytes(), new_of(desk).exists()), (start, False))
-        goes_on(desk)
-        want(os.listdir(folder / "inner"), ["real.journal"])
-
-
-def test_what_is_no_regular_file_is_refused(folder):
-    near, far = pty.openpty()
-    desk = desk_of(folder, ABSENT)
-    for name in ("/dev/null", "/dev/zero", "/dev/full", os.ttyname(far)):
-        desk.journal = pathlib.Path(name)
-        want(desk.give(SILENCE), Ended(2, b"", f"error: the journal is a character device: {name}\nfault 21 File\n"))
-    os.close(near)
-    os.close(far)
-
-
-def test_a_stream_is_refused(folder):
-    desk = desk_of(folder, ABSENT)
-    desk.journal = pathlib.Path("-")
-    told = "error: the journal has to be a file, and no stream: -\nfault 21 File\n"
-    want(desk.give(SILENCE, cwd=folder), Ended(2, b"", told))
-    want(os.listdir(folder), ["orders.json"])
-    desk.words = lambda: [desk.program, "drive", desk.orders, "./-"]
-    want(desk.give(SILENCE, cwd=folder).status, 0)
-    want((folder / "-").read_bytes(), ABSENT_JOURNAL)
+    def test_a_stream_is_refused(self):
+        desk = desk_of(self.folder, ABSENT)
+        desk.journal = pathlib.Path("-")
+        told = "error: the journal has to be a file, and no stream: -\nfault 21 File\n"
+        self.assertEqual(desk.give(SILENCE, cwd=self.folder), Ended(2, b"", told))
+        self.assertEqual(os.listdir(self.folder), ["orders.json"])
+        desk.words = lambda: [desk.program, "drive", desk.orders, "./-"]
+        self.assertEqual(desk.give(SILENCE, cwd=self.folder).status, 0)
+        self.assertEqual((self.folder / "-").read_bytes(), ABSENT_JOURNAL)

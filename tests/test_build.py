@@ -14,7 +14,7 @@ import sys
 sys.dont_write_bytecode = True
 
 import adapter_desk  # noqa: E402
-from drive_desk import want  # noqa: E402
+from base import want  # noqa: E402
 from driven import ROOT, load  # noqa: E402
 
 sys.path.insert(0, str(ROOT / "scripts"))

@@ -19,7 +19,7 @@ import adapter_desk  # noqa: E402
 from adapter_desk import (ADAPTERS, player, run, shown_frames, want_link_without_frames,  # noqa: E402
                           want_named_descriptors)
 from cases import case_of  # noqa: E402
-from drive_desk import want  # noqa: E402
+from base import want  # noqa: E402
 from driven import ROOT, simulated_link  # noqa: E402
 
 SIMULATED = ADAPTERS / "simulated_link.py"

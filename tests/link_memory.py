@@ -3,7 +3,8 @@
 import resource
 from typing import NamedTuple
 
-from drive_desk import ABSENT, ABSENT_FRAMES, GTIN, KEPT_SILENT, SILENCE, absent_records, desk_of, settings, want
+from base import BenchTest, preloaded
+from drive_desk import ABSENT, ABSENT_FRAMES, GTIN, KEPT_SILENT, SILENCE, absent_records, desk_of
 from drive_follow import following
 from driven import HEADER, Ended, Following
 from read_desk import GIVEN_17, SENT_17, TEXT_17, TOLD_17
@@ -89,15 +90,18 @@ def limit_stack():
 
 def ended_within(run, most):
     """Give how a run ends where it can't allocate more bytes at once than these."""
-    preload = {"LD_PRELOAD": str(settings["shims"] / "refuse_alloc.so"), "MOST_ALLOCATED": str(most)}
+    preload = {"LD_PRELOAD": str(preloaded("refuse_alloc")), "MOST_ALLOCATED": str(most)}
     return run.desk.give(run.answers, preload, preexec_fn=limit_stack)
 
 
-def test_small_inputs_take_little_memory(folder):
-    for name, run in limited_runs(folder / "whole").items():
-        want((name, ended_within(run, run.most)), (name, run.ended))
-        assert name != "read" or run.desk.text() == TEXT_17
-    # Within half of it none of them comes to its end, so that the limit is one.
-    for name, run in limited_runs(folder / "half").items():
-        ended = ended_within(run, run.most // 2)
-        assert ended.status == 2 and "an allocation was refused\n" in ended.told, (name, ended)
+class MemoryTest(BenchTest):
+    """What is held at once."""
+
+    def test_small_inputs_take_little_memory(self):
+        for name, run in limited_runs(self.folder / "whole").items():
+            self.assertEqual((name, ended_within(run, run.most)), (name, run.ended))
+            assert name != "read" or run.desk.text() == TEXT_17
+        # Within half of it none of them comes to its end, so that the limit is one.
+        for name, run in limited_runs(self.folder / "half").items():
+            ended = ended_within(run, run.most // 2)
+            assert ended.status == 2 and "an allocation was refused\n" in ended.told, (name, ended)

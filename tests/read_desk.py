@@ -5,7 +5,7 @@ import json
 import pathlib
 
 import driven
-from drive_desk import settings, want
+from base import settings, want
 from driven import simulated_link
 from read_plan import check_passive, wanted_read, wanted_scan, wanted_verify
 

@@ -8,10 +8,12 @@ import shutil
 import signal
 import stat
 import subprocess
+from functools import partialmethod
 
 import driven
+from base import BenchTest, preloaded, settings, want
 from drive_calls import calls_in
-from drive_desk import NOBODY, Skipped, last_line, parts, settings, want
+from drive_desk import NOBODY, last_line
 from drive_places import fill
 from driven import Ended
 from read_desk import GIVEN_17, SENT_17, SILENT, TEXT_17, TOLD_17, Reading
@@ -34,169 +36,9 @@ def goes_on(desk):
     want((desk.give(GIVEN_17), desk.text(), desk.new().exists()), (Ended(0, SENT_17, TOLD_17), TEXT_17, False))
 
 
-def test_a_new_file(folder):
-    desk = Reading(folder)
-    goes_on(desk)
-    want(mode_of(desk.bank) & ~0o666, 0)
-    want(os.listdir(folder), ["bank.hex"])
-
-
-def test_a_file_that_was_there(folder):
-    for mode in (0o640, 0o600, 0o755):
-        for before in (b"", BEFORE.encode(), TEXT_17.encode(), b"0\t" * 2048):
-            desk = Reading(folder)
-            desk.bank.write_bytes(before)
-            desk.bank.chmod(mode)
-            inode = desk.bank.stat().st_ino
-            goes_on(desk)
-            # Another file has taken its place: who has opened the old one reads that to its end.
-            want((mode, mode_of(desk.bank), desk.bank.stat().st_ino != inode), (mode, mode, True))
-            desk.bank.unlink()
-
-
-def test_a_file_that_is_no_text_of_a_bank(folder):
-    told = "error: what is there is no text of a bank: {}\nfault 21 File\n"
-    for before in (bytes(range(256)), driven.HEADER, b"[]", b"B" + bytes(40), b"0" * 4097, b"unit 5\n"):
-        desk = Reading(folder)
-        desk.bank.write_bytes(before)
-        want((before, desk.give(GIVEN_17)), (before, Ended(2, SENT_17, told.format(desk.bank))))
-        want((desk.bank.read_bytes(), desk.new().exists()), (before, False))
-
-
-def test_an_old_file_stays_whole_for_its_reader(folder):
-    desk = Reading(folder)
-    desk.bank.write_text(BEFORE)
-    with open(desk.bank) as old:
-        goes_on(desk)
-        want(old.read(), BEFORE)
-
-
-def test_another_name_of_the_file_keeps_the_old_one(folder):
-    desk = Reading(folder)
-    desk.bank.write_text(BEFORE)
-    other = folder / "other.hex"
-    os.link(desk.bank, other)
-    goes_on(desk)
-    want(other.read_text(), BEFORE)
-
-
-def test_a_silent_unit_leaves_all_as_it_is(folder):
-    for before, new in [(None, None), (BEFORE, None), (BEFORE, TEXT_17), (None, "no digits")]:
-        desk = Reading(folder)
-        for path, text in [(desk.bank, before), (desk.new(), new)]:
-            path.unlink(missing_ok=True)
-            if text is not None:
-                path.write_text(text)
-        want(desk.give(SILENCE), Ended(1, b"C301\n0B9C\n" * 8, SILENT))
-        want((desk.text(), desk.new().read_text() if desk.new().exists() else None), (before, new))
-
-
-def test_a_symbolic_link(folder):
-    desk = Reading(folder)
-    real = folder / "real.hex"
-    for target in (real, "real.hex"):
-        real.write_text(BEFORE)
-        desk.bank.symlink_to(target)
-        goes_on(desk)
-        want((desk.bank.is_symlink(), real.read_text()), (True, TEXT_17))
-        want(sorted(os.listdir(folder)), ["bank.hex", "real.hex"])
-        desk.bank.unlink()
-
-
-def test_a_link_that_leads_nowhere(folder):
-    desk = Reading(folder)
-    desk.bank.symlink_to(folder / "nowhere.hex")
-    ended = desk.give(GIVEN_17)
-    assert ended.status in (0, 2) and (desk.text() == TEXT_17) == (ended.status == 0), (ended, desk.text())
-    want(desk.new().exists(), False)
-
-
-def test_a_new_file_that_was_left(folder):
-    for left in LEFT:
-        for before in (None, BEFORE):
-            desk = Reading(folder)
-            desk.bank.unlink(missing_ok=True)
-            if before:
-                desk.bank.write_text(before)
-                desk.bank.chmod(0o640)
-            desk.new().write_text(left)
-            goes_on(desk)
-            want((left, mode_of(desk.bank) if before else 0o640), (left, 0o640))
-
-
 def refused(desk):
     """Run the command where something foreign stands in the way of the new file, which has to say so."""
     want(desk.give(GIVEN_17), Ended(2, SENT_17, f"error: {FOREIGN}: {desk.new()}\nfault 21 File\n"))
-
-
-def test_a_new_file_that_is_foreign(folder):
-    for text in NOT_LEFT:
-        for before in (None, BEFORE):
-            desk = Reading(folder)
-            if before:
-                desk.bank.write_text(before)
-            desk.new().write_bytes(text.encode())
-            refused(desk)
-            want((text, desk.new().read_bytes(), desk.text()), (text, text.encode(), before))
-            desk.bank.unlink(missing_ok=True)
-            desk.new().unlink()
-
-
-def test_a_new_file_that_is_no_regular_file_of_its_own(folder):
-    desk = Reading(folder)
-    other = folder / "other.hex"
-    other.write_text(TEXT_17)
-    for make in (lambda: desk.new().symlink_to(other), lambda: os.link(other, desk.new()), desk.new().mkdir,
-                 lambda: os.mkfifo(desk.new()), lambda: desk.new().symlink_to(folder / "nowhere")):
-        make()
-        refused(desk)
-        want((other.read_text(), desk.text(), os.path.lexists(desk.new())), (TEXT_17, None, True))
-        (os.rmdir if desk.new().is_dir() else os.unlink)(desk.new())
-    goes_on(desk)
-
-
-def test_a_folder(folder):
-    desk = Reading(folder)
-    desk.bank.mkdir()
-    ended = desk.give(GIVEN_17)
-    want(last_line(ended), (2, SENT_17, "fault 21 File"))
-    assert ended.told.startswith(f"error: the file can't be used: {desk.bank}: "), ended
-    want((os.listdir(desk.bank), desk.new().exists()), ([], False))
-
-
-def test_a_named_pipe(folder):
-    desk = Reading(folder)
-    os.mkfifo(desk.bank)
-    told = f"error: HEXFILE is a named pipe: {desk.bank}\nfault 21 File\n"
-    want(desk.give(GIVEN_17, timeout=5), Ended(2, SENT_17, told))
-    want((desk.bank.is_fifo(), desk.new().exists()), (True, False))
-
-
-def test_devices(folder):
-    for name, status, told in [("/dev/null", 0, TOLD_17), ("/dev/full", 2, "fault 21 File\n")]:
-        desk = Reading(folder)
-        desk.bank = pathlib.Path(name)
-        ended = desk.give(GIVEN_17)
-        want((name, ended.status, ended.sent, ended.told.splitlines(keepends=True)[-1]), (name, status, SENT_17, told))
-        want((desk.bank.is_char_device(), desk.new().exists()), (True, False))
-
-
-def test_names_in_the_working_folder(folder):
-    desk = Reading(folder)
-    bank, desk.bank = desk.bank, pathlib.Path("bank.hex")
-    want(desk.give(GIVEN_17, cwd=folder), Ended(0, SENT_17, TOLD_17))
-    want(bank.read_text(), TEXT_17)
-
-
-def test_a_place_that_is_not_there(folder):
-    desk = Reading(folder)
-    (folder / "file").write_text("")
-    for name in (folder / "none" / "bank.hex", folder / "file" / "bank.hex", folder / ("x" * 300)):
-        desk.bank = name
-        want(last_line(desk.give(GIVEN_17)), (2, SENT_17, "fault 21 File"))
-    desk.words = lambda: [desk.program, "read", "5", ""]
-    want(last_line(desk.give(GIVEN_17)), (2, SENT_17, "fault 21 File"))
-    want(os.listdir(folder), ["file"])
 
 
 def as_nobody(desk):
@@ -209,60 +51,204 @@ def as_nobody(desk):
     return desk.give(GIVEN_17, user=NOBODY, group=NOBODY, extra_groups=[])
 
 
-def test_a_folder_without_rights(folder):
-    folder.chmod(0o755)
-    desk = Reading(folder)
-    for before in (None, BEFORE):
-        if before:
-            desk.bank.write_text(before)
-        told = f"error: no file can be made in the folder: {folder}: Permission denied (os error 13)\nfault 21 File\n"
-        want(as_nobody(desk), Ended(2, SENT_17, told))
-        want((desk.text(), desk.new().exists()), (before, False))
+class PlacesTest(BenchTest):
+    """Files of each kind in the place of HEXFILE."""
 
+    def test_a_new_file(self):
+        desk = Reading(self.folder)
+        goes_on(desk)
+        self.assertEqual(mode_of(desk.bank) & ~0o666, 0)
+        self.assertEqual(os.listdir(self.folder), ["bank.hex"])
 
-def test_a_full_file_system(folder):
-    desk, room = Reading(folder), folder / "room"
-    room.mkdir()
-    if subprocess.run(["mount", "-t", "tmpfs", "-o", "size=16k", "none", room], capture_output=True).returncode:
-        raise Skipped("a small file system can't be mounted")
-    try:
-        desk.bank = room / "bank.hex"
-        for before in (None, BEFORE):
-            if before:
-                desk.bank.write_text(before)
-            fill(room / "filler")
-            want(last_line(desk.give(GIVEN_17)), (2, SENT_17, "fault 21 File"))
-            want(desk.text(), before)
-            (room / "filler").unlink()
+    def test_a_file_that_was_there(self):
+        for mode in (0o640, 0o600, 0o755):
+            for before in (b"", BEFORE.encode(), TEXT_17.encode(), b"0\t" * 2048):
+                desk = Reading(self.folder)
+                desk.bank.write_bytes(before)
+                desk.bank.chmod(mode)
+                inode = desk.bank.stat().st_ino
+                goes_on(desk)
+                # Another file has taken its place: who has opened the old one reads that to its end.
+                self.assertEqual((mode, mode_of(desk.bank), desk.bank.stat().st_ino != inode), (mode, mode, True))
+                desk.bank.unlink()
+
+    def test_a_file_that_is_no_text_of_a_bank(self):
+        told = "error: what is there is no text of a bank: {}\nfault 21 File\n"
+        for before in (bytes(range(256)), driven.HEADER, b"[]", b"B" + bytes(40), b"0" * 4097, b"unit 5\n"):
+            desk = Reading(self.folder)
+            desk.bank.write_bytes(before)
+            self.assertEqual((before, desk.give(GIVEN_17)), (before, Ended(2, SENT_17, told.format(desk.bank))))
+            self.assertEqual((desk.bank.read_bytes(), desk.new().exists()), (before, False))
+
+    def test_an_old_file_stays_whole_for_its_reader(self):
+        desk = Reading(self.folder)
+        desk.bank.write_text(BEFORE)
+        with open(desk.bank) as old:
             goes_on(desk)
+            self.assertEqual(old.read(), BEFORE)
+
+    def test_another_name_of_the_file_keeps_the_old_one(self):
+        desk = Reading(self.folder)
+        desk.bank.write_text(BEFORE)
+        other = self.folder / "other.hex"
+        os.link(desk.bank, other)
+        goes_on(desk)
+        self.assertEqual(other.read_text(), BEFORE)
+
+    def test_a_silent_unit_leaves_all_as_it_is(self):
+        for before, new in [(None, None), (BEFORE, None), (BEFORE, TEXT_17), (None, "no digits")]:
+            desk = Reading(self.folder)
+            for path, text in [(desk.bank, before), (desk.new(), new)]:
+                path.unlink(missing_ok=True)
+                if text is not None:
+                    path.write_text(text)
+            self.assertEqual(desk.give(SILENCE), Ended(1, b"C301\n0B9C\n" * 8, SILENT))
+            self.assertEqual((desk.text(), desk.new().read_text() if desk.new().exists() else None), (before, new))
+
+    def test_a_symbolic_link(self):
+        desk = Reading(self.folder)
+        real = self.folder / "real.hex"
+        for target in (real, "real.hex"):
+            real.write_text(BEFORE)
+            desk.bank.symlink_to(target)
+            goes_on(desk)
+            self.assertEqual((desk.bank.is_symlink(), real.read_text()), (True, TEXT_17))
+            self.assertEqual(sorted(os.listdir(self.folder)), ["bank.hex", "real.hex"])
             desk.bank.unlink()
-    finally:
-        subprocess.run(["umount", room], check=True)
 
+    def test_a_link_that_leads_nowhere(self):
+        desk = Reading(self.folder)
+        desk.bank.symlink_to(self.folder / "nowhere.hex")
+        ended = desk.give(GIVEN_17)
+        assert ended.status in (0, 2) and (desk.text() == TEXT_17) == (ended.status == 0), (ended, desk.text())
+        self.assertEqual(desk.new().exists(), False)
 
-def test_a_limit_of_file_sizes(folder):
-    for size in (0, 1, 30, len(TEXT_17) - 1):
-        for is_restored in (True, False):
+    def test_a_new_file_that_was_left(self):
+        for left in LEFT:
             for before in (None, BEFORE):
-                desk = Reading(folder)
+                desk = Reading(self.folder)
                 desk.bank.unlink(missing_ok=True)
                 if before:
                     desk.bank.write_text(before)
-
-                def limit():
-                    resource.setrlimit(resource.RLIMIT_FSIZE, (size, size))
-
-                ended = desk.give(GIVEN_17, preexec_fn=limit, restore_signals=is_restored)
-                want((size, ended.status, desk.text()), (size, -signal.SIGXFSZ if is_restored else 2, before))
+                    desk.bank.chmod(0o640)
+                desk.new().write_text(left)
                 goes_on(desk)
+                self.assertEqual((left, mode_of(desk.bank) if before else 0o640), (left, 0o640))
 
+    def test_a_new_file_that_is_foreign(self):
+        for text in NOT_LEFT:
+            for before in (None, BEFORE):
+                desk = Reading(self.folder)
+                if before:
+                    desk.bank.write_text(before)
+                desk.new().write_bytes(text.encode())
+                refused(desk)
+                self.assertEqual((text, desk.new().read_bytes(), desk.text()), (text, text.encode(), before))
+                desk.bank.unlink(missing_ok=True)
+                desk.new().unlink()
 
-# Each call
+    def test_a_new_file_that_is_no_regular_file_of_its_own(self):
+        desk = Reading(self.folder)
+        other = self.folder / "other.hex"
+        other.write_text(TEXT_17)
+        for make in (lambda: desk.new().symlink_to(other), lambda: os.link(other, desk.new()), desk.new().mkdir,
+                     lambda: os.mkfifo(desk.new()), lambda: desk.new().symlink_to(self.folder / "nowhere")):
+            make()
+            refused(desk)
+            self.assertEqual((other.read_text(), desk.text(), os.path.lexists(desk.new())), (TEXT_17, None, True))
+            (os.rmdir if desk.new().is_dir() else os.unlink)(desk.new())
+        goes_on(desk)
+
+    def test_a_folder(self):
+        desk = Reading(self.folder)
+        desk.bank.mkdir()
+        ended = desk.give(GIVEN_17)
+        self.assertEqual(last_line(ended), (2, SENT_17, "fault 21 File"))
+        assert ended.told.startswith(f"error: the file can't be used: {desk.bank}: "), ended
+        self.assertEqual((os.listdir(desk.bank), desk.new().exists()), ([], False))
+
+    def test_a_named_pipe(self):
+        desk = Reading(self.folder)
+        os.mkfifo(desk.bank)
+        told = f"error: HEXFILE is a named pipe: {desk.bank}\nfault 21 File\n"
+        self.assertEqual(desk.give(GIVEN_17, timeout=5), Ended(2, SENT_17, told))
+        self.assertEqual((desk.bank.is_fifo(), desk.new().exists()), (True, False))
+
+    def test_devices(self):
+        for name, status, told in [("/dev/null", 0, TOLD_17), ("/dev/full", 2, "fault 21 File\n")]:
+            desk = Reading(self.folder)
+            desk.bank = pathlib.Path(name)
+            ended = desk.give(GIVEN_17)
+            self.assertEqual((name, ended.status, ended.sent, ended.told.splitlines(keepends=True)[-1]),
+                             (name, status, SENT_17, told))
+            self.assertEqual((desk.bank.is_char_device(), desk.new().exists()), (True, False))
+
+    def test_names_in_the_working_folder(self):
+        desk = Reading(self.folder)
+        bank, desk.bank = desk.bank, pathlib.Path("bank.hex")
+        self.assertEqual(desk.give(GIVEN_17, cwd=self.folder), Ended(0, SENT_17, TOLD_17))
+        self.assertEqual(bank.read_text(), TEXT_17)
+
+    def test_a_place_that_is_not_there(self):
+        desk = Reading(self.folder)
+        (self.folder / "file").write_text("")
+        for name in (self.folder / "none" / "bank.hex", self.folder / "file" / "bank.hex", self.folder / ("x" * 300)):
+            desk.bank = name
+            self.assertEqual(last_line(desk.give(GIVEN_17)), (2, SENT_17, "fault 21 File"))
+        desk.words = lambda: [desk.program, "read", "5", ""]
+        self.assertEqual(last_line(desk.give(GIVEN_17)), (2, SENT_17, "fault 21 File"))
+        self.assertEqual(os.listdir(self.folder), ["file"])
+
+    def test_a_folder_without_rights(self):
+        self.folder.chmod(0o755)
+        desk = Reading(self.folder)
+        for before in (None, BEFORE):
+            if before:
+                desk.bank.write_text(before)
+            told = f"error: no file can be made in the folder: {self.folder}: Permission denied (os error 13)\n"
+            self.assertEqual(as_nobody(desk), Ended(2, SENT_17, told + "fault 21 File\n"))
+            self.assertEqual((desk.text(), desk.new().exists()), (before, False))
+
+    def test_a_full_file_system(self):
+        desk, room = Reading(self.folder), self.folder / "room"
+        room.mkdir()
+        if subprocess.run(["mount", "-t", "tmpfs", "-o", "size=16k", "none", room], capture_output=True).returncode:
+            self.skipTest("a small file system can't be mounted")
+        try:
+            desk.bank = room / "bank.hex"
+            for before in (None, BEFORE):
+                if before:
+                    desk.bank.write_text(before)
+                fill(room / "filler")
+                self.assertEqual(last_line(desk.give(GIVEN_17)), (2, SENT_17, "fault 21 File"))
+                self.assertEqual(desk.text(), before)
+                (room / "filler").unlink()
+                goes_on(desk)
+                desk.bank.unlink()
+        finally:
+            subprocess.run(["umount", room], check=True)
+
+    def test_a_limit_of_file_sizes(self):
+        for size in (0, 1, 30, len(TEXT_17) - 1):
+            for is_restored in (True, False):
+                for before in (None, BEFORE):
+                    desk = Reading(self.folder)
+                    desk.bank.unlink(missing_ok=True)
+                    if before:
+                        desk.bank.write_text(before)
+
+                    def limit():
+                        resource.setrlimit(resource.RLIMIT_FSIZE, (size, size))
+
+                    ended = desk.give(GIVEN_17, preexec_fn=limit, restore_signals=is_restored)
+                    self.assertEqual((size, ended.status, desk.text()),
+                                     (size, -signal.SIGXFSZ if is_restored else 2, before))
+                    goes_on(desk)
 
 
 def shim(desk, act=None, log=None):
     """Give the variables that preload the shim, to which HEXFILE is the journal."""
-    variables = {"LD_PRELOAD": settings["shims"] / "drive_shim.so", "DRIVE_SHIM_JOURNAL": desk.bank,
+    variables = {"LD_PRELOAD": preloaded("drive_shim"), "DRIVE_SHIM_JOURNAL": desk.bank,
                  "DRIVE_SHIM_ORDERS": desk.orders, "DRIVE_SHIM_ACT": act, "DRIVE_SHIM_LOG": log}
     return {name: str(value) for name, value in variables.items() if value is not None}
 
@@ -307,81 +293,84 @@ def check_whole(desk, call, start, ended):
     assert left == start[1] or TEXT_17.startswith(left), (call, ended, left)
 
 
-@parts(2)
-def test_each_call_failing(folder, part, _):
-    for desk, call, start, ended in each_call_spoiled(folder, "fail", (errno.EIO, errno.ENOSPC)[part]):
-        lines = {"in": ["drive fault 2 Link"], "out": ["drive fault 2 Link"], "err": [""]}
-        assert ended.status == 2 and last_line(ended)[2] in lines.get(call.target, ["fault 21 File"]), (call, ended)
-        assert SENT_17.startswith(ended.sent), (call, ended)
-        is_at_the_start = call.target == "folder" and ended.sent == b""
-        assert call.target in ("in", "out") or ended.sent == SENT_17 or is_at_the_start, (call, ended)
-        check_whole(desk, call, start, ended)
-        assert call.target not in ("in", "out") or desk.text() == start[0], (call, ended)
-        goes_on(desk)
+class CallsTest(BenchTest):
+    """Each call failing, cut short, or the last one, and readings beside each other."""
 
-
-def test_interrupted_calls_change_nothing(folder):
-    for desk, call, _, ended in each_call_spoiled(folder, "fail", errno.EINTR):
-        want((call, ended, desk.text()), (call, Ended(0, SENT_17, TOLD_17), TEXT_17))
-
-
-def test_short_calls_change_nothing(folder):
-    for desk, call, _, ended in each_call_spoiled(folder, "short"):
-        want((call, ended, desk.text()), (call, Ended(0, SENT_17, TOLD_17), TEXT_17))
-    desk = Reading(folder)
-    for kind, target in [("write", "new"), ("write", "out"), ("write", "err"), ("write", "any"), ("read", "any")]:
-        put(desk, (BEFORE, "10 A1"))
-        ended = desk.give(GIVEN_17, shim(desk, f"{kind} {target} 0 short"))
-        want((kind, target, ended, desk.text()), (kind, target, Ended(0, SENT_17, TOLD_17), TEXT_17))
-
-
-@parts(2)
-def test_kills_at_each_call(folder, part, _):
-    for desk, call, start, ended in each_call_spoiled(folder, ("kill", "killed")[part]):
-        want((call, ended.status), (call, -signal.SIGKILL))
-        check_whole(desk, call, start, ended)
-        goes_on(desk)
-
-
-def test_kills_within_a_write(folder):
-    for length in range(1, len(TEXT_17)):
-        for start in STARTS:
-            desk = Reading(folder)
-            put(desk, start)
-            ended = desk.give(GIVEN_17, shim(desk, f"write new 1 torn {length}"))
-            want((ended.status, desk.text(), desk.new().read_text()), (-signal.SIGKILL, start[0], TEXT_17[:length]))
+    def each_call_failing(self, part):
+        for desk, call, start, ended in each_call_spoiled(self.folder, "fail", (errno.EIO, errno.ENOSPC)[part]):
+            lines = {"in": ["drive fault 2 Link"], "out": ["drive fault 2 Link"], "err": [""]}
+            assert ended.status == 2 and last_line(ended)[2] in lines.get(call.target, ["fault 21 File"]), (call, ended)
+            assert SENT_17.startswith(ended.sent), (call, ended)
+            is_at_the_start = call.target == "folder" and ended.sent == b""
+            assert call.target in ("in", "out") or ended.sent == SENT_17 or is_at_the_start, (call, ended)
+            check_whole(desk, call, start, ended)
+            assert call.target not in ("in", "out") or desk.text() == start[0], (call, ended)
             goes_on(desk)
 
+    test_each_call_failing_part_1 = partialmethod(each_call_failing, 0)
+    test_each_call_failing_part_2 = partialmethod(each_call_failing, 1)
 
-def test_the_file_is_on_the_disk_before_it_is_told(folder):
-    desk = Reading(folder)
-    for start in STARTS:
-        calls = [(call.kind, call.target) for call in calls_of(desk, start)]
-        written = [at for at, call in enumerate(calls) if call == ("write", "new")]
-        synced, named = calls.index(("sync", "new")), calls.index(("rename", "new"))
-        folder_synced, told = calls.index(("sync", "folder")), calls.index(("write", "err"))
-        assert written[-1] < synced < named < folder_synced < told, calls
-        assert not any(target in ("journal", "old") and kind in ("write", "cut") for kind, target in calls), calls
-        # Nothing is done to a file before the unit has been read.
-        last = max(at for at, call in enumerate(calls) if call[1] in ("in", "out"))
-        assert not any(target in ("journal", "new") for _, target in calls[:last]), calls
+    def test_interrupted_calls_change_nothing(self):
+        for desk, call, _, ended in each_call_spoiled(self.folder, "fail", errno.EINTR):
+            self.assertEqual((call, ended, desk.text()), (call, Ended(0, SENT_17, TOLD_17), TEXT_17))
 
+    def test_short_calls_change_nothing(self):
+        for desk, call, _, ended in each_call_spoiled(self.folder, "short"):
+            self.assertEqual((call, ended, desk.text()), (call, Ended(0, SENT_17, TOLD_17), TEXT_17))
+        desk = Reading(self.folder)
+        for kind, target in [("write", "new"), ("write", "out"), ("write", "err"), ("write", "any"), ("read", "any")]:
+            put(desk, (BEFORE, "10 A1"))
+            ended = desk.give(GIVEN_17, shim(desk, f"{kind} {target} 0 short"))
+            self.assertEqual((kind, target, ended, desk.text()), (kind, target, Ended(0, SENT_17, TOLD_17), TEXT_17))
 
-def test_two_readings_at_once(folder):
-    # The first stops once it has the new file: the second one is refused, and then the first one goes on.
-    desk = Reading(folder)
-    desk.bank.write_text(BEFORE)
-    first = desk.start(shim(desk, "sync new 1 pause"))
-    try:
-        first.stdin.write(GIVEN_17)
-        first.stdin.close()
-        want(os.waitid(os.P_PID, first.pid, os.WSTOPPED | os.WEXITED | os.WNOWAIT).si_code, os.CLD_STOPPED)
-        told = f"error: the file is in use by another reading of a unit: {desk.new()}\nfault 21 File\n"
-        want((desk.give(GIVEN_17), desk.text()), (Ended(2, SENT_17, told), BEFORE))
-        first.send_signal(signal.SIGCONT)
-        sent, said, status = first.stdout.read(), first.stderr.read().decode(), first.wait(driven.PATIENCE)
-        want((Ended(status, sent, said), desk.text()), (Ended(0, SENT_17, TOLD_17), TEXT_17))
-    finally:
-        first.kill()
-        first.stdout.close()
-        first.stderr.close()
+    def kills_at_each_call(self, part):
+        for desk, call, start, ended in each_call_spoiled(self.folder, ("kill", "killed")[part]):
+            self.assertEqual((call, ended.status), (call, -signal.SIGKILL))
+            check_whole(desk, call, start, ended)
+            goes_on(desk)
+
+    test_kills_at_each_call_part_1 = partialmethod(kills_at_each_call, 0)
+    test_kills_at_each_call_part_2 = partialmethod(kills_at_each_call, 1)
+
+    def test_kills_within_a_write(self):
+        for length in range(1, len(TEXT_17)):
+            for start in STARTS:
+                desk = Reading(self.folder)
+                put(desk, start)
+                ended = desk.give(GIVEN_17, shim(desk, f"write new 1 torn {length}"))
+                self.assertEqual((ended.status, desk.text(), desk.new().read_text()),
+                                 (-signal.SIGKILL, start[0], TEXT_17[:length]))
+                goes_on(desk)
+
+    def test_the_file_is_on_the_disk_before_it_is_told(self):
+        desk = Reading(self.folder)
+        for start in STARTS:
+            calls = [(call.kind, call.target) for call in calls_of(desk, start)]
+            written = [at for at, call in enumerate(calls) if call == ("write", "new")]
+            synced, named = calls.index(("sync", "new")), calls.index(("rename", "new"))
+            folder_synced, told = calls.index(("sync", "folder")), calls.index(("write", "err"))
+            assert written[-1] < synced < named < folder_synced < told, calls
+            assert not any(target in ("journal", "old") and kind in ("write", "cut") for kind, target in calls), calls
+            # Nothing is done to a file before the unit has been read.
+            last = max(at for at, call in enumerate(calls) if call[1] in ("in", "out"))
+            assert not any(target in ("journal", "new") for _, target in calls[:last]), calls
+
+    def test_two_readings_at_once(self):
+        # The first stops once it has the new file: the second one is refused, and then the first one goes on.
+        desk = Reading(self.folder)
+        desk.bank.write_text(BEFORE)
+        first = desk.start(shim(desk, "sync new 1 pause"))
+        try:
+            first.stdin.write(GIVEN_17)
+            first.stdin.close()
+            self.assertEqual(os.waitid(os.P_PID, first.pid, os.WSTOPPED | os.WEXITED | os.WNOWAIT).si_code,
+                             os.CLD_STOPPED)
+            told = f"error: the file is in use by another reading of a unit: {desk.new()}\nfault 21 File\n"
+            self.assertEqual((desk.give(GIVEN_17), desk.text()), (Ended(2, SENT_17, told), BEFORE))
+            first.send_signal(signal.SIGCONT)
+            sent, said, status = first.stdout.read(), first.stderr.read().decode(), first.wait(driven.PATIENCE)
+            self.assertEqual((Ended(status, sent, said), desk.text()), (Ended(0, SENT_17, TOLD_17), TEXT_17))
+        finally:
+            first.kill()
+            first.stdout.close()
+            first.stderr.close()

@@ -3,10 +3,11 @@
 import copy
 import signal
 import subprocess
+from functools import partialmethod
 
 import driven
 from adapter_serial import Interface
-from drive_desk import parts, want
+from base import BenchTest, want
 from driven import Ended, simulated_link
 from read_desk import (
     ANSWERS_17,
@@ -35,37 +36,6 @@ def told_of(length):
     return f"unit 5 bytes {length}\n"
 
 
-def test_the_frames_of_a_bank_of_17(folder):
-    desk = Reading(folder)
-    ended = desk.over(bus_of(simulated_link.Unit(5, BANK_17)))
-    want((ended, desk.text()), (Ended(0, SENT_17, TOLD_17), TEXT_17))
-
-
-def test_banks_of_each_kind_of_length(folder):
-    for length, frames in FRAMES.items():
-        for unit in (5, 0, 63):
-            desk, bus = Reading(folder, unit=unit), bus_of(unit_of(length, unit), unit_of(60, 6))
-            wanted = desk.run(bus)
-            want((length, bus.frames, wanted.status, wanted.told), (length, frames, 0, f"unit {unit} bytes {length}\n"))
-            want(bytes.fromhex(desk.text()), varied_bank(length))
-            lines = desk.text().split("\n")
-            want((lines.pop(), [len(line) for line in lines]),
-                 ("", [47] * (length // 16) + [3 * (length % 16) - 1] * (length % 16 > 0)))
-
-
-def test_an_absent_unit(folder):
-    desk = Reading(folder)
-    for before in (None, "AC DC 05"):
-        for bus in (bus_of(), bus_of(unit_of(17, 6))):
-            if before:
-                desk.bank.write_text(before)
-            want((desk.over(bus), desk.text()), (Ended(1, b"C301\n0B9C\n" * 8, SILENT), before))
-
-
-def test_two_units_at_one_address(folder):
-    want(Reading(folder).run(bus_of(unit_of(17), unit_of(18))).told, SILENT)
-
-
 def lose_each(folder, length, part, count):
     """Lose each frame, and each answer, of a bank's reading in turn."""
     for frame in range(1 + part, FRAMES[length] + 1, count):
@@ -75,54 +45,6 @@ def lose_each(folder, length, part, count):
             want((losses, wanted.status, wanted.told), (losses, 0, told_of(length)))
             want((losses, desk.text()), (losses, text_of(varied_bank(length))))
             assert bus.frames <= FRAMES[length] + 22, (losses, bus.frames)
-
-
-def test_each_loss_in_a_bank_of_17(folder):
-    lose_each(folder, 17, 0, 1)
-
-
-@parts(4)
-def test_each_loss_in_a_bank_of_120(folder, part, count):
-    lose_each(folder, 120, part, count)
-
-
-def test_frames_beyond_a_loss_by_hand(folder):
-    for losses, frames in [({"lost_answers": [2]}, 31), ({"lost_frames": [1]}, 31), ({"lost_answers": [5]}, 34),
-                           ({"lost_answers": [7]}, 36), ({"lost_answers": [1, 3, 8, 10]}, 29),
-                           ({"lost_answers": [28]}, 50), ({"lost_answers": [29]}, 51), ({"lost_frames": [12]}, 34)]:
-        bus = bus_of(unit_of(17), **losses)
-        want((losses, Reading(folder).run(bus).status, bus.frames), (losses, 0, frames))
-
-
-def test_seven_and_eight_misses_of_a_block(folder):
-    wanted_at = [(1, number) for number in (2, 4, 5, 6, 7)] + [(8, number) for number in (2, 4, 5, 12, 20, 21, 22)]
-    for first, number in wanted_at:
-        for misses in (7, 8):
-            lost = [first - 1 + number * turn for turn in range(1, misses + 1)]
-            desk, bus = Reading(folder), bus_of(unit_of(17), lost_answers=lost)
-            wanted = desk.run(bus)
-            is_silent = misses == 8
-            frames = first - 1 + 8 * number if is_silent else 29 + 7 * number
-            want((first, number, misses, bus.frames), (first, number, misses, frames))
-            want((wanted.told, desk.text()), (SILENT, None) if is_silent else (TOLD_17, text_of(varied_bank(17))))
-
-
-def test_seven_misses_of_each_block(folder):
-    # The first block is read in the frames 15 to 21.
-    lost = [before + 2 * turn for before in (0, 21) for turn in range(1, 8)]
-    bus = bus_of(unit_of(17), lost_answers=lost)
-    want((Reading(folder).run(bus).told, bus.frames), (TOLD_17, 29 + 28))
-
-
-def test_power_lost_before_each_frame(folder):
-    for length in (17, 120):
-        for frame in range(1, FRAMES[length] + 1):
-            unit = WithBank0(5, varied_bank(length))
-            desk, bus = Reading(folder), bus_of(unit, lost_power=[(5, frame)])
-            wanted = desk.run(bus)
-            want((frame, wanted.status, wanted.told), (frame, 0, told_of(length)))
-            want((frame, desk.text()), (frame, text_of(varied_bank(length))))
-            assert bus.frames <= FRAMES[length] + 22, (frame, bus.frames)
 
 
 class Noting(simulated_link.Bus):
@@ -138,76 +60,147 @@ class Noting(simulated_link.Bus):
         return self.answers[-1]
 
 
-def test_six_frames_that_a_bank_0_answers(folder):
-    # From the loss on DTR1 is 00h: the block is read in bank 0, and of all its frames only the last one shows that.
-    for lost, block, frames in [(3, (0x00, 1), 36), (4, (0x00, 1), 36), (5, (0x00, 1), 36), (10, (0x01, 16), 51)]:
-        bus = Noting([WithBank0(5, BANK_17)], lost_power=[(5, lost)])
-        desk = Reading(folder)
-        ended = desk.over(bus)
-        want((lost, ended.status, ended.told, desk.text()), (lost, 0, TOLD_17, TEXT_17))
-        want((lost, bus.frames), (lost, frames))
-        wished = [wish for _, wish in block_frames(5, *block)]
-        found = bus.answers[7 * block[0]:][:len(wished)]
-        is_met = [wish is None or answer in wish for answer, wish in zip(found, wished)]
-        want((lost, is_met, found[-1]), (lost, [True] * (len(wished) - 1) + [False], 0))
-        want(bytes(found[4:-2]), bytes(byte ^ 0x55 for byte in BANK_17[block[0]:block[0] + block[1]]))
+class ReadTest(BenchTest):
+    """Banks that are read."""
 
+    def test_the_frames_of_a_bank_of_17(self):
+        desk = Reading(self.folder)
+        ended = desk.over(bus_of(simulated_link.Unit(5, BANK_17)))
+        self.assertEqual((ended, desk.text()), (Ended(0, SENT_17, TOLD_17), TEXT_17))
 
-def test_a_last_location_that_changes(folder):
-    # What 00h said at first holds. Where it says more than there is, what isn't there stays silent.
-    bank = varied_bank(120)
-    for changes, status, told, data, frames in [
-            ({8: (0x00, 0x10)}, 0, told_of(120), bank, 174),
-            ({8: (0x00, 0xFF)}, 0, told_of(120), bank, 174),
-            ({1: (0x00, 0x10)}, 0, TOLD_17, b"\x10" + bank[1:17], 29),
-            ({1: (0x00, 0x00)}, 0, told_of(1), b"\x00", 7),
-            ({1: (0x00, 0x01)}, 0, told_of(2), b"\x01" + bank[1:2], 14),
-            ({1: (0x00, 0x78)}, 1, SILENT, None, 7 + 7 * 22 + 8 * 12),
-            ({1: (0x00, 0xFF)}, 1, SILENT, None, 7 + 7 * 22 + 8 * 12),
-            ({6: (0x00, 0x00), 40: (0x55, 0x99)}, 0, told_of(120), bank[:0x55] + b"\x99" + bank[0x56:], 174)]:
-        desk, bus = Reading(folder), bus_of(Changing(5, bank, changes))
-        wanted = desk.run(bus)
-        want((changes, wanted.status, wanted.told, bus.frames), (changes, status, told, frames))
-        want((changes, desk.text()), (changes, None if data is None else text_of(data)))
+    def test_banks_of_each_kind_of_length(self):
+        for length, frames in FRAMES.items():
+            for unit in (5, 0, 63):
+                desk, bus = Reading(self.folder, unit=unit), bus_of(unit_of(length, unit), unit_of(60, 6))
+                wanted = desk.run(bus)
+                self.assertEqual((length, bus.frames, wanted.status, wanted.told),
+                                 (length, frames, 0, f"unit {unit} bytes {length}\n"))
+                self.assertEqual(bytes.fromhex(desk.text()), varied_bank(length))
+                lines = desk.text().split("\n")
+                self.assertEqual((lines.pop(), [len(line) for line in lines]),
+                                 ("", [47] * (length // 16) + [3 * (length % 16) - 1] * (length % 16 > 0)))
 
-
-def test_a_bank_whose_00h_is_ff(folder):
-    for length, changes in [(255, {1: (0x00, 0xFF)}), (255, {1: (0x00, 0xFE)})]:
-        bus, desk = bus_of(Changing(5, varied_bank(length), changes)), Reading(folder)
-        want((desk.run(bus).told, bus.frames), (told_of(255), 357))
-        want(bytes.fromhex(desk.text()), bytes([changes[1][1]]) + varied_bank(length)[1:])
-
-
-def test_a_unit_that_has_no_bank_1(folder):
-    unit = unit_of(17)
-    del unit.banks[1]
-    for command, told, frames in [("read", SILENT, 40), ("scan", "units 0\n", 1024 - 16 + 40)]:
-        bus = bus_of(unit)
-        want((command, Reading(folder, command).run(bus).told, bus.frames), (command, told, frames))
-
-
-def test_read_again_takes_the_place(folder):
-    desk = Reading(folder)
-    for length in (120, 17, 255):
-        desk.over(bus_of(unit_of(length)))
-        want(desk.text(), text_of(varied_bank(length)))
-
-
-def test_kills_at_each_frame(folder):
-    for before in (None, "AC DC 05"):
-        for frame in range(1, 30):
-            for moment in ("sent", "carried"):
-                desk, bus = Reading(folder), bus_of(unit_of(17))
-                desk.bank.unlink(missing_ok=True)
+    def test_an_absent_unit(self):
+        desk = Reading(self.folder)
+        for before in (None, "AC DC 05"):
+            for bus in (bus_of(), bus_of(unit_of(17, 6))):
                 if before:
                     desk.bank.write_text(before)
-                ended = desk.over(bus, (frame, moment))
-                want((frame, ended.status, ended.told), (frame, -signal.SIGKILL, ""))
-                want((desk.text(), desk.new().exists()), (before, False))
-                want((desk.over(bus).told, desk.text()), (TOLD_17, text_of(varied_bank(17))))
+                self.assertEqual((desk.over(bus), desk.text()), (Ended(1, b"C301\n0B9C\n" * 8, SILENT), before))
 
+    def test_two_units_at_one_address(self):
+        self.assertEqual(Reading(self.folder).run(bus_of(unit_of(17), unit_of(18))).told, SILENT)
 
-# `scan`
+    def test_each_loss_in_a_bank_of_17(self):
+        lose_each(self.folder, 17, 0, 1)
+
+    def each_loss_in_a_bank_of_120(self, part, count):
+        lose_each(self.folder, 120, part, count)
+
+    test_each_loss_in_a_bank_of_120_part_1 = partialmethod(each_loss_in_a_bank_of_120, 0, 4)
+    test_each_loss_in_a_bank_of_120_part_2 = partialmethod(each_loss_in_a_bank_of_120, 1, 4)
+    test_each_loss_in_a_bank_of_120_part_3 = partialmethod(each_loss_in_a_bank_of_120, 2, 4)
+    test_each_loss_in_a_bank_of_120_part_4 = partialmethod(each_loss_in_a_bank_of_120, 3, 4)
+
+    def test_frames_beyond_a_loss_by_hand(self):
+        for losses, frames in [({"lost_answers": [2]}, 31), ({"lost_frames": [1]}, 31), ({"lost_answers": [5]}, 34),
+                               ({"lost_answers": [7]}, 36), ({"lost_answers": [1, 3, 8, 10]}, 29),
+                               ({"lost_answers": [28]}, 50), ({"lost_answers": [29]}, 51), ({"lost_frames": [12]}, 34)]:
+            bus = bus_of(unit_of(17), **losses)
+            self.assertEqual((losses, Reading(self.folder).run(bus).status, bus.frames), (losses, 0, frames))
+
+    def test_seven_and_eight_misses_of_a_block(self):
+        wanted_at = [(1, number) for number in (2, 4, 5, 6, 7)] + [(8, number) for number in (2, 4, 5, 12, 20, 21, 22)]
+        for first, number in wanted_at:
+            for misses in (7, 8):
+                lost = [first - 1 + number * turn for turn in range(1, misses + 1)]
+                desk, bus = Reading(self.folder), bus_of(unit_of(17), lost_answers=lost)
+                wanted = desk.run(bus)
+                is_silent = misses == 8
+                frames = first - 1 + 8 * number if is_silent else 29 + 7 * number
+                self.assertEqual((first, number, misses, bus.frames), (first, number, misses, frames))
+                self.assertEqual((wanted.told, desk.text()),
+                                 (SILENT, None) if is_silent else (TOLD_17, text_of(varied_bank(17))))
+
+    def test_seven_misses_of_each_block(self):
+        # The first block is read in the frames 15 to 21.
+        lost = [before + 2 * turn for before in (0, 21) for turn in range(1, 8)]
+        bus = bus_of(unit_of(17), lost_answers=lost)
+        self.assertEqual((Reading(self.folder).run(bus).told, bus.frames), (TOLD_17, 29 + 28))
+
+    def test_power_lost_before_each_frame(self):
+        for length in (17, 120):
+            for frame in range(1, FRAMES[length] + 1):
+                unit = WithBank0(5, varied_bank(length))
+                desk, bus = Reading(self.folder), bus_of(unit, lost_power=[(5, frame)])
+                wanted = desk.run(bus)
+                self.assertEqual((frame, wanted.status, wanted.told), (frame, 0, told_of(length)))
+                self.assertEqual((frame, desk.text()), (frame, text_of(varied_bank(length))))
+                assert bus.frames <= FRAMES[length] + 22, (frame, bus.frames)
+
+    def test_six_frames_that_a_bank_0_answers(self):
+        # From the loss on DTR1 is 00h: the block is read in bank 0, and of all its frames only the last one shows that.
+        for lost, block, frames in [(3, (0x00, 1), 36), (4, (0x00, 1), 36), (5, (0x00, 1), 36), (10, (0x01, 16), 51)]:
+            bus = Noting([WithBank0(5, BANK_17)], lost_power=[(5, lost)])
+            desk = Reading(self.folder)
+            ended = desk.over(bus)
+            self.assertEqual((lost, ended.status, ended.told, desk.text()), (lost, 0, TOLD_17, TEXT_17))
+            self.assertEqual((lost, bus.frames), (lost, frames))
+            wished = [wish for _, wish in block_frames(5, *block)]
+            found = bus.answers[7 * block[0]:][:len(wished)]
+            is_met = [wish is None or answer in wish for answer, wish in zip(found, wished)]
+            self.assertEqual((lost, is_met, found[-1]), (lost, [True] * (len(wished) - 1) + [False], 0))
+            self.assertEqual(bytes(found[4:-2]), bytes(byte ^ 0x55 for byte in BANK_17[block[0]:block[0] + block[1]]))
+
+    def test_a_last_location_that_changes(self):
+        # What 00h said at first holds. Where it says more than there is, what isn't there stays silent.
+        bank = varied_bank(120)
+        for changes, status, told, data, frames in [
+                ({8: (0x00, 0x10)}, 0, told_of(120), bank, 174),
+                ({8: (0x00, 0xFF)}, 0, told_of(120), bank, 174),
+                ({1: (0x00, 0x10)}, 0, TOLD_17, b"\x10" + bank[1:17], 29),
+                ({1: (0x00, 0x00)}, 0, told_of(1), b"\x00", 7),
+                ({1: (0x00, 0x01)}, 0, told_of(2), b"\x01" + bank[1:2], 14),
+                ({1: (0x00, 0x78)}, 1, SILENT, None, 7 + 7 * 22 + 8 * 12),
+                ({1: (0x00, 0xFF)}, 1, SILENT, None, 7 + 7 * 22 + 8 * 12),
+                ({6: (0x00, 0x00), 40: (0x55, 0x99)}, 0, told_of(120), bank[:0x55] + b"\x99" + bank[0x56:], 174)]:
+            desk, bus = Reading(self.folder), bus_of(Changing(5, bank, changes))
+            wanted = desk.run(bus)
+            self.assertEqual((changes, wanted.status, wanted.told, bus.frames), (changes, status, told, frames))
+            self.assertEqual((changes, desk.text()), (changes, None if data is None else text_of(data)))
+
+    def test_a_bank_whose_00h_is_ff(self):
+        for length, changes in [(255, {1: (0x00, 0xFF)}), (255, {1: (0x00, 0xFE)})]:
+            bus, desk = bus_of(Changing(5, varied_bank(length), changes)), Reading(self.folder)
+            self.assertEqual((desk.run(bus).told, bus.frames), (told_of(255), 357))
+            self.assertEqual(bytes.fromhex(desk.text()), bytes([changes[1][1]]) + varied_bank(length)[1:])
+
+    def test_a_unit_that_has_no_bank_1(self):
+        unit = unit_of(17)
+        del unit.banks[1]
+        for command, told, frames in [("read", SILENT, 40), ("scan", "units 0\n", 1024 - 16 + 40)]:
+            bus = bus_of(unit)
+            self.assertEqual((command, Reading(self.folder, command).run(bus).told, bus.frames),
+                             (command, told, frames))
+
+    def test_read_again_takes_the_place(self):
+        desk = Reading(self.folder)
+        for length in (120, 17, 255):
+            desk.over(bus_of(unit_of(length)))
+            self.assertEqual(desk.text(), text_of(varied_bank(length)))
+
+    def test_kills_at_each_frame(self):
+        for before in (None, "AC DC 05"):
+            for frame in range(1, 30):
+                for moment in ("sent", "carried"):
+                    desk, bus = Reading(self.folder), bus_of(unit_of(17))
+                    desk.bank.unlink(missing_ok=True)
+                    if before:
+                        desk.bank.write_text(before)
+                    ended = desk.over(bus, (frame, moment))
+                    self.assertEqual((frame, ended.status, ended.told), (frame, -signal.SIGKILL, ""))
+                    self.assertEqual((desk.text(), desk.new().exists()), (before, False))
+                    self.assertEqual((desk.over(bus).told, desk.text()), (TOLD_17, text_of(varied_bank(17))))
 
 
 def scan(folder, bus, frames):
@@ -216,14 +209,6 @@ def scan(folder, bus, frames):
     wanted = desk.run(bus)
     want((wanted.status, bus.frames), (0, frames))
     return wanted.told.splitlines()
-
-
-def test_scans(folder):
-    for addresses in ([], [5], [0], [63], [0, 31, 63], range(64)):
-        units = [unit_of(17 + 3 * address, address) for address in addresses]
-        lines = [f"unit {address} last {16 + 3 * address:02X}" for address in addresses]
-        frames = 7 * len(units) + 16 * (64 - len(units))
-        want(scan(folder, bus_of(*units), frames), [*lines, f"units {len(units)}"])
 
 
 def scan_some(folder, bus, frames, units, with_gtin=False):
@@ -235,15 +220,6 @@ def scan_some(folder, bus, frames, units, with_gtin=False):
     return wanted.told.splitlines()
 
 
-def test_scans_of_some_addresses(folder):
-    here = [unit_of(17, 5), unit_of(120, 9), unit_of(255, 63)]
-    for units, frames, lines in [((9, 5), 14, ["unit 9 last 77", "unit 5 last 10"]), ((6,), 16, []),
-                                 ((63, 0, 5), 30, ["unit 63 last FE", "unit 5 last 10"]),
-                                 (tuple(range(63, -1, -1)), 21 + 61 * 16,
-                                  ["unit 63 last FE", "unit 9 last 77", "unit 5 last 10"])]:
-        want((units, scan_some(folder, bus_of(*here), frames, units)), (units, [*lines, f"units {len(lines)}"]))
-
-
 def known_unit(address, length, known):
     """Make a unit whose bank 1 has these bytes from 03h on."""
     bank = bytearray(varied_bank(length))
@@ -251,7 +227,8 @@ def known_unit(address, length, known):
     return simulated_link.Unit(address, bytes(bank))
 
 
-# What stands from 03h to 10h: a GTIN with its check digit, one with another, one that is blank, and one of fifteen digits.
+# What stands from 03h to 10h: a GTIN with its check digit, one with another, one that is blank, and one of fifteen
+# digits.
 IDENTITIES = {
     "03A4CEEFADAB 0102030405060708": "gtin 04006381333931 identification 0102030405060708",
     "03A4CEEFADAC FFFFFFFFFFFFFF00": "gtin raw 03A4CEEFADAC identification FFFFFFFFFFFFFF00",
@@ -261,93 +238,107 @@ IDENTITIES = {
 }
 
 
-def test_what_each_unit_is(folder):
-    for known, told in IDENTITIES.items():
-        for length in (17, 120):
-            bus = bus_of(known_unit(5, length, bytes.fromhex(known)), unit_of(60, 7))
-            lines = scan_some(folder, bus, 27, (5,), True)
-            want((known, lines), (known, [f"unit 5 last {length - 1:02X} {told}", "units 1"]))
+class ScanTest(BenchTest):
+    """Units that are looked for."""
+
+    def test_scans(self):
+        for addresses in ([], [5], [0], [63], [0, 31, 63], range(64)):
+            units = [unit_of(17 + 3 * address, address) for address in addresses]
+            lines = [f"unit {address} last {16 + 3 * address:02X}" for address in addresses]
+            frames = 7 * len(units) + 16 * (64 - len(units))
+            self.assertEqual(scan(self.folder, bus_of(*units), frames), [*lines, f"units {len(units)}"])
+
+    def test_scans_of_some_addresses(self):
+        here = [unit_of(17, 5), unit_of(120, 9), unit_of(255, 63)]
+        for units, frames, lines in [((9, 5), 14, ["unit 9 last 77", "unit 5 last 10"]), ((6,), 16, []),
+                                     ((63, 0, 5), 30, ["unit 63 last FE", "unit 5 last 10"]),
+                                     (tuple(range(63, -1, -1)), 21 + 61 * 16,
+                                      ["unit 63 last FE", "unit 9 last 77", "unit 5 last 10"])]:
+            self.assertEqual((units, scan_some(self.folder, bus_of(*here), frames, units)),
+                             (units, [*lines, f"units {len(lines)}"]))
+
+    def test_what_each_unit_is(self):
+        for known, told in IDENTITIES.items():
+            for length in (17, 120):
+                bus = bus_of(known_unit(5, length, bytes.fromhex(known)), unit_of(60, 7))
+                lines = scan_some(self.folder, bus, 27, (5,), True)
+                self.assertEqual((known, lines), (known, [f"unit 5 last {length - 1:02X} {told}", "units 1"]))
+
+    def test_a_bank_that_ends_before_the_identification(self):
+        # A simulated bank reaches 10h: of unit 5 location 00h changes.
+        bus = bus_of(Changing(5, varied_bank(120), {1: (0x00, 0x0F)}), known_unit(7, 120, b"\xFF" * 14))
+        self.assertEqual(scan_some(self.folder, bus, 7 + 27 + 16, (5, 6, 7), True),
+                         ["unit 5 last 0F", "unit 7 last 77 gtin unknown identification unknown", "units 2"])
+
+    def test_what_all_units_are(self):
+        units = [known_unit(at, 120, bytes.fromhex("03A4CEEFADAB") + bytes([at] * 8)) for at in (0, 31, 63)]
+        lines = [f"unit {at} last 77 gtin 04006381333931 identification {at:02X}" + f"{at:02X}" * 7
+                 for at in (0, 31, 63)]
+        self.assertEqual(scan_some(self.folder, bus_of(*units), 3 * 27 + 61 * 16, (), True), [*lines, "units 3"])
+
+    def test_what_a_unit_is_with_losses(self):
+        # The block from 03h on takes the frames 8 to 27: one miss of it, seven and eight.
+        for misses, frames, lines in [(1, 47, 1), (7, 167, 1), (8, 167, 0)]:
+            lost = [7 + 20 * turn for turn in range(1, misses + 1)]
+            bus = bus_of(known_unit(5, 120, b"\xFF" * 14), lost_answers=lost)
+            told = ["unit 5 last 77 gtin unknown identification unknown"] * lines + [f"units {lines}"]
+            self.assertEqual((misses, scan_some(self.folder, bus, frames, (5,), True)), (misses, told))
+
+    def test_units_that_are_no_addresses(self):
+        desk = Reading(self.folder, "scan")
+        for units, told in [((64,), "64 is not in 0..=63"), (("a",), "invalid digit found in string"),
+                            ((5, 6, 5), "error: unit 5 is named twice: name each unit once\n")]:
+            desk.units = units
+            ended = subprocess.run(desk.words(), stdin=subprocess.DEVNULL, capture_output=True, text=True)
+            self.assertEqual((units, ended.returncode, ended.stdout), (units, 1, ""))
+            assert told in ended.stderr, ended
+
+    def test_scans_with_losses(self):
+        all_of_them = ["unit 0 last 10", "unit 2 last 77", "units 2"]
+        for lost, frames, lines in [([7, 14], 1024 - 18 + 14, all_of_them), (range(2, 16, 2), 1006 + 14, all_of_them),
+                                    (range(2, 18, 2), 1006 + 9, all_of_them[1:2] + ["units 1"]),
+                                    ([7 * turn for turn in range(1, 9)], 1006 + 49, all_of_them[1:2] + ["units 1"])]:
+            bus = bus_of(unit_of(17, 0), unit_of(120, 2), lost_answers=lost)
+            self.assertEqual((lost, scan(self.folder, bus, frames)), (lost, lines))
+
+    def test_a_scan_of_a_unit_that_changes(self):
+        changing, powerless = Changing(5, varied_bank(120), {1: (0x00, 0xFF)}), WithBank0(5, varied_bank(120))
+        self.assertEqual(scan(self.folder, bus_of(changing), 1024 - 9), ["unit 5 last FF", "units 1"])
+        self.assertEqual(scan(self.folder, bus_of(powerless, lost_power=[(5, 83)]), 1024 - 2),
+                         ["unit 5 last 77", "units 1"])
 
 
-def test_a_bank_that_ends_before_the_identification(folder):
-    # A simulated bank reaches 10h: of unit 5 location 00h changes.
-    bus = bus_of(Changing(5, varied_bank(120), {1: (0x00, 0x0F)}), known_unit(7, 120, b"\xFF" * 14))
-    want(scan_some(folder, bus, 7 + 27 + 16, (5, 6, 7), True),
-         ["unit 5 last 0F", "unit 7 last 77 gtin unknown identification unknown", "units 2"])
+class AdaptersTest(BenchTest):
+    """Reads and scans over the adapters."""
 
+    def test_over_the_simulated_adapter(self):
+        desk, more = Reading(self.folder), Reading(self.folder, "scan")
+        bank = self.folder / "unit_5.hex"
+        bank.write_text(text_of(varied_bank(120)))
+        options = ["--folder", self.folder, "--unit", "5", "--unit", "9", "--lose-answer", "50", "--lose-frame", "90"]
+        for words, told in [(desk.words(), "unit 5 bytes 120\n"),
+                            (more.words(), "unit 5 last 77\nunit 9 last 77\nunits 2\n")]:
+            ended = subprocess.run([ADAPTER, *options, "--", *words], capture_output=True, text=True, timeout=60)
+            self.assertEqual((ended.returncode, ended.stdout, ended.stderr), (0, "", told))
+        self.assertEqual(desk.text(), bank.read_text())
+        shown = [subprocess.run([desk.program, "show", it], capture_output=True) for it in (desk.bank, bank)]
+        self.assertEqual((shown[0].returncode, shown[0].stdout), (0, shown[1].stdout))
+        assert shown[0].stdout.startswith(b"last 77\n"), shown[0]
 
-def test_what_all_units_are(folder):
-    units = [known_unit(at, 120, bytes.fromhex("03A4CEEFADAB") + bytes([at] * 8)) for at in (0, 31, 63)]
-    lines = [f"unit {at} last 77 gtin 04006381333931 identification {at:02X}" + f"{at:02X}" * 7 for at in (0, 31, 63)]
-    want(scan_some(folder, bus_of(*units), 3 * 27 + 61 * 16, (), True), [*lines, "units 3"])
+    def test_over_the_serial_adapter(self):
+        replies = [[b"N\r" if answer == "--" else f"J{answer}\r".encode()] for answer in ANSWERS_17]
+        interface, desk = Interface(replies), Reading(self.folder)
+        adapter = [driven.ROOT / "adapters" / "serial_link.py", interface.device, "--"]
+        ended = subprocess.run([*adapter, *desk.words()], capture_output=True, text=True, timeout=driven.PATIENCE)
+        interface.close()
+        self.assertEqual((ended.returncode, ended.stdout, ended.stderr, desk.text()), (0, "", TOLD_17, TEXT_17))
+        self.assertEqual(interface.heard, [f"S{word}\r" for word in FRAMES_17])
 
-
-def test_what_a_unit_is_with_losses(folder):
-    # The block from 03h on takes the frames 8 to 27: one miss of it, seven and eight.
-    for misses, frames, lines in [(1, 47, 1), (7, 167, 1), (8, 167, 0)]:
-        lost = [7 + 20 * turn for turn in range(1, misses + 1)]
-        bus = bus_of(known_unit(5, 120, b"\xFF" * 14), lost_answers=lost)
-        told = ["unit 5 last 77 gtin unknown identification unknown"] * lines + [f"units {lines}"]
-        want((misses, scan_some(folder, bus, frames, (5,), True)), (misses, told))
-
-
-def test_units_that_are_no_addresses(folder):
-    desk = Reading(folder, "scan")
-    for units, told in [((64,), "64 is not in 0..=63"), (("a",), "invalid digit found in string"),
-                        ((5, 6, 5), "error: unit 5 is named twice: name each unit once\n")]:
-        desk.units = units
-        ended = subprocess.run(desk.words(), stdin=subprocess.DEVNULL, capture_output=True, text=True)
-        want((units, ended.returncode, ended.stdout), (units, 1, ""))
-        assert told in ended.stderr, ended
-
-
-def test_scans_with_losses(folder):
-    all_of_them = ["unit 0 last 10", "unit 2 last 77", "units 2"]
-    for lost, frames, lines in [([7, 14], 1024 - 18 + 14, all_of_them), (range(2, 16, 2), 1006 + 14, all_of_them),
-                                (range(2, 18, 2), 1006 + 9, all_of_them[1:2] + ["units 1"]),
-                                ([7 * turn for turn in range(1, 9)], 1006 + 49, all_of_them[1:2] + ["units 1"])]:
-        want((lost, scan(folder, bus_of(unit_of(17, 0), unit_of(120, 2), lost_answers=lost), frames)), (lost, lines))
-
-
-def test_a_scan_of_a_unit_that_changes(folder):
-    changing, powerless = Changing(5, varied_bank(120), {1: (0x00, 0xFF)}), WithBank0(5, varied_bank(120))
-    want(scan(folder, bus_of(changing), 1024 - 9), ["unit 5 last FF", "units 1"])
-    want(scan(folder, bus_of(powerless, lost_power=[(5, 83)]), 1024 - 2), ["unit 5 last 77", "units 1"])
-
-
-# Over the adapters
-
-
-def test_over_the_simulated_adapter(folder):
-    desk, more = Reading(folder), Reading(folder, "scan")
-    bank = folder / "unit_5.hex"
-    bank.write_text(text_of(varied_bank(120)))
-    options = ["--folder", folder, "--unit", "5", "--unit", "9", "--lose-answer", "50", "--lose-frame", "90"]
-    for words, told in [(desk.words(), "unit 5 bytes 120\n"),
-                        (more.words(), "unit 5 last 77\nunit 9 last 77\nunits 2\n")]:
-        ended = subprocess.run([ADAPTER, *options, "--", *words], capture_output=True, text=True, timeout=60)
-        want((ended.returncode, ended.stdout, ended.stderr), (0, "", told))
-    want(desk.text(), bank.read_text())
-    shown = [subprocess.run([desk.program, "show", it], capture_output=True) for it in (desk.bank, bank)]
-    want((shown[0].returncode, shown[0].stdout), (0, shown[1].stdout))
-    assert shown[0].stdout.startswith(b"last 77\n"), shown[0]
-
-
-def test_over_the_serial_adapter(folder):
-    replies = [[b"N\r" if answer == "--" else f"J{answer}\r".encode()] for answer in ANSWERS_17]
-    interface, desk = Interface(replies), Reading(folder)
-    adapter = [driven.ROOT / "adapters" / "serial_link.py", interface.device, "--"]
-    ended = subprocess.run([*adapter, *desk.words()], capture_output=True, text=True, timeout=driven.PATIENCE)
-    interface.close()
-    want((ended.returncode, ended.stdout, ended.stderr, desk.text()), (0, "", TOLD_17, TEXT_17))
-    want(interface.heard, [f"S{word}\r" for word in FRAMES_17])
-
-
-def test_the_desk_forgets_nothing_of_a_read(folder):
-    # A unit that a stopped drive left open and enabled keeps its bytes, and is shut off by the reads alone.
-    unit = simulated_link.Unit(5)
-    unit.banks[1][2], unit.registers, unit.is_enabled = simulated_link.OPEN, [3, 1, 0], True
-    desk, before = Reading(folder), copy.deepcopy(unit.banks)
-    want(desk.over(bus_of(unit)).status, 0)
-    want((unit.banks, unit.is_enabled), (before, False))
-    want(bytes.fromhex(desk.text()), bytes(before[1]))
+    def test_the_desk_forgets_nothing_of_a_read(self):
+        # A unit that a stopped drive left open and enabled keeps its bytes, and is shut off by the reads alone.
+        unit = simulated_link.Unit(5)
+        unit.banks[1][2], unit.registers, unit.is_enabled = simulated_link.OPEN, [3, 1, 0], True
+        desk, before = Reading(self.folder), copy.deepcopy(unit.banks)
+        self.assertEqual(desk.over(bus_of(unit)).status, 0)
+        self.assertEqual((unit.banks, unit.is_enabled), (before, False))
+        self.assertEqual(bytes.fromhex(desk.text()), bytes(before[1]))

@@ -3,9 +3,11 @@
 import copy
 import json
 import subprocess
+from functools import partialmethod
 
 import driven
-from drive_desk import GTIN, desk_of, parts, want
+from base import BenchTest, want
+from drive_desk import GTIN, desk_of
 from drive_units import BLANK, CHANGED_BY_KILLS, SCENES, bank_of, finish, whole_run
 from driven import groups_of, simulated_link
 from read_desk import Changing, Reading, WithBank0, bus_of, full_orders, unit_of
@@ -98,157 +100,154 @@ def verify(folder, orders, bus, lines=None, frames=None):
         want(bus.frames - before, frames)
 
 
-def test_rows(folder):
-    for fields, frames in ROWS:
-        order = order_of(**fields)
-        frames += 7 + 8 * (max(bytes_of(order)) >= 0x13)
-        unit = simulated_link.Unit(5, held_by(BLANK, order))
-        verify(folder, [order], bus_of(unit), ["order 1 unit 5 same"], frames)
-    verify(folder, FULL, bus_of(simulated_link.Unit(5, held_by(BLANK, *FULL))), ["order 1 unit 5 same"], FULL_FRAMES)
-    verify(folder, [], bus_of(), ["error: nothing was done: ORDERS has no orders"], 0)
+class VerifyTest(BenchTest):
+    """Orders that are compared with units."""
+
+    def test_rows(self):
+        for fields, frames in ROWS:
+            order = order_of(**fields)
+            frames += 7 + 8 * (max(bytes_of(order)) >= 0x13)
+            unit = simulated_link.Unit(5, held_by(BLANK, order))
+            verify(self.folder, [order], bus_of(unit), ["order 1 unit 5 same"], frames)
+        verify(self.folder, FULL, bus_of(simulated_link.Unit(5, held_by(BLANK, *FULL))), ["order 1 unit 5 same"],
+               FULL_FRAMES)
+        verify(self.folder, [], bus_of(), ["error: nothing was done: ORDERS has no orders"], 0)
+
+    def each_other_byte(self, part, count):
+        held, updates = held_by(BLANK, *FULL), bytes_of(FULL[0])
+        for location in range(part, len(held), count):
+            bank = bytearray(held)
+            if location not in (0x00, 0x02, 0x11, 0x12):
+                bank[location] ^= 0x40
+            line = f"other {location:02X} {bank[location]:02X}" if location in updates else "same"
+            if location in updates:
+                # A later one that is another too isn't told.
+                bank[0x77] ^= 0x01
+            bus = bus_of(simulated_link.Unit(5, bytes(bank)))
+            line = f"order 1 unit 5 {line if location != 0x77 else f'other 77 {bank[0x77]:02X}'}"
+            verify(self.folder, FULL, bus, [line], FULL_FRAMES)
+
+    test_each_other_byte_part_1 = partialmethod(each_other_byte, 0, 2)
+    test_each_other_byte_part_2 = partialmethod(each_other_byte, 1, 2)
+
+    def test_short_banks(self):
+        for fields, greatest in [({"year": 24}, 0x13), ({"week": 5}, 0x14), ({"cct": 4000}, 0x22),
+                                 ({"luminaire": "A"}, 0x77)]:
+            order = order_of(**fields)
+            verify(self.folder, [order], bus_of(simulated_link.Unit(5, bank_of(greatest))), ["order 1 unit 5 short"], 7)
+            for length in (greatest + 1, min(greatest + 2, 0x78)):
+                unit = simulated_link.Unit(5, held_by(bank_of(length), order))
+                verify(self.folder, [order], bus_of(unit), ["order 1 unit 5 same"])
+        for last, word in [(0x07, "short"), (0x08, "other 03 FF"), (0x00, "short"), (0xFF, "other 03 FF")]:
+            bus = bus_of(Changing(5, BLANK, {1: (0x00, last)}))
+            verify(self.folder, [order_of(gtin=GTIN)], bus, [f"order 1 unit 5 {word}"], 7 if word == "short" else 19)
+
+    def test_formats(self):
+        for first, second in [(0, 4), (1, 3), (0xFF, 0xFF), (3, 0), (0, 0)]:
+            bus = bus_of(simulated_link.Unit(5, bank_of(0x78, x11=first, x12=second)))
+            verify(self.folder, [order_of(gtin=GTIN, year=24)], bus, ["order 1 unit 5 format"], 15)
+            verify(self.folder, [order_of(year=24)], bus, ["order 1 unit 5 format"], 15)
+            verify(self.folder, [order_of(gtin=GTIN)], bus, ["order 1 unit 5 other 03 FF"], 19)
+        # Too short and of another format is told as short.
+        bus = bus_of(simulated_link.Unit(5, bank_of(0x13, x11=1)))
+        verify(self.folder, [order_of(year=24)], bus, ["order 1 unit 5 short"], 7)
+
+    def test_several_orders(self):
+        gtin, other = order_of(1, gtin=GTIN), order_of(2, gtin="96385074")
+        year, absent = order_of(2 ** 64 - 1, 6, year=24), order_of(0, 63, week=1)
+        units = [simulated_link.Unit(5, held_by(BLANK, gtin, other)), simulated_link.Unit(6, held_by(BLANK, year))]
+        lines = [f"order 1 unit 5 {compared(bytes_of(gtin), units[0].banks[1])}", "order 2 unit 5 same",
+                 "order 18446744073709551615 unit 6 same", "order 0 unit 63 silent", "order 2 unit 5 same"]
+        assert " other 0" in lines[0], lines
+        verify(self.folder, [gtin, other, year, absent, other], bus_of(*units), lines, 19 + 19 + 22 + 16 + 19)
+
+    def test_each_loss(self):
+        orders = [order_of(gtin=GTIN, week=53)]
+        for frame in range(1, 35):
+            for losses in ({"lost_frames": [frame]}, {"lost_answers": [frame]}, {"lost_power": [(5, frame)]}):
+                bus = bus_of(WithBank0(5, held_by(BLANK, *orders)), **losses)
+                verify(self.folder, orders, bus, ["order 1 unit 5 same"])
+                assert bus.frames <= 34 + 12, (losses, bus.frames)
+
+    def test_a_block_that_stays_silent(self):
+        orders = [order_of(gtin=GTIN, week=53), order_of(2, gtin=GTIN)]
+        for first in (1, 8, 16, 28):
+            bus = bus_of(simulated_link.Unit(5, held_by(BLANK, *orders)),
+                         lost_answers=[first - 1 + 2 * turn for turn in range(1, 9)])
+            verify(self.folder, orders, bus, ["order 1 unit 5 silent", "order 2 unit 5 same"], first - 1 + 16 + 19)
+            bus = bus_of(simulated_link.Unit(5, held_by(BLANK, *orders)),
+                         lost_answers=[first - 1 + 2 * turn for turn in range(1, 8)])
+            verify(self.folder, orders, bus, ["order 1 unit 5 same", "order 2 unit 5 same"], 34 + 14 + 19)
+
+    def test_over_the_simulated_adapter(self):
+        orders = [order_of(gtin=GTIN), order_of(2, 9, year=24)]
+        drive, desk = desk_of(self.folder, orders), Reading(self.folder, "verify", orders=orders)
+        adapter = [driven.ROOT / "adapters" / "simulated_link.py", "--folder", self.folder, "--lose-answer", "5,50",
+                   "--unit", "5", "--"]
+        for words, status, told in [
+                (desk.words(), 1, "order 1 unit 5 other 03 FF\norder 2 unit 9 silent\n"),
+                (drive.words(), 0, "reply 1 taken\nreply 1 kept 0 Done\nreply 2 taken\nreply 2 kept 3 Silent\n"),
+                (desk.words(), 1, "order 1 unit 5 same\norder 2 unit 9 silent\n")]:
+            ended = subprocess.run([*adapter, *words], capture_output=True, text=True, timeout=driven.PATIENCE)
+            self.assertEqual((ended.returncode, ended.stdout, ended.stderr), (status, "", told))
 
 
-@parts(2)
-def test_each_other_byte(folder, part, count):
-    held, updates = held_by(BLANK, *FULL), bytes_of(FULL[0])
-    for location in range(part, len(held), count):
-        bank = bytearray(held)
-        if location not in (0x00, 0x02, 0x11, 0x12):
-            bank[location] ^= 0x40
-        line = f"other {location:02X} {bank[location]:02X}" if location in updates else "same"
-        if location in updates:
-            # A later one that is another too isn't told.
-            bank[0x77] ^= 0x01
-        bus = bus_of(simulated_link.Unit(5, bytes(bank)))
-        line = f"order 1 unit 5 {line if location != 0x77 else f'other 77 {bank[0x77]:02X}'}"
-        verify(folder, FULL, bus, [line], FULL_FRAMES)
+class FieldsTest(BenchTest):
+    """The fields that a report names."""
 
+    def test_fields_that_differ(self):
+        order = order_of(**SEVERAL)
+        same = held_by(BLANK, order)
+        cases = [
+            # A number that is no GTIN, FFh in every byte, and numbers and bytes of no number.
+            ({0x03: bytes(5) + b"\x01"}, [("gtin", "raw 000000000001")]),
+            ({0x03: bytes(6)}, [("gtin", "00000000000000")]),
+            ({0x03: b"\xFF" * 6, 0x09: b"\xFF" * 8}, [("gtin", "unknown"), ("identification", "unknown")]),
+            ({0x10: b"\x78"}, [("identification", "0011223344556678")]),
+            ({0x13: b"\x63\x36"}, [("year", "99"), ("week", "raw 36")]),
+            ({0x14: b"\x05", 0x15: b"\xFF\xFF", 0x20: b"\x65"},
+             [("week", "5"), ("input_power", "unknown"), ("cri", "raw 65")]),
+            # A text with another character, one that goes on, one with nothing in it, and bytes of no text.
+            ({0x2B: b"7"}, [("colour", "text RAL 9017")]),
+            ({0x2C: b"\\"}, [("colour", "text RAL 9016\\")]),
+            ({0x24: bytes(24)}, [("colour", "raw " + "00" * 24)]),
+            ({0x3C: b"p"}, [("luminaire", 'text panel "A\\B"')]),
+            ({0x77: b"\x01"}, [("luminaire", "raw " + b'Panel "A\\B"'.hex().upper() + "00" * 48 + "01")]),
+            # What the order doesn't write is of no matter.
+            ({0x17: bytes(9), 0x21: bytes(3)}, []),
+        ]
+        for changes, wanted in cases:
+            found = differing(self.folder, [order], bus_of(simulated_link.Unit(5, with_bytes(same, changes))))
+            wanted = [(field, text, WANTED[field]) for field, text in wanted]
+            self.assertEqual((changes, found), (changes, [("other" if wanted else "same", wanted)]))
+        unknown = [(field, "unknown", text) for field, text in WANTED.items() if field != "week"]
+        self.assertEqual(differing(self.folder, [order], bus_of(simulated_link.Unit(5))), [("other", unknown)])
 
-def test_short_banks(folder):
-    for fields, greatest in [({"year": 24}, 0x13), ({"week": 5}, 0x14), ({"cct": 4000}, 0x22),
-                             ({"luminaire": "A"}, 0x77)]:
-        order = order_of(**fields)
-        verify(folder, [order], bus_of(simulated_link.Unit(5, bank_of(greatest))), ["order 1 unit 5 short"], 7)
-        for length in (greatest + 1, min(greatest + 2, 0x78)):
-            unit = simulated_link.Unit(5, held_by(bank_of(length), order))
-            verify(folder, [order], bus_of(unit), ["order 1 unit 5 same"])
-    for last, word in [(0x07, "short"), (0x08, "other 03 FF"), (0x00, "short"), (0xFF, "other 03 FF")]:
-        bus = bus_of(Changing(5, BLANK, {1: (0x00, last)}))
-        verify(folder, [order_of(gtin=GTIN)], bus, [f"order 1 unit 5 {word}"], 7 if word == "short" else 19)
+    def test_no_field_differs_where_none_was_read(self):
+        year, gtin = order_of(year=24), order_of(2, gtin=GTIN)
+        bus = bus_of(simulated_link.Unit(5, bank_of(0x13)))
+        self.assertEqual(differing(self.folder, [year, gtin], bus),
+                         [("short", []), ("other", [("gtin", "unknown", "04006381333931")])])
+        bus = bus_of(simulated_link.Unit(5, bank_of(0x78, x12=0x04)))
+        self.assertEqual(differing(self.folder, [year, gtin], bus),
+                         [("format", []), ("other", [("gtin", "unknown", "04006381333931")])])
+        # Silent from the start, and at the block of its last field, behind other bytes of the first.
+        self.assertEqual(differing(self.folder, [order_of(unit=6, gtin=GTIN)], bus_of(simulated_link.Unit(5))),
+                         [("silent", [])])
+        bus = bus_of(simulated_link.Unit(5), lost_answers=[27 + 2 * turn for turn in range(1, 9)])
+        self.assertEqual(differing(self.folder, [order_of(gtin=GTIN, week=53)], bus), [("silent", [])])
 
-
-def test_formats(folder):
-    for first, second in [(0, 4), (1, 3), (0xFF, 0xFF), (3, 0), (0, 0)]:
-        bus = bus_of(simulated_link.Unit(5, bank_of(0x78, x11=first, x12=second)))
-        verify(folder, [order_of(gtin=GTIN, year=24)], bus, ["order 1 unit 5 format"], 15)
-        verify(folder, [order_of(year=24)], bus, ["order 1 unit 5 format"], 15)
-        verify(folder, [order_of(gtin=GTIN)], bus, ["order 1 unit 5 other 03 FF"], 19)
-    # Too short and of another format is told as short.
-    bus = bus_of(simulated_link.Unit(5, bank_of(0x13, x11=1)))
-    verify(folder, [order_of(year=24)], bus, ["order 1 unit 5 short"], 7)
-
-
-def test_several_orders(folder):
-    gtin, other = order_of(1, gtin=GTIN), order_of(2, gtin="96385074")
-    year, absent = order_of(2 ** 64 - 1, 6, year=24), order_of(0, 63, week=1)
-    units = [simulated_link.Unit(5, held_by(BLANK, gtin, other)), simulated_link.Unit(6, held_by(BLANK, year))]
-    lines = [f"order 1 unit 5 {compared(bytes_of(gtin), units[0].banks[1])}", "order 2 unit 5 same",
-             "order 18446744073709551615 unit 6 same", "order 0 unit 63 silent", "order 2 unit 5 same"]
-    assert " other 0" in lines[0], lines
-    verify(folder, [gtin, other, year, absent, other], bus_of(*units), lines, 19 + 19 + 22 + 16 + 19)
-
-
-def test_each_loss(folder):
-    orders = [order_of(gtin=GTIN, week=53)]
-    for frame in range(1, 35):
-        for losses in ({"lost_frames": [frame]}, {"lost_answers": [frame]}, {"lost_power": [(5, frame)]}):
-            bus = bus_of(WithBank0(5, held_by(BLANK, *orders)), **losses)
-            verify(folder, orders, bus, ["order 1 unit 5 same"])
-            assert bus.frames <= 34 + 12, (losses, bus.frames)
-
-
-def test_a_block_that_stays_silent(folder):
-    orders = [order_of(gtin=GTIN, week=53), order_of(2, gtin=GTIN)]
-    for first in (1, 8, 16, 28):
-        bus = bus_of(simulated_link.Unit(5, held_by(BLANK, *orders)),
-                     lost_answers=[first - 1 + 2 * turn for turn in range(1, 9)])
-        verify(folder, orders, bus, ["order 1 unit 5 silent", "order 2 unit 5 same"], first - 1 + 16 + 19)
-        bus = bus_of(simulated_link.Unit(5, held_by(BLANK, *orders)),
-                     lost_answers=[first - 1 + 2 * turn for turn in range(1, 8)])
-        verify(folder, orders, bus, ["order 1 unit 5 same", "order 2 unit 5 same"], 34 + 14 + 19)
-
-
-def test_over_the_simulated_adapter(folder):
-    orders = [order_of(gtin=GTIN), order_of(2, 9, year=24)]
-    drive, desk = desk_of(folder, orders), Reading(folder, "verify", orders=orders)
-    adapter = [driven.ROOT / "adapters" / "simulated_link.py", "--folder", folder, "--lose-answer", "5,50",
-               "--unit", "5", "--"]
-    for words, status, told in [
-            (desk.words(), 1, "order 1 unit 5 other 03 FF\norder 2 unit 9 silent\n"),
-            (drive.words(), 0, "reply 1 taken\nreply 1 kept 0 Done\nreply 2 taken\nreply 2 kept 3 Silent\n"),
-            (desk.words(), 1, "order 1 unit 5 same\norder 2 unit 9 silent\n")]:
-        ended = subprocess.run([*adapter, *words], capture_output=True, text=True, timeout=driven.PATIENCE)
-        want((ended.returncode, ended.stdout, ended.stderr), (status, "", told))
-
-
-# The fields of a report
-
-
-def test_fields_that_differ(folder):
-    order = order_of(**SEVERAL)
-    same = held_by(BLANK, order)
-    cases = [
-        # A number that is no GTIN, FFh in every byte, and numbers and bytes of no number.
-        ({0x03: bytes(5) + b"\x01"}, [("gtin", "raw 000000000001")]),
-        ({0x03: bytes(6)}, [("gtin", "00000000000000")]),
-        ({0x03: b"\xFF" * 6, 0x09: b"\xFF" * 8}, [("gtin", "unknown"), ("identification", "unknown")]),
-        ({0x10: b"\x78"}, [("identification", "0011223344556678")]),
-        ({0x13: b"\x63\x36"}, [("year", "99"), ("week", "raw 36")]),
-        ({0x14: b"\x05", 0x15: b"\xFF\xFF", 0x20: b"\x65"},
-         [("week", "5"), ("input_power", "unknown"), ("cri", "raw 65")]),
-        # A text with another character, one that goes on, one with nothing in it, and bytes of no text.
-        ({0x2B: b"7"}, [("colour", "text RAL 9017")]),
-        ({0x2C: b"\\"}, [("colour", "text RAL 9016\\")]),
-        ({0x24: bytes(24)}, [("colour", "raw " + "00" * 24)]),
-        ({0x3C: b"p"}, [("luminaire", 'text panel "A\\B"')]),
-        ({0x77: b"\x01"}, [("luminaire", "raw " + b'Panel "A\\B"'.hex().upper() + "00" * 48 + "01")]),
-        # What the order doesn't write is of no matter.
-        ({0x17: bytes(9), 0x21: bytes(3)}, []),
-    ]
-    for changes, wanted in cases:
-        found = differing(folder, [order], bus_of(simulated_link.Unit(5, with_bytes(same, changes))))
-        wanted = [(field, text, WANTED[field]) for field, text in wanted]
-        want((changes, found), (changes, [("other" if wanted else "same", wanted)]))
-    unknown = [(field, "unknown", text) for field, text in WANTED.items() if field != "week"]
-    want(differing(folder, [order], bus_of(simulated_link.Unit(5))), [("other", unknown)])
-
-
-def test_no_field_differs_where_none_was_read(folder):
-    year, gtin = order_of(year=24), order_of(2, gtin=GTIN)
-    bus = bus_of(simulated_link.Unit(5, bank_of(0x13)))
-    want(differing(folder, [year, gtin], bus), [("short", []), ("other", [("gtin", "unknown", "04006381333931")])])
-    bus = bus_of(simulated_link.Unit(5, bank_of(0x78, x12=0x04)))
-    want(differing(folder, [year, gtin], bus), [("format", []), ("other", [("gtin", "unknown", "04006381333931")])])
-    # Silent from the start, and at the block of its last field, behind other bytes of the first.
-    want(differing(folder, [order_of(unit=6, gtin=GTIN)], bus_of(simulated_link.Unit(5))), [("silent", [])])
-    bus = bus_of(simulated_link.Unit(5), lost_answers=[27 + 2 * turn for turn in range(1, 9)])
-    want(differing(folder, [order_of(gtin=GTIN, week=53)], bus), [("silent", [])])
-
-
-def test_each_field_alone(folder):
-    # Each byte of a unit that holds the order is changed in turn, and then its field alone differs.
-    fields = [(0x03, "gtin"), (0x09, "identification"), (0x13, "year"), (0x14, "week"), (0x15, "input_power"),
-              (0x17, "min_dim_power"), (0x19, "min_voltage"), (0x1B, "max_voltage"), (0x1D, "light_output"),
-              (0x20, "cri"), (0x21, "cct"), (0x23, "distribution"), (0x24, "colour"), (0x3C, "luminaire")]
-    held = held_by(BLANK, *FULL)
-    for location in sorted(bytes_of(FULL[0])):
-        field = [name for first, name in fields if first <= location][-1]
-        bus = bus_of(simulated_link.Unit(5, with_bytes(held, {location: bytes([held[location] ^ 0x40])})))
-        [(word, differs)] = differing(folder, FULL, bus)
-        want((location, word, [one[0] for one in differs]), (location, "other", [field]))
-
-
-# Behind `drive`
+    def test_each_field_alone(self):
+        # Each byte of a unit that holds the order is changed in turn, and then its field alone differs.
+        fields = [(0x03, "gtin"), (0x09, "identification"), (0x13, "year"), (0x14, "week"), (0x15, "input_power"),
+                  (0x17, "min_dim_power"), (0x19, "min_voltage"), (0x1B, "max_voltage"), (0x1D, "light_output"),
+                  (0x20, "cri"), (0x21, "cct"), (0x23, "distribution"), (0x24, "colour"), (0x3C, "luminaire")]
+        held = held_by(BLANK, *FULL)
+        for location in sorted(bytes_of(FULL[0])):
+            field = [name for first, name in fields if first <= location][-1]
+            bus = bus_of(simulated_link.Unit(5, with_bytes(held, {location: bytes([held[location] ^ 0x40])})))
+            [(word, differs)] = differing(self.folder, FULL, bus)
+            self.assertEqual((location, word, [one[0] for one in differs]), (location, "other", [field]))
 
 
 def done_lines(orders, data):
@@ -278,63 +277,68 @@ def verify_after(folder, scene, bus, data):
     return promised, lines
 
 
-def test_behind_whole_runs(folder):
-    same = {"lossy": ["same", "short", "silent", "same"], "doubtful": ["other 05 FF", "format", "same"],
-            "all fields": ["same"]}
-    for name, scene in SCENES.items():
-        room = folder / name
-        room.mkdir()
-        desk, bus, ended = whole_run(room, scene)
-        promised, lines = verify_after(room, scene, bus, desk.held())
-        is_done = [f"reply {order['order']} kept 0 Done" in ended.told.splitlines() for order in scene.orders]
-        want((name, [line is not None for line in promised]), (name, is_done))
-        if name in same:
-            want((name, [line.split(" ", 4)[4] for line in lines]), (name, same[name]))
+class BehindDriveTest(BenchTest):
+    """Comparisons behind drives."""
 
+    def test_behind_whole_runs(self):
+        same = {"lossy": ["same", "short", "silent", "same"], "doubtful": ["other 05 FF", "format", "same"],
+                "all fields": ["same"]}
+        for name, scene in SCENES.items():
+            room = self.folder / name
+            room.mkdir()
+            desk, bus, ended = whole_run(room, scene)
+            promised, lines = verify_after(room, scene, bus, desk.held())
+            is_done = [f"reply {order['order']} kept 0 Done" in ended.told.splitlines() for order in scene.orders]
+            self.assertEqual((name, [line is not None for line in promised]), (name, is_done))
+            if name in same:
+                self.assertEqual((name, [line.split(" ", 4)[4] for line in lines]), (name, same[name]))
 
-@parts(4)
-def test_behind_killed_runs(folder, part, count):
-    for name, scene in SCENES.items():
-        room = folder / name
-        room.mkdir()
-        desk, _, ended = whole_run(room, scene)
-        total, codes = len(ended.sent) // 5, None if name in CHANGED_BY_KILLS else scene.codes
-        step = max(7, total // 30)
-        for frame in range(1 + part * step, total + 1, count * step):
-            try:
-                desk.journal.write_bytes(b"")
-                bus = scene.bus()
-                desk.over(bus, (frame, "carried"))
-                verify_after(room, scene, bus, desk.held())
-                # Reading between a kill and the next run changes nothing of what that does.
-                finish(desk, scene, bus, codes)
-                verify_after(room, scene, bus, desk.held())
-            except Exception as fault:
-                raise AssertionError(f"{name}, killed once frame {frame} was carried") from fault
+    def behind_killed_runs(self, part, count):
+        for name, scene in SCENES.items():
+            room = self.folder / name
+            room.mkdir()
+            desk, _, ended = whole_run(room, scene)
+            total, codes = len(ended.sent) // 5, None if name in CHANGED_BY_KILLS else scene.codes
+            step = max(7, total // 30)
+            for frame in range(1 + part * step, total + 1, count * step):
+                try:
+                    desk.journal.write_bytes(b"")
+                    bus = scene.bus()
+                    desk.over(bus, (frame, "carried"))
+                    verify_after(room, scene, bus, desk.held())
+                    # Reading between a kill and the next run changes nothing of what that does.
+                    finish(desk, scene, bus, codes)
+                    verify_after(room, scene, bus, desk.held())
+                except Exception as fault:
+                    raise AssertionError(f"{name}, killed once frame {frame} was carried") from fault
 
+    test_behind_killed_runs_part_1 = partialmethod(behind_killed_runs, 0, 4)
+    test_behind_killed_runs_part_2 = partialmethod(behind_killed_runs, 1, 4)
+    test_behind_killed_runs_part_3 = partialmethod(behind_killed_runs, 2, 4)
+    test_behind_killed_runs_part_4 = partialmethod(behind_killed_runs, 3, 4)
 
-def test_a_unit_that_drive_left_open(folder):
-    order = order_of(gtin=GTIN)
-    unit = simulated_link.Unit(5)
-    desk, bus = desk_of(folder, [order]), bus_of(unit)
-    desk.over(bus, (40, "carried"))
-    want((unit.banks[1][2], 0x03 in unit.banks[1][3:9]), (simulated_link.OPEN, True))
-    before = copy.deepcopy(unit.banks)
-    verify(folder, [order], bus)
-    Reading(folder, "read").run(bus)
-    want((unit.banks, unit.is_enabled), (before, False))
-    want((desk.over(bus).told, unit.banks[1][2]), ("reply 1 kept 0 Done\n" * 2, simulated_link.SHUT))
-    verify(folder, [order], bus, ["order 1 unit 5 same"])
+    def test_a_unit_that_drive_left_open(self):
+        order = order_of(gtin=GTIN)
+        unit = simulated_link.Unit(5)
+        desk, bus = desk_of(self.folder, [order]), bus_of(unit)
+        desk.over(bus, (40, "carried"))
+        self.assertEqual((unit.banks[1][2], 0x03 in unit.banks[1][3:9]), (simulated_link.OPEN, True))
+        before = copy.deepcopy(unit.banks)
+        verify(self.folder, [order], bus)
+        Reading(self.folder, "read").run(bus)
+        self.assertEqual((unit.banks, unit.is_enabled), (before, False))
+        self.assertEqual((desk.over(bus).told, unit.banks[1][2]), ("reply 1 kept 0 Done\n" * 2, simulated_link.SHUT))
+        verify(self.folder, [order], bus, ["order 1 unit 5 same"])
 
-
-def test_read_shows_what_drive_wrote(folder):
-    desk, bus = desk_of(folder, FULL), bus_of(unit_of(255))
-    desk.over(bus)
-    reading = Reading(folder)
-    reading.over(bus)
-    held = bytes.fromhex(reading.text())
-    want(held, bytes(bus.units[0].banks[1]))
-    want({location: held[location] for location in bytes_of(FULL[0])}, bytes_of(FULL[0]))
-    shown = subprocess.run([reading.program, "show", reading.bank], capture_output=True, text=True).stdout.splitlines()
-    for line in ("gtin 04006381333931", "year 24", "week 53", "input_power 40", "luminaire text " + 60 * "B"):
-        assert line in shown, shown
+    def test_read_shows_what_drive_wrote(self):
+        desk, bus = desk_of(self.folder, FULL), bus_of(unit_of(255))
+        desk.over(bus)
+        reading = Reading(self.folder)
+        reading.over(bus)
+        held = bytes.fromhex(reading.text())
+        self.assertEqual(held, bytes(bus.units[0].banks[1]))
+        self.assertEqual({location: held[location] for location in bytes_of(FULL[0])}, bytes_of(FULL[0]))
+        shown = subprocess.run([reading.program, "show", reading.bank], capture_output=True,
+                               text=True).stdout.splitlines()
+        for line in ("gtin 04006381333931", "year 24", "week 53", "input_power 40", "luminaire text " + 60 * "B"):
+            assert line in shown, shown

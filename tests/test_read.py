@@ -1,25 +1,20 @@
 #!/usr/bin/env python3
 """Test `dali_bench read`, `verify` and `scan`: the built program over pipes, simulated units, real files and kills.
 
-    test_read.py PROGRAM [FOLDER]
+    test_read.py [PROGRAM [FOLDER]]
 
-FOLDER has drive_shim.so and refuse_alloc.so, built from the C files of this folder; without it they are built here.
-The last line is `N passed, M failed`, and the status is 0 only where none failed. What couldn't be tested on this
-machine has a line that begins with `skipped`.
+PROGRAM is that of the checkout, where none is given. FOLDER has drive_shim.so and refuse_alloc.so, built from the C
+files of this folder; without it they are built here. The last line is `N passed, M failed`, and the status is 0 only
+where none failed. What couldn't be tested on this machine has a line that begins with `skipped`.
 """
 
 import sys
 
 sys.dont_write_bytecode = True
 
-import link_memory  # noqa: E402
-import read_places  # noqa: E402
-import read_streams  # noqa: E402
-import read_units  # noqa: E402
-import read_verify  # noqa: E402
-import suite  # noqa: E402
+import beside  # noqa: E402
 
-MODULES = (read_streams, read_units, read_verify, read_places, link_memory)
+MODULES = ("read_streams", "read_units", "read_verify", "read_places", "link_memory")
 
 if __name__ == "__main__":
-    sys.exit(suite.main(__doc__, MODULES, sys.argv[1:]))
+    sys.exit(beside.main(__doc__, MODULES, sys.argv[1:]))

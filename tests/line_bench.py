@@ -16,10 +16,11 @@ import sqlite3
 import subprocess
 import sys
 import time
+import unittest
 import weakref
 from typing import NamedTuple
 
-from drive_desk import Skipped, settings, want
+from base import settings, want
 from driven import DONE, PATIENCE, ROOT, groups_of, possible_bytes, simulated_link
 
 PROGRAM = ROOT / "line_computer"
@@ -272,9 +273,9 @@ class Server:
         """Make its files. Where PostgreSQL isn't installed the test is skipped."""
         found = sorted(pathlib.Path("/usr/lib/postgresql").glob("*/bin/postgres"))
         if not found or not shutil.which("psql"):
-            raise Skipped("PostgreSQL isn't installed (Debian: postgresql)")
+            raise unittest.SkipTest("PostgreSQL isn't installed (Debian: postgresql)")
         if subprocess.run([python(), "-c", "import psycopg2"], capture_output=True, check=False).returncode:
-            raise Skipped("psycopg2 isn't installed (Debian: python3-psycopg2)")
+            raise unittest.SkipTest("psycopg2 isn't installed (Debian: python3-psycopg2)")
         self.programs, self.folder, self.user = found[-1].parent, folder / "postgres", {}
         self.folder.mkdir()
         if os.geteuid() == 0:
@@ -282,7 +283,7 @@ class Server:
             shutil.chown(self.folder, "postgres")
             folder.chmod(0o711)
             if not all(path.stat().st_mode & 0o001 for path in folder.parents):
-                raise Skipped(f"the user postgres can't come to {folder}")
+                raise unittest.SkipTest(f"the user postgres can't come to {folder}")
         self.call("initdb", "-D", self.folder / "data", "-A", "trust", "-U", "bench", "-E", "UTF8")
         self.url = f"postgresql://bench@/postgres?host={self.folder}"
         self.process = None

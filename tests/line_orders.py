@@ -6,7 +6,8 @@ import shutil
 import sqlite3
 import subprocess
 
-from drive_desk import NOBODY, settings, want
+from base import BenchTest, settings, want
+from drive_desk import NOBODY
 from driven import ROOT
 from line_bench import PROGRAM, Bench, Server, judge
 
@@ -53,82 +54,83 @@ WRONG = {
 }
 
 
-def test_orders_are_added(folder):
-    for at, (name, (options, given, lines, rows)) in enumerate(GOOD.items()):
-        (folder / str(at)).mkdir()
-        bench = Bench(folder / str(at))
-        want((name, bench.does("add", *options, "-", given=given)), (name, lines))
-        want((name, bench.rows("select number, reference, unit, fields, gtin from bench_orders order by number")),
-             (name, rows))
-        path = folder / str(at) / "given"
-        path.write_bytes(given)
-        again = bench.does("add", *options, "given")
-        want((name, again[-1]), (name, lines[-1] if rows[0][1] is None else f"added 0 known {len(lines) - 1}"))
+class OrdersTest(BenchTest):
+    """Orders, their numbers and their states."""
 
+    def test_orders_are_added(self):
+        for at, (name, (options, given, lines, rows)) in enumerate(GOOD.items()):
+            (self.folder / str(at)).mkdir()
+            bench = Bench(self.folder / str(at))
+            self.assertEqual((name, bench.does("add", *options, "-", given=given)), (name, lines))
+            stored = bench.rows("select number, reference, unit, fields, gtin from bench_orders order by number")
+            self.assertEqual((name, stored), (name, rows))
+            path = self.folder / str(at) / "given"
+            path.write_bytes(given)
+            again = bench.does("add", *options, "given")
+            self.assertEqual((name, again[-1]),
+                             (name, lines[-1] if rows[0][1] is None else f"added 0 known {len(lines) - 1}"))
 
-def test_wrong_orders_are_refused_as_a_whole(folder):
-    bench = Bench(folder)
-    for name, (given, line, told) in WRONG.items():
-        ended = bench.give("add", "-", given=given)
-        want((name, ended.status, (ended.lines() or [None])[0], ended.told[:len(told)]), (name, 1, line, told))
-    want(bench.states(), {})
-    # No number was used up that anybody saw.
-    want(bench.does("add", "-", given=b'[{"unit":5,"year":24}]')[-1], "added 1 known 0")
+    def test_wrong_orders_are_refused_as_a_whole(self):
+        bench = Bench(self.folder)
+        for name, (given, line, told) in WRONG.items():
+            ended = bench.give("add", "-", given=given)
+            self.assertEqual((name, ended.status, (ended.lines() or [None])[0], ended.told[:len(told)]),
+                             (name, 1, line, told))
+        self.assertEqual(bench.states(), {})
+        # No number was used up that anybody saw.
+        self.assertEqual(bench.does("add", "-", given=b'[{"unit":5,"year":24}]')[-1], "added 1 known 0")
 
+    def test_an_order_that_is_added_again_is_one(self):
+        bench = Bench(self.folder, buses=("bus1", "bus2"))
+        given = b'[{"order":1,"unit":5,"year":24},{"order":2,"unit":60,"year":25}]'
+        self.assertEqual(bench.does("add", "--bus", "bus1", "-", given=given)[-1], "added 2 known 0")
+        more = b'[{"order":2,"unit":60,"year":25},{"order":3,"unit":60,"year":26}]'
+        self.assertEqual(bench.does("add", "--bus", "bus1", "-", given=more), ["item 1 order 2 known", "item 2 order 4",
+                                                                               "added 1 known 1"])
+        self.assertEqual(bench.does("add", "--bus", "bus2", "-", given=given)[-1], "added 2 known 0")
+        another = b'[{"order":9,"unit":5,"year":24},{"order":2,"unit":5,"year":9}]'
+        other = bench.give("add", "--bus", "bus1", "-", given=another)
+        self.assertEqual((other.status, other.told),
+                         (1, "error: item 2 order 2: the number of order 2 of this store, which is another one\n"))
+        self.assertEqual(len(bench.states()), 5)
 
-def test_an_order_that_is_added_again_is_one(folder):
-    bench = Bench(folder, buses=("bus1", "bus2"))
-    given = b'[{"order":1,"unit":5,"year":24},{"order":2,"unit":60,"year":25}]'
-    want(bench.does("add", "--bus", "bus1", "-", given=given)[-1], "added 2 known 0")
-    more = b'[{"order":2,"unit":60,"year":25},{"order":3,"unit":60,"year":26}]'
-    want(bench.does("add", "--bus", "bus1", "-", given=more), ["item 1 order 2 known", "item 2 order 4",
-                                                               "added 1 known 1"])
-    want(bench.does("add", "--bus", "bus2", "-", given=given)[-1], "added 2 known 0")
-    another = b'[{"order":9,"unit":5,"year":24},{"order":2,"unit":5,"year":9}]'
-    other = bench.give("add", "--bus", "bus1", "-", given=another)
-    want((other.status, other.told),
-         (1, "error: item 2 order 2: the number of order 2 of this store, which is another one\n"))
-    want(len(bench.states()), 5)
+    def test_no_number_is_given_twice(self):
+        bench = Bench(self.folder)
+        adders = [subprocess.Popen(bench.words("add", "-"), cwd=self.folder, stdin=subprocess.PIPE,
+                                   stdout=subprocess.PIPE) for _ in range(6)]
+        for adder in adders:
+            adder.stdin.write(json.dumps([{"unit": 5, "year": 24}] * 30).encode())
+            adder.stdin.close()
+        lines = [line for adder in adders for line in adder.stdout.read().decode().splitlines()]
+        self.assertEqual([adder.wait() for adder in adders], [0] * 6)
+        numbers = [int(line.split()[3]) for line in lines if line.startswith("item")]
+        self.assertEqual(sorted(numbers), list(range(1, 181)))
+        with sqlite3.connect(bench.store) as connection:
+            connection.execute("delete from bench_orders")
+        connection.close()
+        self.assertEqual(bench.does("add", "-", given=b'[{"unit":5,"year":24}]')[0], "item 1 order 181")
+        self.assertEqual(bench.does("init", "--first", "7"), ["store of version 1"])
+        self.assertEqual(bench.does("init", "--first", "1000"), ["store of version 1"])
+        self.assertEqual(bench.does("add", "-", given=b'[{"unit":5,"year":24}]')[0], "item 1 order 1000")
+        bench.does("init", "--first", str(2**53 - 2))
+        self.assertEqual(bench.give("add", "-", given=b'[{"unit":5,"year":24},{"unit":5,"year":24}]').status, 1)
+        self.assertEqual(bench.does("add", "-", given=b'[{"unit":5,"year":24}]')[0], f"item 1 order {2**53 - 2}")
 
-
-def test_no_number_is_given_twice(folder):
-    bench = Bench(folder)
-    adders = [subprocess.Popen(bench.words("add", "-"), cwd=folder, stdin=subprocess.PIPE, stdout=subprocess.PIPE)
-              for _ in range(6)]
-    for adder in adders:
-        adder.stdin.write(json.dumps([{"unit": 5, "year": 24}] * 30).encode())
-        adder.stdin.close()
-    lines = [line for adder in adders for line in adder.stdout.read().decode().splitlines()]
-    want([adder.wait() for adder in adders], [0] * 6)
-    numbers = [int(line.split()[3]) for line in lines if line.startswith("item")]
-    want(sorted(numbers), list(range(1, 181)))
-    with sqlite3.connect(bench.store) as connection:
-        connection.execute("delete from bench_orders")
-    connection.close()
-    want(bench.does("add", "-", given=b'[{"unit":5,"year":24}]')[0], "item 1 order 181")
-    want(bench.does("init", "--first", "7"), ["store of version 1"])
-    want(bench.does("init", "--first", "1000"), ["store of version 1"])
-    want(bench.does("add", "-", given=b'[{"unit":5,"year":24}]')[0], "item 1 order 1000")
-    bench.does("init", "--first", str(2**53 - 2))
-    want(bench.give("add", "-", given=b'[{"unit":5,"year":24},{"unit":5,"year":24}]').status, 1)
-    want(bench.does("add", "-", given=b'[{"unit":5,"year":24}]')[0], f"item 1 order {2**53 - 2}")
-
-
-def test_orders_status_and_cancelling(folder):
-    bench = Bench(folder)
-    bench.does("add", "-", given=b'[{"order":4,"unit":5,"year":24},{"unit":6,"year":24}]')
-    want(bench.does("orders"), ["order 1 bus bus1 unit 5 added (was 4)", "order 2 bus bus1 unit 6 added"])
-    want(bench.does("cancel", "1"), ["order 1 cancelled"])
-    want(bench.does("orders", "--state", "cancelled"), ["order 1 bus bus1 unit 5 cancelled (was 4)"])
-    want(bench.does("status"), ["bus bus1 not running", "orders added 1 sent 0 taken 0 blocked 0 full 0 ended 0 refused"
-                                " 0 reused 0 cancelled 1", "done 0", "labels left 0"])
-    # One that was cancelled is known all the same.
-    want(bench.does("add", "-", given=b'[{"order":4,"unit":5,"year":24}]')[-1], "added 0 known 1")
-    want(bench.run(), 0)
-    want(bench.does("orders")[1], "order 2 bus bus1 unit 6 ended: kept 4 Doubt")
-
-
-# Mistakes
+    def test_orders_status_and_cancelling(self):
+        bench = Bench(self.folder)
+        bench.does("add", "-", given=b'[{"order":4,"unit":5,"year":24},{"unit":6,"year":24}]')
+        self.assertEqual(bench.does("orders"),
+                         ["order 1 bus bus1 unit 5 added (was 4)", "order 2 bus bus1 unit 6 added"])
+        self.assertEqual(bench.does("cancel", "1"), ["order 1 cancelled"])
+        self.assertEqual(bench.does("orders", "--state", "cancelled"), ["order 1 bus bus1 unit 5 cancelled (was 4)"])
+        self.assertEqual(bench.does("status"),
+                         ["bus bus1 not running",
+                          "orders added 1 sent 0 taken 0 blocked 0 full 0 ended 0 refused 0 reused 0 cancelled 1",
+                          "done 0", "labels left 0"])
+        # One that was cancelled is known all the same.
+        self.assertEqual(bench.does("add", "-", given=b'[{"order":4,"unit":5,"year":24}]')[-1], "added 0 known 1")
+        self.assertEqual(bench.run(), 0)
+        self.assertEqual(bench.does("orders")[1], "order 2 bus bus1 unit 6 ended: kept 4 Doubt")
 
 
 def mistakes(folder):
@@ -171,37 +173,40 @@ def mistakes(folder):
     ]
 
 
-def test_mistakes_are_told(folder):
-    bench = Bench(folder)
-    (folder / "text").write_text("no database, and longer than the header of one" * 40)
-    (folder / "empty").write_text("")
-    for words, status, told in mistakes(folder):
-        command = [bench.python, PROGRAM, *words]
-        if "--store" not in words and words and words[0] not in ("frobnicate",):
-            command[3:3] = ["--store", bench.store]
-        if words[:1] == ("add",) and "--program" not in words:
-            command[3:3] = ["--program", settings["program"]]
-        ended = subprocess.run(command, cwd=folder, input=b'[{"unit":5,"year":24}]', capture_output=True, check=False)
-        found = ended.stderr.decode()
-        want((words, ended.returncode, found[:len(told)]), (words, status, told))
-        want((words, [line for line in found.splitlines() if "Traceback" in line]), (words, []))
-    want(bench.states(), {})
+class MistakesTest(BenchTest):
+    """Mistakes, and stores that can't be used."""
 
+    def test_mistakes_are_told(self):
+        bench = Bench(self.folder)
+        (self.folder / "text").write_text("no database, and longer than the header of one" * 40)
+        (self.folder / "empty").write_text("")
+        for words, status, told in mistakes(self.folder):
+            command = [bench.python, PROGRAM, *words]
+            if "--store" not in words and words and words[0] not in ("frobnicate",):
+                command[3:3] = ["--store", bench.store]
+            if words[:1] == ("add",) and "--program" not in words:
+                command[3:3] = ["--program", settings["program"]]
+            ended = subprocess.run(command, cwd=self.folder, input=b'[{"unit":5,"year":24}]', capture_output=True,
+                                   check=False)
+            found = ended.stderr.decode()
+            self.assertEqual((words, ended.returncode, found[:len(told)]), (words, status, told))
+            self.assertEqual((words, [line for line in found.splitlines() if "Traceback" in line]), (words, []))
+        self.assertEqual(bench.states(), {})
 
-def test_a_store_of_another_version_is_told(folder):
-    bench = Bench(folder)
-    bench.does("add", "-", given=b'[{"unit":5,"year":24}]')
-    for version, what in ((2, "use the line computer that made it"), (0, "")):
-        with sqlite3.connect(bench.store) as connection:
-            connection.execute("update bench_store set version = ?", (version,))
-        connection.close()
-        for command in (("status",), ("add", "-"), ("labels",), ("cancel", "1")):
-            ended = bench.give(*command, given=b'[{"unit":5,"year":24}]')
-            wanted = f"error: the store has version {version}, and this line computer has 1: {what}"
-            if version:
-                want((command, ended.status, ended.told), (command, 1, wanted + "\n"))
-            else:
-                want((command, ended.status), (command, 2))
+    def test_a_store_of_another_version_is_told(self):
+        bench = Bench(self.folder)
+        bench.does("add", "-", given=b'[{"unit":5,"year":24}]')
+        for version, what in ((2, "use the line computer that made it"), (0, "")):
+            with sqlite3.connect(bench.store) as connection:
+                connection.execute("update bench_store set version = ?", (version,))
+            connection.close()
+            for command in (("status",), ("add", "-"), ("labels",), ("cancel", "1")):
+                ended = bench.give(*command, given=b'[{"unit":5,"year":24}]')
+                wanted = f"error: the store has version {version}, and this line computer has 1: {what}"
+                if version:
+                    self.assertEqual((command, ended.status, ended.told), (command, 1, wanted + "\n"))
+                else:
+                    self.assertEqual((command, ended.status), (command, 2))
 
 
 # A line computer of a later version, whose tables have a column more.
@@ -242,86 +247,87 @@ def judge_migration(bench):
     want(bench.give("init")[::2], (1, "error: the store has version 2, and this line computer has 1\n"))
 
 
-def test_a_store_is_brought_up(folder):
-    judge_migration(Bench(folder))
+class StoreTest(BenchTest):
+    """Stores of an older version, of PostgreSQL, and without rights."""
+
+    def test_a_store_is_brought_up(self):
+        judge_migration(Bench(self.folder))
+
+    def test_a_store_in_postgresql_is_brought_up(self):
+        with Server(self.folder) as server:
+            judge_migration(Bench(self.folder, server.url))
+
+    def test_a_store_in_postgresql(self):
+        with Server(self.folder) as server:
+            bench = Bench(self.folder, server.url, ("bus1", "bus2"))
+            for given, line in ((b'[{"order":1,"unit":5,"year":24},{"unit":60,"year":25}]', "added 2 known 0"),
+                                (b'[{"order":1,"unit":5,"year":24}]', "added 0 known 1")):
+                self.assertEqual(bench.does("add", "--bus", "bus1", "-", given=given)[-1], line)
+            self.assertEqual(bench.does("cancel", "2"), ["order 2 cancelled"])
+            self.assertEqual(bench.run(), 0)
+            self.assertEqual(bench.does("orders"), ["order 1 bus bus1 unit 5 ended: kept 0 Done (was 1)",
+                                                    "order 2 bus bus1 unit 60 cancelled"])
+            self.assertEqual(len(bench.does("labels", "--take")), 1)
+            self.assertEqual(bench.does("labels"), [])
+            self.assertEqual(bench.does("retire", "--bus", "bus1"), ["retired bench_1.journal"])
+            # A role without rights, one that isn't there, a database that isn't, a server that is gone.
+            subprocess.run(["psql", "-X", "-q", "-c", "create role guest login", server.url], check=True)
+            guest = server.url.replace("bench@", "guest@")
+            for url, told in ((guest, "error: the store can't be used: permission denied for table bench_store"),
+                              (server.url.replace("bench@", "none@"), "error: the store can't be used: "),
+                              (server.url.replace("/postgres?", "/none?"), "error: the store can't be used: ")):
+                ended = subprocess.run([bench.python, PROGRAM, "status", "--store", url], capture_output=True,
+                                       text=True, check=False)
+                self.assertEqual((url, ended.returncode, ended.stderr[:len(told)]), (url, 2, told))
+            server.kill()
+            ended = bench.give("status")
+            self.assertEqual((ended.status, ended.told[:32]), (2, "error: the store can't be used: "))
+            server.start()
+
+    def test_no_right_to_a_store(self):
+        if os.geteuid():
+            return
+        bench = Bench(self.folder)
+        # A folder that anybody may enter, with a store that nobody else may read.
+        self.folder.chmod(0o755)
+        os.chmod(bench.store, 0o600)
+        place = ROOT if os.access(ROOT, os.R_OK) else self.folder
+        copy = self.folder / "copy"
+        shutil.copytree(place / "tools", copy / "tools")
+        shutil.copy(PROGRAM, copy / "line_computer")
+        ended = subprocess.run(["/usr/bin/env", "python3" if bench.python == "python3" else bench.python,
+                                copy / "line_computer", "status", "--store", bench.store], capture_output=True,
+                               text=True, user=NOBODY, group=NOBODY, extra_groups=[], cwd="/", check=False)
+        self.assertEqual((ended.returncode, ended.stderr),
+                         (2, "error: the store can't be used: unable to open database file\n"))
 
 
-def test_a_store_in_postgresql_is_brought_up(folder):
-    with Server(folder) as server:
-        judge_migration(Bench(folder, server.url))
+class OutputsTest(BenchTest):
+    """Labels, and what is printed."""
 
-
-def test_a_store_in_postgresql(folder):
-    with Server(folder) as server:
-        bench = Bench(folder, server.url, ("bus1", "bus2"))
-        for given, line in ((b'[{"order":1,"unit":5,"year":24},{"unit":60,"year":25}]', "added 2 known 0"),
-                            (b'[{"order":1,"unit":5,"year":24}]', "added 0 known 1")):
-            want(bench.does("add", "--bus", "bus1", "-", given=given)[-1], line)
-        want(bench.does("cancel", "2"), ["order 2 cancelled"])
-        want(bench.run(), 0)
-        want(bench.does("orders"), ["order 1 bus bus1 unit 5 ended: kept 0 Done (was 1)",
-                                    "order 2 bus bus1 unit 60 cancelled"])
-        want(len(bench.does("labels", "--take")), 1)
-        want(bench.does("labels"), [])
-        want(bench.does("retire", "--bus", "bus1"), ["retired bench_1.journal"])
-        # A role without rights, one that isn't there, a database that isn't, a server that is gone.
-        subprocess.run(["psql", "-X", "-q", "-c", "create role guest login", server.url], check=True)
-        guest = server.url.replace("bench@", "guest@")
-        for url, told in ((guest, "error: the store can't be used: permission denied for table bench_store"),
-                          (server.url.replace("bench@", "none@"), "error: the store can't be used: "),
-                          (server.url.replace("/postgres?", "/none?"), "error: the store can't be used: ")):
-            ended = subprocess.run([bench.python, PROGRAM, "status", "--store", url], capture_output=True, text=True,
-                                   check=False)
-            want((url, ended.returncode, ended.stderr[:len(told)]), (url, 2, told))
-        server.kill()
-        ended = bench.give("status")
-        want((ended.status, ended.told[:32]), (2, "error: the store can't be used: "))
-        server.start()
-
-
-def test_no_right_to_a_store(folder):
-    if os.geteuid():
-        return
-    bench = Bench(folder)
-    # A folder that anybody may enter, with a store that nobody else may read.
-    folder.chmod(0o755)
-    os.chmod(bench.store, 0o600)
-    place = ROOT if os.access(ROOT, os.R_OK) else folder
-    copy = folder / "copy"
-    shutil.copytree(place / "tools", copy / "tools")
-    shutil.copy(PROGRAM, copy / "line_computer")
-    ended = subprocess.run(["/usr/bin/env", "python3" if bench.python == "python3" else bench.python,
-                            copy / "line_computer", "status", "--store", bench.store], capture_output=True, text=True,
-                           user=NOBODY, group=NOBODY, extra_groups=[], cwd="/", check=False)
-    want((ended.returncode, ended.stderr), (2, "error: the store can't be used: unable to open database file\n"))
-
-
-# Labels and outputs
-
-
-def test_labels_that_can_not_be_written_are_not_taken(folder):
-    bench = Bench(folder)
-    bench.add([(5, 24, 1), (60, 24, 2)])
-    want(bench.run(), 0)
-    with open("/dev/full", "wb") as full:
-        ended = subprocess.run(bench.words("labels", "--take"), cwd=folder, stdout=full, stderr=subprocess.PIPE,
+    def test_labels_that_can_not_be_written_are_not_taken(self):
+        bench = Bench(self.folder)
+        bench.add([(5, 24, 1), (60, 24, 2)])
+        self.assertEqual(bench.run(), 0)
+        with open("/dev/full", "wb") as full:
+            ended = subprocess.run(bench.words("labels", "--take"), cwd=self.folder, stdout=full,
+                                   stderr=subprocess.PIPE, text=True, check=False)
+        self.assertEqual((ended.returncode, ended.stderr),
+                         (2, "error: the output can't be written: No space left on device\n"))
+        reader, writer = os.pipe()
+        os.close(reader)
+        ended = subprocess.run(bench.words("labels", "--take"), cwd=self.folder, stdout=writer, stderr=subprocess.PIPE,
                                text=True, check=False)
-    want((ended.returncode, ended.stderr), (2, "error: the output can't be written: No space left on device\n"))
-    reader, writer = os.pipe()
-    os.close(reader)
-    ended = subprocess.run(bench.words("labels", "--take"), cwd=folder, stdout=writer, stderr=subprocess.PIPE,
-                           text=True, check=False)
-    os.close(writer)
-    want((ended.returncode, ended.stderr, len(bench.does("labels"))), (2, "", 2))
-    want((len(bench.does("labels", "--take")), bench.does("labels", "--take")), (2, []))
-    judge(bench)
+        os.close(writer)
+        self.assertEqual((ended.returncode, ended.stderr, len(bench.does("labels"))), (2, "", 2))
+        self.assertEqual((len(bench.does("labels", "--take")), bench.does("labels", "--take")), (2, []))
+        judge(bench)
 
-
-def test_help_of_each_command(folder):
-    commands = ("init", "add", "run", "status", "orders", "cancel", "labels", "retire", "page")
-    ended = subprocess.run([PROGRAM, "--help"], capture_output=True, text=True, check=False)
-    want((ended.returncode, ended.stderr), (0, ""))
-    for command in commands:
-        assert f"    {command} " in ended.stdout, command
-        one = subprocess.run([PROGRAM, command, "--help"], capture_output=True, text=True, check=False)
-        want((command, one.returncode, one.stderr, "--store" in one.stdout), (command, 0, "", True))
+    def test_help_of_each_command(self):
+        commands = ("init", "add", "run", "status", "orders", "cancel", "labels", "retire", "page")
+        ended = subprocess.run([PROGRAM, "--help"], capture_output=True, text=True, check=False)
+        self.assertEqual((ended.returncode, ended.stderr), (0, ""))
+        for command in commands:
+            assert f"    {command} " in ended.stdout, command
+            one = subprocess.run([PROGRAM, command, "--help"], capture_output=True, text=True, check=False)
+            self.assertEqual((command, one.returncode, one.stderr, "--store" in one.stdout), (command, 0, "", True))

@@ -9,8 +9,9 @@ import re
 import signal
 import subprocess
 import time
+from functools import partialmethod
 
-from drive_desk import parts, want
+from base import BenchTest, want
 from driven import PATIENCE, ROOT
 from line_bench import (ABSENT, FIXED, GOOD, LIVE, SHORT, Bench, Server, judge, processes_of, stop, wait_for,
                         with_no_fault)
@@ -106,23 +107,22 @@ class Storm:
         print(", ".join(f"{name} {count}" for name, count in sorted(self.counts.items())), flush=True)
 
 
-def test_a_storm_over_sqlite(folder):
-    storm = Storm(Bench(folder, buses=BUSES), random.Random(SEED), KILLS)
-    storm.go_on()
-    storm.end()
-    for name in (*VICTIMS, "ended by a later drive"):
-        assert storm.counts[name] > 10, storm.counts
+class StormTest(BenchTest):
+    """Storms of kills."""
 
-
-def test_a_storm_over_postgresql(folder):
-    with Server(folder) as server:
-        storm = Storm(Bench(folder, server.url, BUSES), random.Random(SEED), SERVER_KILLS, server)
+    def test_a_storm_over_sqlite(self):
+        storm = Storm(Bench(self.folder, buses=BUSES), random.Random(SEED), KILLS)
         storm.go_on()
         storm.end()
-    assert storm.counts["server"] > 2 and storm.counts["backend"] > 2, storm.counts
+        for name in (*VICTIMS, "ended by a later drive"):
+            assert storm.counts[name] > 10, storm.counts
 
-
-# A crash at each call
+    def test_a_storm_over_postgresql(self):
+        with Server(self.folder) as server:
+            storm = Storm(Bench(self.folder, server.url, BUSES), random.Random(SEED), SERVER_KILLS, server)
+            storm.go_on()
+            storm.end()
+        assert storm.counts["server"] > 2 and storm.counts["backend"] > 2, storm.counts
 
 
 def crash_points(bench, kind, first, step):
@@ -143,112 +143,123 @@ def crash_points(bench, kind, first, step):
         number += step
 
 
-@parts(6)
-def test_a_crash_at_each_call_of_a_bus(folder, part, count):
-    kind, first = (("commit", "write", "read")[part % 3], 1 + part // 3)
-    crashes = crash_points(Bench(folder), kind, first, count // 3)
-    print(f"crashes at a {kind}, from {first} on: {crashes}", flush=True)
-    assert crashes >= {"commit": 4, "write": 1, "read": 4}[kind], (kind, crashes)
+class CrashTest(BenchTest):
+    """A crash at each call."""
 
+    def a_crash_at_each_call_of_a_bus(self, part, count):
+        kind, first = (("commit", "write", "read")[part % 3], 1 + part // 3)
+        crashes = crash_points(Bench(self.folder), kind, first, count // 3)
+        print(f"crashes at a {kind}, from {first} on: {crashes}", flush=True)
+        assert crashes >= {"commit": 4, "write": 1, "read": 4}[kind], (kind, crashes)
 
-def test_a_reply_that_a_crash_has_lost(folder):
-    """The order is done, and its end isn't in the store: answered from the journal, it has its label."""
-    bench = Bench(folder)
-    for turn, when in enumerate(("before", "behind")):
-        number, = bench.add([(5, 24 + turn, 1)])
-        want(bench.run(crash=("label", "1", when)), -signal.SIGKILL)
-        assert bench.states()[number] in ("sent", "taken"), bench.states()
-        want([group.code for group in bench.groups("bus1")], [0] * (turn + 1))
-        want(len(bench.does("labels")), turn)
-        time.sleep(1.1)  # its moment is a past one
-        want(bench.run(), 0)
-        report, sends = bench.rows(f"select report, sends from bench_orders where number = {number}")[0]
-        want((json.loads(report)["ended"], sends, len(bench.does("labels"))), ("before", 2, turn + 1))
-        judge(bench)
+    test_a_crash_at_each_call_of_a_bus_part_1 = partialmethod(a_crash_at_each_call_of_a_bus, 0, 6)
+    test_a_crash_at_each_call_of_a_bus_part_2 = partialmethod(a_crash_at_each_call_of_a_bus, 1, 6)
+    test_a_crash_at_each_call_of_a_bus_part_3 = partialmethod(a_crash_at_each_call_of_a_bus, 2, 6)
+    test_a_crash_at_each_call_of_a_bus_part_4 = partialmethod(a_crash_at_each_call_of_a_bus, 3, 6)
+    test_a_crash_at_each_call_of_a_bus_part_5 = partialmethod(a_crash_at_each_call_of_a_bus, 4, 6)
+    test_a_crash_at_each_call_of_a_bus_part_6 = partialmethod(a_crash_at_each_call_of_a_bus, 5, 6)
 
-
-@parts(3)
-def test_a_crash_amid_the_calls_of_sqlite(folder, part, count):
-    """Before each call, of every third, with which SQLite changes its files: also amid what it commits."""
-    shim, bench, crashes = folder / "shim.so", Bench(folder), 0
-    subprocess.run(["cc", "-shared", "-fPIC", "-o", shim, ROOT / "tests" / "line_shim.c", "-ldl"], check=True)
-    for number in itertools.count(1 + part, 3 * count):
-        bench.add([(5, number % 100, 1)])
-        words = bench.run_words("bus1", "--until-empty")
-        ended = subprocess.run(words, cwd=folder, env={**os.environ, "LD_PRELOAD": str(shim), "LINE_SHIM": str(number)},
-                               capture_output=True, check=False)
-        crashes += ended.returncode == -signal.SIGKILL
-        want(bench.run(), 0)
-        judge(bench)
-        if ended.returncode == 0:
-            break
-        want((number, ended.returncode), (number, -signal.SIGKILL))
-    print(f"crashes amid the calls of SQLite, of which the last is number {number}: {crashes}", flush=True)
-    assert crashes > 3, crashes
-
-
-def test_a_crash_at_each_call_of_a_bus_over_postgresql(folder):
-    with Server(folder) as server:
-        crashes = crash_points(Bench(folder, server.url), "commit", 1, 1)
-        assert crashes >= 8, crashes
-
-
-def test_a_crash_at_each_call_of_adding(folder):
-    bench = Bench(folder)
-    for kind, number in (("commit", 1), ("write", 1)):
-        for when in ("before", "behind"):
-            before = len(bench.states())
-            bench.add([(5, 24, 1), (60, 25, 2), (ABSENT, 26, 3)], crash=(kind, str(number), when))
-            added = 0 if (kind, when) == ("commit", "before") else 3
-            want((kind, when, len(bench.states()) - before), (kind, when, added))
-    want(bench.run(), 0)
-    stored = judge(bench)
-    want((len(stored), sorted(set(stored))), (9, sorted(stored)))
-    want(len(bench.wanted), 3)  # the numbers that came out before the crash behind the write
-
-
-def test_a_crash_at_each_call_of_taking_labels(folder):
-    bench = Bench(folder)
-    bench.add([(5, 24, 1), (60, 25, 2)])
-    want(bench.run(), 0)
-    taken = []
-    for kind, when in (("write", "before"), ("write", "behind"), ("commit", "before")):
-        ended = bench.give("labels", "--take", crash=(kind, "1", when))
-        want(ended.status, -signal.SIGKILL)
-        taken += ended.lines()
-        want(len(bench.does("labels")), 2)
-    want(len(taken), 4)  # written, and not durable as taken: they come again, with the same numbers
-    ended = bench.give("labels", "--take", crash=("commit", "1", "behind"))
-    want((ended.status, len(ended.lines()), bench.does("labels"), bench.does("labels", "--take")),
-         (-signal.SIGKILL, 2, [], []))
-
-
-@parts(4)
-def test_a_crash_at_each_call_of_retiring(folder, part, count):
-    kind = ("commit", "rename", "sync")[part % 3] if part < 3 else "commit"
-    bench, number, crashes = Bench(folder), 1, 0
-    while True:
-        bench.add([(5, number, 1)])
-        want(bench.run(), 0)
-        for when in ("before", "behind"):
-            bench.add([(60, number, 2)])
-            ended = bench.give("retire", "--bus", "bus1", crash=(kind, str(number), when))
-            if ended.status == 0:
-                want(bench.run(), 0)
-                judge(bench)
-                assert crashes >= 2, (kind, crashes)
-                return
-            want((kind, number, when, ended.status), (kind, number, when, -signal.SIGKILL))
-            crashes += 1
-            want(bench.run(), 0)
+    def test_a_reply_that_a_crash_has_lost(self):
+        """The order is done, and its end isn't in the store: answered from the journal, it has its label."""
+        bench = Bench(self.folder)
+        for turn, when in enumerate(("before", "behind")):
+            number, = bench.add([(5, 24 + turn, 1)])
+            self.assertEqual(bench.run(crash=("label", "1", when)), -signal.SIGKILL)
+            assert bench.states()[number] in ("sent", "taken"), bench.states()
+            self.assertEqual([group.code for group in bench.groups("bus1")], [0] * (turn + 1))
+            self.assertEqual(len(bench.does("labels")), turn)
+            time.sleep(1.1)  # its moment is a past one
+            self.assertEqual(bench.run(), 0)
+            report, sends = bench.rows(f"select report, sends from bench_orders where number = {number}")[0]
+            self.assertEqual((json.loads(report)["ended"], sends, len(bench.does("labels"))), ("before", 2, turn + 1))
             judge(bench)
-        number += 1
 
+    def a_crash_amid_the_calls_of_sqlite(self, part, count):
+        """Before each call, of every third, with which SQLite changes its files: also amid what it commits."""
+        shim, bench, crashes = self.folder / "shim.so", Bench(self.folder), 0
+        subprocess.run(["cc", "-shared", "-fPIC", "-o", shim, ROOT / "tests" / "line_shim.c", "-ldl"], check=True)
+        for number in itertools.count(1 + part, 3 * count):
+            bench.add([(5, number % 100, 1)])
+            words = bench.run_words("bus1", "--until-empty")
+            ended = subprocess.run(words, cwd=self.folder,
+                                   env={**os.environ, "LD_PRELOAD": str(shim), "LINE_SHIM": str(number)},
+                                   capture_output=True, check=False)
+            crashes += ended.returncode == -signal.SIGKILL
+            self.assertEqual(bench.run(), 0)
+            judge(bench)
+            if ended.returncode == 0:
+                break
+            self.assertEqual((number, ended.returncode), (number, -signal.SIGKILL))
+        print(f"crashes amid the calls of SQLite, of which the last is number {number}: {crashes}", flush=True)
+        assert crashes > 3, crashes
 
-def test_two_who_take_labels_at_once(folder):
-    bench = Bench(folder)
-    bench.add([(5, year, 1) for year in range(20)])
-    want(bench.run(), 0)
-    takers = [subprocess.Popen(bench.words("labels", "--take"), cwd=folder, stdout=subprocess.PIPE) for _ in range(4)]
-    lines = [line for taker in takers for line in taker.communicate()[0].splitlines()]
-    want((len(lines), len(set(lines))), (20, 20))
+    test_a_crash_amid_the_calls_of_sqlite_part_1 = partialmethod(a_crash_amid_the_calls_of_sqlite, 0, 3)
+    test_a_crash_amid_the_calls_of_sqlite_part_2 = partialmethod(a_crash_amid_the_calls_of_sqlite, 1, 3)
+    test_a_crash_amid_the_calls_of_sqlite_part_3 = partialmethod(a_crash_amid_the_calls_of_sqlite, 2, 3)
+
+    def test_a_crash_at_each_call_of_a_bus_over_postgresql(self):
+        with Server(self.folder) as server:
+            crashes = crash_points(Bench(self.folder, server.url), "commit", 1, 1)
+            assert crashes >= 8, crashes
+
+    def test_a_crash_at_each_call_of_adding(self):
+        bench = Bench(self.folder)
+        for kind, number in (("commit", 1), ("write", 1)):
+            for when in ("before", "behind"):
+                before = len(bench.states())
+                bench.add([(5, 24, 1), (60, 25, 2), (ABSENT, 26, 3)], crash=(kind, str(number), when))
+                added = 0 if (kind, when) == ("commit", "before") else 3
+                self.assertEqual((kind, when, len(bench.states()) - before), (kind, when, added))
+        self.assertEqual(bench.run(), 0)
+        stored = judge(bench)
+        self.assertEqual((len(stored), sorted(set(stored))), (9, sorted(stored)))
+        self.assertEqual(len(bench.wanted), 3)  # the numbers that came out before the crash behind the write
+
+    def test_a_crash_at_each_call_of_taking_labels(self):
+        bench = Bench(self.folder)
+        bench.add([(5, 24, 1), (60, 25, 2)])
+        self.assertEqual(bench.run(), 0)
+        taken = []
+        for kind, when in (("write", "before"), ("write", "behind"), ("commit", "before")):
+            ended = bench.give("labels", "--take", crash=(kind, "1", when))
+            self.assertEqual(ended.status, -signal.SIGKILL)
+            taken += ended.lines()
+            self.assertEqual(len(bench.does("labels")), 2)
+        self.assertEqual(len(taken), 4)  # written, and not durable as taken: they come again, with the same numbers
+        ended = bench.give("labels", "--take", crash=("commit", "1", "behind"))
+        self.assertEqual((ended.status, len(ended.lines()), bench.does("labels"), bench.does("labels", "--take")),
+                         (-signal.SIGKILL, 2, [], []))
+
+    def a_crash_at_each_call_of_retiring(self, part, count):
+        kind = ("commit", "rename", "sync")[part % 3] if part < 3 else "commit"
+        bench, number, crashes = Bench(self.folder), 1, 0
+        while True:
+            bench.add([(5, number, 1)])
+            self.assertEqual(bench.run(), 0)
+            for when in ("before", "behind"):
+                bench.add([(60, number, 2)])
+                ended = bench.give("retire", "--bus", "bus1", crash=(kind, str(number), when))
+                if ended.status == 0:
+                    self.assertEqual(bench.run(), 0)
+                    judge(bench)
+                    assert crashes >= 2, (kind, crashes)
+                    return
+                self.assertEqual((kind, number, when, ended.status), (kind, number, when, -signal.SIGKILL))
+                crashes += 1
+                self.assertEqual(bench.run(), 0)
+                judge(bench)
+            number += 1
+
+    test_a_crash_at_each_call_of_retiring_part_1 = partialmethod(a_crash_at_each_call_of_retiring, 0, 4)
+    test_a_crash_at_each_call_of_retiring_part_2 = partialmethod(a_crash_at_each_call_of_retiring, 1, 4)
+    test_a_crash_at_each_call_of_retiring_part_3 = partialmethod(a_crash_at_each_call_of_retiring, 2, 4)
+    test_a_crash_at_each_call_of_retiring_part_4 = partialmethod(a_crash_at_each_call_of_retiring, 3, 4)
+
+    def test_two_who_take_labels_at_once(self):
+        bench = Bench(self.folder)
+        bench.add([(5, year, 1) for year in range(20)])
+        self.assertEqual(bench.run(), 0)
+        takers = [subprocess.Popen(bench.words("labels", "--take"), cwd=self.folder, stdout=subprocess.PIPE)
+                  for _ in range(4)]
+        lines = [line for taker in takers for line in taker.communicate()[0].splitlines()]
+        self.assertEqual((len(lines), len(set(lines))), (20, 20))

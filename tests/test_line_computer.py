@@ -1,24 +1,21 @@
 #!/usr/bin/env python3
 """Test the line computer: its store, the processes of its buses, its page, and what kills leave of all of it.
 
-    test_line_computer.py PROGRAM [FOLDER]
+    test_line_computer.py [PROGRAM [FOLDER]]
 
-FOLDER is as of test_drive.py. What is over PostgreSQL is tested where that and psycopg2 are installed (Debian:
-postgresql, python3-psycopg2), in a server of the test's own, and what a browser shows where chromium is; where they
-aren't, a line says so that begins with `skipped`. The last line is `N passed, M failed`, and the status is 0 only where
-none failed.
+PROGRAM and FOLDER are as of test_drive.py. What is over PostgreSQL is tested where that and psycopg2 are installed
+(Debian: postgresql, python3-psycopg2), in a server of the test's own, and what a browser shows where chromium is; where
+they aren't, a line says so that begins with `skipped`. The last line is `N passed, M failed`, and the status is 0 only
+where none failed.
 """
 
 import sys
 
 sys.dont_write_bytecode = True
 
-import line_look  # noqa: E402
-import line_orders  # noqa: E402
-import line_process  # noqa: E402
-import line_service  # noqa: E402
-import line_storm  # noqa: E402
-import suite  # noqa: E402
+import beside  # noqa: E402
+
+MODULES = ("line_storm", "line_process", "line_look", "line_orders", "line_service")
 
 if __name__ == "__main__":
-    sys.exit(suite.main(__doc__, (line_storm, line_process, line_look, line_orders, line_service), sys.argv[1:]))
+    sys.exit(beside.main(__doc__, MODULES, sys.argv[1:]))

@@ -27,20 +27,6 @@ OUT_LINES = ("drive fault 7 Out", "reply 1 taken", "reply 1 kept 3 Silent", "")
 NOBODY = 65534
 
 
-class Skipped(Exception):
-    """This can't be tested here."""
-
-
-def parts(count):
-    """Have a test run in so many parts beside each other: it takes its part's number and their count besides."""
-
-    def mark(test):
-        test.parts = count
-        return test
-
-    return mark
-
-
 def desk_of(folder, orders, journal=None):
     """Make a desk with these orders, and with a journal of these bytes where they are given."""
     desk = Desk(settings["program"], folder, orders)

@@ -1,12 +1,12 @@
 #!/usr/bin/env python3
 """Test docs/BENCH.md: run its commands, over simulated units, and compare what they print with what the page says.
 
-    test_bench.py PROGRAM [FOLDER]
+    test_bench.py [PROGRAM [FOLDER]]
 
 The page's blocks of `sh` are run one after the other in one new folder, in which `./dali_bench` is PROGRAM. Each has to
 end with status 0 and to print, on both outputs together, just the block of `text` that comes next, or nothing where
-another one comes first. FOLDER is as of test_drive.py. The last line is `N passed, M failed`, and the status is 0 only
-where none failed.
+another one comes first. PROGRAM and FOLDER are as of test_drive.py. The last line is `N passed, M failed`, and the
+status is 0 only where none failed.
 """
 
 import re
@@ -15,8 +15,8 @@ import sys
 
 sys.dont_write_bytecode = True
 
-import suite  # noqa: E402
-from drive_desk import settings, want  # noqa: E402
+import beside  # noqa: E402
+from base import BenchTest, settings, want  # noqa: E402
 from driven import ROOT  # noqa: E402
 
 PAGE = ROOT / "docs" / "BENCH.md"
@@ -46,26 +46,27 @@ def run_commands(page, folder, least=11):
         want((text, ended.returncode, ended.stdout), (text, 0, told))
 
 
-def test_commands_print_what_is_said(folder):
-    for name in ("adapters", "tools"):
-        (folder / name).symlink_to(ROOT / name)
-    (folder / "dali_bench").symlink_to(settings["program"])
-    run_commands(PAGE, folder)
+class BenchPageTest(BenchTest):
+    """The page's commands, texts and tables."""
 
+    def test_commands_print_what_is_said(self):
+        for name in ("adapters", "tools"):
+            (self.folder / name).symlink_to(ROOT / name)
+        (self.folder / "dali_bench").symlink_to(settings["program"])
+        run_commands(PAGE, self.folder)
 
-def test_each_text_has_its_command(folder):
-    """A block of text that no command prints would be compared with nothing."""
-    kinds = [kind for kind, _ in BLOCK.findall(PAGE.read_text(encoding="utf-8"))]
-    want([at for at, kind in enumerate(kinds) if kind == "text" and kinds[at - 1] != "sh"], [])
-    # Those of `console` are for root, on a computer of a line.
-    want(set(kinds) <= {"sh", "text", "json", "console"}, True)
+    def test_each_text_has_its_command(self):
+        """A block of text that no command prints would be compared with nothing."""
+        kinds = [kind for kind, _ in BLOCK.findall(PAGE.read_text(encoding="utf-8"))]
+        self.assertEqual([at for at, kind in enumerate(kinds) if kind == "text" and kinds[at - 1] != "sh"], [])
+        # Those of `console` are for root, on a computer of a line.
+        self.assertEqual(set(kinds) <= {"sh", "text", "json", "console"}, True)
 
-
-def test_each_reply_and_fault_has_its_row(folder):
-    rows = [line for line in PAGE.read_text(encoding="utf-8").splitlines() if line.startswith("|")]
-    for words in (*REPLIES, *(f"`drive fault {fault}`" for fault in DRIVE_FAULTS)):
-        want((words, sum(words in row.split("|")[1] for row in rows)), (words, 1))
+    def test_each_reply_and_fault_has_its_row(self):
+        rows = [line for line in PAGE.read_text(encoding="utf-8").splitlines() if line.startswith("|")]
+        for words in (*REPLIES, *(f"`drive fault {fault}`" for fault in DRIVE_FAULTS)):
+            self.assertEqual((words, sum(words in row.split("|")[1] for row in rows)), (words, 1))
 
 
 if __name__ == "__main__":
-    sys.exit(suite.main(__doc__, (sys.modules[__name__],), sys.argv[1:]))
+    sys.exit(beside.main(__doc__, ["test_bench"], sys.argv[1:]))

@@ -1,7 +1,7 @@
 #!/usr/bin/env python3
 """Test the completions for bash that scripts/release makes.
 
-    test_completions.py PROGRAM [FOLDER]
+    test_completions.py [PROGRAM [FOLDER]]
 
 PROGRAM and FOLDER are as of test_release.py. The last line is `N passed, M failed`, and the status is 0 only where none
 failed.
@@ -12,8 +12,8 @@ import sys
 
 sys.dont_write_bytecode = True
 
-import suite  # noqa: E402
-from drive_desk import settings, want  # noqa: E402
+import beside  # noqa: E402
+from base import BenchTest, settings  # noqa: E402
 from driven import ROOT  # noqa: E402
 from test_release import run, unpacked  # noqa: E402
 
@@ -38,33 +38,36 @@ COMPLETED = [
 ]
 
 
-def test_completions(folder):
-    top = unpacked(folder)
-    (folder / "here" / "tables").mkdir(parents=True)
-    (folder / "here" / "table.csv").write_text("")
-    (folder / "here" / "tool").touch(0o755)
-    for words, wanted in COMPLETED:
-        text = f". {top}/completions.bash; set -- {' '.join(map(repr, words))}; {COMPLETE}"
-        status, output, complaint = run(["bash", "-c", text], cwd=folder / "here")
-        found = sorted(filter(None, output.splitlines()))
-        # A folder is completed where a file is.
-        found = [it for it in found if it != "tables" or it in wanted]
-        want((words, status, found, complaint), (words, 0, sorted(wanted), ""))
+class CompletionsTest(BenchTest):
+    """What a command line is completed to."""
 
+    def test_completions(self):
+        top = unpacked(self.folder)
+        (self.folder / "here" / "tables").mkdir(parents=True)
+        (self.folder / "here" / "table.csv").write_text("")
+        (self.folder / "here" / "tool").touch(0o755)
+        for words, wanted in COMPLETED:
+            text = f". {top}/completions.bash; set -- {' '.join(map(repr, words))}; {COMPLETE}"
+            status, output, complaint = run(["bash", "-c", text], cwd=self.folder / "here")
+            found = sorted(filter(None, output.splitlines()))
+            # A folder is completed where a file is.
+            found = [it for it in found if it != "tables" or it in wanted]
+            self.assertEqual((words, status, found, complaint), (words, 0, sorted(wanted), ""))
 
-def test_completions_know_each_option(folder):
-    text = (unpacked(folder) / "completions.bash").read_text()
-    table = re.findall(r"^        '([^']*)'\) (.*) ;;$", text, re.MULTILINE)
-    rows = {tuple(key.split(" ")): text for key, text in table}
-    want(sorted(command for program, command in rows if program == "dali_bench"), sorted(["", *COMMANDS[:-1]]))
-    for program, command in rows:
-        path = {"dali_bench": settings["program"], "line_computer": ROOT / "line_computer",
-                "orders_from_csv": ROOT / "tools/orders_from_csv"}.get(program, ROOT / f"adapters/{program}.py")
-        status, text, _ = run([path, *command.split(), "--help"])
-        options = set(re.findall(r"^ +(?:-h, )?(--[a-z][a-z0-9-]*)", text, re.MULTILINE))
-        its = set(re.search("options='([^']*)'", rows[program, command])[1].split()) - {"--"}
-        want((program, command, status, its), (program, command, 0, options))
+    def test_completions_know_each_option(self):
+        text = (unpacked(self.folder) / "completions.bash").read_text()
+        table = re.findall(r"^        '([^']*)'\) (.*) ;;$", text, re.MULTILINE)
+        rows = {tuple(key.split(" ")): text for key, text in table}
+        self.assertEqual(sorted(command for program, command in rows if program == "dali_bench"),
+                         sorted(["", *COMMANDS[:-1]]))
+        for program, command in rows:
+            path = {"dali_bench": settings["program"], "line_computer": ROOT / "line_computer",
+                    "orders_from_csv": ROOT / "tools/orders_from_csv"}.get(program, ROOT / f"adapters/{program}.py")
+            status, text, _ = run([path, *command.split(), "--help"])
+            options = set(re.findall(r"^ +(?:-h, )?(--[a-z][a-z0-9-]*)", text, re.MULTILINE))
+            its = set(re.search("options='([^']*)'", rows[program, command])[1].split()) - {"--"}
+            self.assertEqual((program, command, status, its), (program, command, 0, options))
 
 
 if __name__ == "__main__":
-    sys.exit(suite.main(__doc__, (sys.modules[__name__],), sys.argv[1:]))
+    sys.exit(beside.main(__doc__, ["test_completions"], sys.argv[1:]))

@@ -1,12 +1,12 @@
 #!/usr/bin/env python3
 """Test what docs/BENCH.md says under "What a line computer does", by a line computer that does just that.
 
-    test_line.py PROGRAM [FOLDER]
+    test_line.py [PROGRAM [FOLDER]]
 
 It brings over 200 orders to one bus, over the service of service/dali-bench-pipe@.service, while adapter and
 drive are killed, the interface is unplugged, units have no power, the pipe is full, and the line computer itself is
-killed. FOLDER is as of test_drive.py. The last line is `N passed, M failed`, and the status is 0 only where none
-failed.
+killed. PROGRAM and FOLDER are as of test_drive.py. The last line is `N passed, M failed`, and the status is 0 only
+where none failed.
 """
 
 import collections
@@ -22,10 +22,10 @@ import time
 
 sys.dont_write_bytecode = True
 
-import suite  # noqa: E402
-from drive_desk import settings, want  # noqa: E402
+import beside  # noqa: E402
+from base import BenchTest, settings, want  # noqa: E402
 from driven import ROOT, simulated_link  # noqa: E402
-from test_service import ALL, FIRST, LAST, UNITS, WEEK, YEAR, Instance, wait_for  # noqa: E402
+from test_service import ALL, FIRST, LAST, UNITS, WEEK, YEAR, Instance  # noqa: E402
 
 ADAPTER = ROOT / "tests" / "line_adapter.py"
 SEED = 20261128
@@ -299,29 +299,32 @@ def judge_told(instance):
     return replies
 
 
-def test_each_order_has_its_right_end_once(folder):
-    chance, counts = random.Random(SEED), collections.Counter()
-    instance = Instance(folder)
-    units = ",".join(map(str, UNITS))
-    instance.variables.write_text(f'ADAPTER="{ADAPTER} . {units}"\nOPTIONS=\n')
-    instance.kills = [(chance.uniform(0.03, 0.5), victims) for victims in (ALL, FIRST, LAST) * (KILLS // 3)]
-    wanted = wanted_orders(chance)
-    with instance:
-        Troubled.trouble = Trouble(instance, chance)
-        while True:
-            try:
-                Troubled(instance, chance, counts).bring(wanted)
-                break
-            except Killed:
-                pass
-        counts["full pipe"] = Troubled.trouble.filled
-        counts["journal orders"] = judge(instance, wanted)
-    counts.update(judge_told(instance))
-    counts["starts"] = instance.starts
-    print(", ".join(f"{name} {count}" for name, count in sorted(counts.items())))
-    for name in ("line computer killed", "ENXIO", "EAGAIN", "starts", "debris"):
-        assert counts[name] > 0, (name, counts)
+class LineTest(BenchTest):
+    """A line computer that is killed, beside all that it stands on."""
+
+    def test_each_order_has_its_right_end_once(self):
+        chance, counts = random.Random(SEED), collections.Counter()
+        instance = Instance(self.folder)
+        units = ",".join(map(str, UNITS))
+        instance.variables.write_text(f'ADAPTER="{ADAPTER} . {units}"\nOPTIONS=\n')
+        instance.kills = [(chance.uniform(0.03, 0.5), victims) for victims in (ALL, FIRST, LAST) * (KILLS // 3)]
+        wanted = wanted_orders(chance)
+        with instance:
+            Troubled.trouble = Trouble(instance, chance)
+            while True:
+                try:
+                    Troubled(instance, chance, counts).bring(wanted)
+                    break
+                except Killed:
+                    pass
+            counts["full pipe"] = Troubled.trouble.filled
+            counts["journal orders"] = judge(instance, wanted)
+        counts.update(judge_told(instance))
+        counts["starts"] = instance.starts
+        print(", ".join(f"{name} {count}" for name, count in sorted(counts.items())))
+        for name in ("line computer killed", "ENXIO", "EAGAIN", "starts", "debris"):
+            assert counts[name] > 0, (name, counts)
 
 
 if __name__ == "__main__":
-    sys.exit(suite.main(__doc__, (sys.modules[__name__],), sys.argv[1:]))
+    sys.exit(beside.main(__doc__, ["test_line"], sys.argv[1:]))

@@ -1,9 +1,10 @@
 #!/usr/bin/env python3
 """Test what the commands over a link say of common mistakes: each mistake with its lines, and that nothing was done.
 
-    test_mistakes.py PROGRAM [FOLDER]
+    test_mistakes.py [PROGRAM [FOLDER]]
 
-FOLDER is as of test_drive.py. The last line is `N passed, M failed`, and the status is 0 only where none failed.
+PROGRAM and FOLDER are as of test_drive.py. The last line is `N passed, M failed`, and the status is 0 only where none
+failed.
 """
 
 import json
@@ -14,8 +15,9 @@ import sys
 
 sys.dont_write_bytecode = True
 
-import suite  # noqa: E402
-from drive_desk import DONE_JOURNAL, DONE_TOLD, PRESENT, desk_of, settings, want  # noqa: E402
+import beside  # noqa: E402
+from base import BenchTest, settings, want  # noqa: E402
+from drive_desk import DONE_JOURNAL, DONE_TOLD, PRESENT, desk_of  # noqa: E402
 from drive_report import blank_bus  # noqa: E402
 from driven import HEADER, Desk, Following  # noqa: E402
 
@@ -80,50 +82,47 @@ def checked(path):
     return (ended.stdout + ended.stderr).decode().splitlines()
 
 
-# Files that were swapped
+class SwappedTest(BenchTest):
+    """Files that were swapped."""
 
+    def test_another_file_in_the_place_of_orders(self):
+        for name, (data, line, meaning) in AS_ORDERS.items():
+            for kind in (Desk, Verifying):
+                desk = kind(settings["program"], self.folder, [])
+                desk.orders.write_bytes(data)
+                ended = desk.give(b"")
+                self.assertEqual((name, ended.status, ended.sent, ended.told), (name, 1, b"", line + "\n"))
+                self.assertEqual((name, desk.orders.read_bytes(), desk.journal.exists()), (name, data, False))
+            said = checked(desk.orders)
+            self.assertEqual((name, said), (name, [line, meaning]))
 
-def test_another_file_in_the_place_of_orders(folder):
-    for name, (data, line, meaning) in AS_ORDERS.items():
-        for kind in (Desk, Verifying):
-            desk = kind(settings["program"], folder, [])
-            desk.orders.write_bytes(data)
+    def test_another_file_in_the_place_of_the_journal(self):
+        for name, (data, line, meaning) in AS_JOURNAL.items():
+            desk = desk_of(self.folder, PRESENT, data)
             ended = desk.give(b"")
-            want((name, ended.status, ended.sent, ended.told), (name, 1, b"", line + "\n"))
-            want((name, desk.orders.read_bytes(), desk.journal.exists()), (name, data, False))
-        said = checked(desk.orders)
-        want((name, said), (name, [line, meaning]))
+            self.assertEqual((name, ended.status, ended.sent, ended.told, desk.held()),
+                             (name, 1, b"", line + "\n", data))
+            assert meaning is None or meaning in checked(desk.journal), (name, checked(desk.journal))
 
-
-def test_another_file_in_the_place_of_the_journal(folder):
-    for name, (data, line, meaning) in AS_JOURNAL.items():
-        desk = desk_of(folder, PRESENT, data)
+    def test_orders_and_journal_swapped(self):
+        desk = desk_of(self.folder, PRESENT, DONE_JOURNAL)
+        desk.orders, desk.journal = desk.journal, desk.orders
+        held = desk.held()
         ended = desk.give(b"")
-        want((name, ended.status, ended.sent, ended.told, desk.held()), (name, 1, b"", line + "\n", data))
-        assert meaning is None or meaning in checked(desk.journal), (name, checked(desk.journal))
+        self.assertEqual((ended.status, ended.sent, ended.told), (1, b"", "fault 11 Json\n"))
+        self.assertEqual((desk.orders.read_bytes(), desk.held()), (DONE_JOURNAL, held))
 
 
-def test_orders_and_journal_swapped(folder):
-    desk = desk_of(folder, PRESENT, DONE_JOURNAL)
-    desk.orders, desk.journal = desk.journal, desk.orders
-    held = desk.held()
-    ended = desk.give(b"")
-    want((ended.status, ended.sent, ended.told), (1, b"", "fault 11 Json\n"))
-    want((desk.orders.read_bytes(), desk.held()), (DONE_JOURNAL, held))
+class LinesTest(BenchTest):
+    """Lines that aren't one order each."""
 
-
-# Lines that aren't one order each
-
-
-def test_lines_that_are_not_one_order(folder):
-    for name, (text, lines) in AS_LINES.items():
-        desk = Following(settings["program"], folder, text + "\n")
-        ended = desk.give(b"")
-        want((name, ended.status, ended.sent, ended.told.splitlines()), (name, 1, b"", ["ready", *lines]))
-        want((name, desk.held()), (name, HEADER))
-
-
-# Orders out of standard input, which has the answers
+    def test_lines_that_are_not_one_order(self):
+        for name, (text, lines) in AS_LINES.items():
+            desk = Following(settings["program"], self.folder, text + "\n")
+            ended = desk.give(b"")
+            self.assertEqual((name, ended.status, ended.sent, ended.told.splitlines()),
+                             (name, 1, b"", ["ready", *lines]))
+            self.assertEqual((name, desk.held()), (name, HEADER))
 
 
 def given_standard_input(kind, folder, name, stdin):
@@ -148,41 +147,40 @@ def told_by(command):
     return told
 
 
-def test_orders_out_of_standard_input(folder):
-    link = folder / "link"
-    link.symlink_to("/dev/stdin")
-    for kind in (Desk, Following, Verifying):
-        for name in ("-", "/dev/stdin", "/dev/fd/0", "/proc/self/fd/0", link):
-            told = f"error: the file can't be used: {name}: {ANSWERS_THERE}\nfault 21 File\n"
-            want((name, given_standard_input(kind, folder, name, subprocess.PIPE)), (name, (2, told)))
+class StandardInputTest(BenchTest):
+    """Orders out of standard input, which has the answers."""
 
+    def test_orders_out_of_standard_input(self):
+        link = self.folder / "link"
+        link.symlink_to("/dev/stdin")
+        for kind in (Desk, Following, Verifying):
+            for name in ("-", "/dev/stdin", "/dev/fd/0", "/proc/self/fd/0", link):
+                told = f"error: the file can't be used: {name}: {ANSWERS_THERE}\nfault 21 File\n"
+                self.assertEqual((name, given_standard_input(kind, self.folder, name, subprocess.PIPE)),
+                                 (name, (2, told)))
 
-def test_orders_out_of_the_pipe_of_the_answers(folder):
-    pipe = folder / "pipe"
-    os.mkfifo(pipe)
-    held = os.open(pipe, os.O_RDWR)
-    for kind in (Desk, Following, Verifying):
-        told = f"error: the file can't be used: {pipe}: {ANSWERS_THERE}\nfault 21 File\n"
-        want(given_standard_input(kind, folder, pipe, held), (2, told))
-    os.close(held)
+    def test_orders_out_of_the_pipe_of_the_answers(self):
+        pipe = self.folder / "pipe"
+        os.mkfifo(pipe)
+        held = os.open(pipe, os.O_RDWR)
+        for kind in (Desk, Following, Verifying):
+            told = f"error: the file can't be used: {pipe}: {ANSWERS_THERE}\nfault 21 File\n"
+            self.assertEqual(given_standard_input(kind, self.folder, pipe, held), (2, told))
+        os.close(held)
 
-
-def test_orders_out_of_a_pipe_of_their_own(folder):
-    """As of the shell's <(...), which isn't standard input."""
-    for kind in (Desk, Following):
-        reads, writes = os.pipe()
-        os.write(writes, ORDERS if kind is Desk else ORDERS[1:-1])
-        os.close(writes)
-        desk = kind(settings["program"], folder, [])
-        desk.journal.unlink(missing_ok=True)
-        desk.orders = f"/dev/fd/{reads}"
-        desk.start = lambda environment=None, it=desk, **options: type(it).start(it, pass_fds=[reads])
-        ended = desk.over(blank_bus(5))
-        os.close(reads)
-        want((ended.status, ended.told, desk.held()), (0, desk.ready + DONE_TOLD, DONE_JOURNAL))
-
-
-# Few descriptors
+    def test_orders_out_of_a_pipe_of_their_own(self):
+        """As of the shell's <(...), which isn't standard input."""
+        for kind in (Desk, Following):
+            reads, writes = os.pipe()
+            os.write(writes, ORDERS if kind is Desk else ORDERS[1:-1])
+            os.close(writes)
+            desk = kind(settings["program"], self.folder, [])
+            desk.journal.unlink(missing_ok=True)
+            desk.orders = f"/dev/fd/{reads}"
+            desk.start = lambda environment=None, it=desk, **options: type(it).start(it, pass_fds=[reads])
+            ended = desk.over(blank_bus(5))
+            os.close(reads)
+            self.assertEqual((ended.status, ended.told, desk.held()), (0, desk.ready + DONE_TOLD, DONE_JOURNAL))
 
 
 def few_files(most):
@@ -205,59 +203,62 @@ def is_unloaded(most, ended):
     return most == 3 and ended.status == 127 and "error while loading shared libraries" in ended.told
 
 
-def test_drives_with_few_descriptors(folder):
-    for kind in (Desk, Following):
-        statuses = []
+class DescriptorsTest(BenchTest):
+    """Commands with few descriptors."""
+
+    def test_drives_with_few_descriptors(self):
+        for kind in (Desk, Following):
+            statuses = []
+            for most in range(3, 13):
+                desk, ended = limited(kind, self.folder, most)
+                statuses.append(ended.status)
+                if is_unloaded(most, ended):
+                    continue
+                if ended.status == 0:
+                    self.assertEqual((most, ended.told, desk.held()), (most, desk.ready + DONE_TOLD, DONE_JOURNAL))
+                    continue
+                first, last = ended.told.splitlines()
+                self.assertEqual((most, ended.status, ended.sent, last), (most, 2, b"", "fault 21 File"))
+                assert first.startswith("error: ") and first.endswith(TOO_MANY), (most, first)
+                self.assertEqual((most, desk.held() if desk.journal.exists() else b""), (most, b""))
+                ended = Desk.over(desk_of(self.folder, PRESENT), blank_bus(5))
+                self.assertEqual((most, ended.told, desk.held()), (most, DONE_TOLD, DONE_JOURNAL))
+            assert statuses[-1] == 0 and 2 in statuses, statuses
+
+    def test_verifications_with_few_descriptors(self):
+        report, statuses = self.folder / "report", []
         for most in range(3, 13):
-            desk, ended = limited(kind, folder, most)
+            report.unlink(missing_ok=True)
+            ended = limited(Verifying, self.folder, most, "--report", report)[1]
             statuses.append(ended.status)
             if is_unloaded(most, ended):
                 continue
-            if ended.status == 0:
-                want((most, ended.told, desk.held()), (most, desk.ready + DONE_TOLD, DONE_JOURNAL))
+            lines = ended.told.splitlines()
+            if ended.status == 1:
+                self.assertEqual((most, lines, len(report.read_text().splitlines())),
+                                 (most, ["order 1 unit 5 other 03 FF"], 1))
                 continue
-            first, last = ended.told.splitlines()
-            want((most, ended.status, ended.sent, last), (most, 2, b"", "fault 21 File"))
-            assert first.startswith("error: ") and first.endswith(TOO_MANY), (most, first)
-            want((most, desk.held() if desk.journal.exists() else b""), (most, b""))
-            ended = Desk.over(desk_of(folder, PRESENT), blank_bus(5))
-            want((most, ended.told, desk.held()), (most, DONE_TOLD, DONE_JOURNAL))
-        assert statuses[-1] == 0 and 2 in statuses, statuses
+            self.assertEqual((most, ended.status), (most, 2))
+            others = [line for line in lines if not (line.startswith("error: ") and line.endswith(TOO_MANY))]
+            assert others in (["fault 21 File"], ["order 1 unit 5 other 03 FF"]) and len(lines) > 1, (most, lines)
+            self.assertEqual((most, report.read_bytes() if report.exists() else b""), (most, b""))
+        assert statuses[-1] == 1 and 2 in statuses, statuses
 
-
-def test_verifications_with_few_descriptors(folder):
-    report, statuses = folder / "report", []
-    for most in range(3, 13):
-        report.unlink(missing_ok=True)
-        ended = limited(Verifying, folder, most, "--report", report)[1]
-        statuses.append(ended.status)
-        if is_unloaded(most, ended):
-            continue
-        lines = ended.told.splitlines()
-        if ended.status == 1:
-            want((most, lines, len(report.read_text().splitlines())), (most, ["order 1 unit 5 other 03 FF"], 1))
-            continue
-        want((most, ended.status), (most, 2))
-        others = [line for line in lines if not (line.startswith("error: ") and line.endswith(TOO_MANY))]
-        assert others in (["fault 21 File"], ["order 1 unit 5 other 03 FF"]) and len(lines) > 1, (most, lines)
-        want((most, report.read_bytes() if report.exists() else b""), (most, b""))
-    assert statuses[-1] == 1 and 2 in statuses, statuses
-
-
-def test_files_with_few_descriptors(folder):
-    path = folder / "orders.json"
-    path.write_bytes(ORDERS)
-    for most in range(3, 13):
-        ended = subprocess.run([settings["program"], "check", path], capture_output=True, timeout=PATIENCE,
-                               preexec_fn=few_files(most))
-        if ended.returncode == 127:
-            continue
-        if ended.returncode == 2:
-            told = f"error: the input can't be opened or read: {path}: {TOO_MANY}\n"
-            want((most, ended.stdout, ended.stderr.decode()), (most, b"fault 21 File\n", told))
-        else:
-            want((most, ended.returncode, ended.stdout.splitlines()[-1]), (most, 0, b"accepted 1 refused 0"))
+    def test_files_with_few_descriptors(self):
+        path = self.folder / "orders.json"
+        path.write_bytes(ORDERS)
+        for most in range(3, 13):
+            ended = subprocess.run([settings["program"], "check", path], capture_output=True, timeout=PATIENCE,
+                                   preexec_fn=few_files(most))
+            if ended.returncode == 127:
+                continue
+            if ended.returncode == 2:
+                told = f"error: the input can't be opened or read: {path}: {TOO_MANY}\n"
+                self.assertEqual((most, ended.stdout, ended.stderr.decode()), (most, b"fault 21 File\n", told))
+            else:
+                self.assertEqual((most, ended.returncode, ended.stdout.splitlines()[-1]),
+                                 (most, 0, b"accepted 1 refused 0"))
 
 
 if __name__ == "__main__":
-    sys.exit(suite.main(__doc__, (sys.modules[__name__],), sys.argv[1:]))
+    sys.exit(beside.main(__doc__, ["test_mistakes"], sys.argv[1:]))

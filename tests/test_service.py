@@ -1,11 +1,11 @@
 #!/usr/bin/env python3
 """Test service/dali-bench-pipe@.service: play systemd for it, with simulated units, line computers and kills.
 
-    test_service.py PROGRAM [FOLDER]
+    test_service.py [PROGRAM [FOLDER]]
 
-What an instance runs, and where, is read out of the unit file; its paths are led into a folder of the test. FOLDER is
-as of test_drive.py. The last line is `N passed, M failed`, and the status is 0 only where none failed. What couldn't be
-tested on this machine has a line that begins with `skipped`.
+What an instance runs, and where, is read out of the unit file; its paths are led into a folder of the test. PROGRAM
+and FOLDER are as of test_drive.py. The last line is `N passed, M failed`, and the status is 0 only where none failed.
+What couldn't be tested on this machine has a line that begins with `skipped`.
 """
 
 import contextlib
@@ -24,8 +24,8 @@ import time
 
 sys.dont_write_bytecode = True
 
-import suite  # noqa: E402
-from drive_desk import Skipped, settings, want  # noqa: E402
+import beside  # noqa: E402
+from base import BenchTest, settings, want  # noqa: E402
 from driven import PATIENCE, ROOT, simulated_link  # noqa: E402
 
 UNIT = ROOT / "service" / "dali-bench-pipe@.service"
@@ -231,9 +231,6 @@ def done(*numbers):
     return [line for number in numbers for line in (f"reply {number} taken", f"reply {number} kept 0 Done")]
 
 
-# Two buses, killed now and then
-
-
 class LineComputer(threading.Thread):
     """Writes orders to an instance one by one, each again until its kept reply, until the kills are over."""
 
@@ -300,36 +297,25 @@ def judge(instance, sent):
     want({unit: instance.bank(unit).hex() for unit in UNITS}, {unit: bank.hex() for unit, bank in banks.items()})
 
 
-def test_two_buses_that_are_killed(folder):
-    chance = random.Random(20261127)
-    instances = [Instance(folder, name) for name in ("bus1", "bus2")]
-    for instance in instances:
-        instance.kills = [(chance.uniform(0.05, 0.6), victims) for victims in (ALL, FIRST, LAST) * (KILLS // 3)]
-    computers = [LineComputer(instance, random.Random(chance.random())) for instance in instances]
-    with instances[0], instances[1]:
-        for computer in computers:
-            computer.start()
-        for computer in computers:
-            computer.join(3 * PATIENCE)
-    for instance, computer in zip(instances, computers):
-        want((computer.is_alive(), computer.fault), (False, None))
-        counts = f"{len(computer.sent)} orders, {instance.starts} starts, {computer.again} sent again"
-        print(f"{instance.state.name}: {counts}")
-        judge(instance, computer.sent)
+class KillsTest(BenchTest):
+    """Two buses, killed now and then."""
 
-
-# What a line computer meets
-
-
-def test_writers_that_close_the_pipe_end_nothing(folder):
-    with Instance(folder) as instance:
-        for number in (1, 2, 3):
-            instance.write(order_line(number, 5, number))
-            wait_for(lambda: len(instance.told()) == 2 * number)
-        want((instance.starts, instance.is_running(), instance.told()), (1, True, done(1, 2, 3)))
-        want(instance.replies.read_text().splitlines(), ["ready", *done(1, 2, 3)])
-        want(instance.bank(5)[YEAR], 3)
-    want(instance.stopped != 0, True)
+    def test_two_buses_that_are_killed(self):
+        chance = random.Random(20261127)
+        instances = [Instance(self.folder, name) for name in ("bus1", "bus2")]
+        for instance in instances:
+            instance.kills = [(chance.uniform(0.05, 0.6), victims) for victims in (ALL, FIRST, LAST) * (KILLS // 3)]
+        computers = [LineComputer(instance, random.Random(chance.random())) for instance in instances]
+        with instances[0], instances[1]:
+            for computer in computers:
+                computer.start()
+            for computer in computers:
+                computer.join(3 * PATIENCE)
+        for instance, computer in zip(instances, computers):
+            self.assertEqual((computer.is_alive(), computer.fault), (False, None))
+            counts = f"{len(computer.sent)} orders, {instance.starts} starts, {computer.again} sent again"
+            print(f"{instance.state.name}: {counts}")
+            judge(instance, computer.sent)
 
 
 def killed_before_it_read(instance, is_closed):
@@ -346,106 +332,114 @@ def killed_before_it_read(instance, is_closed):
     return pipe
 
 
-def test_lines_wait_while_their_writer_holds_the_pipe(folder):
-    instance = Instance(folder)
-    pipe = killed_before_it_read(instance, is_closed=False)
-    with instance:
-        wait_for(lambda: len(instance.told()) == 4)
-        want((instance.told(), instance.starts), (done(1, 2), 2))
-        os.close(pipe)
-    want(instance.bank(6)[YEAR], 2)
+class PipeTest(BenchTest):
+    """What a line computer meets."""
+
+    def test_writers_that_close_the_pipe_end_nothing(self):
+        with Instance(self.folder) as instance:
+            for number in (1, 2, 3):
+                instance.write(order_line(number, 5, number))
+                wait_for(lambda: len(instance.told()) == 2 * number)
+            self.assertEqual((instance.starts, instance.is_running(), instance.told()), (1, True, done(1, 2, 3)))
+            self.assertEqual(instance.replies.read_text().splitlines(), ["ready", *done(1, 2, 3)])
+            self.assertEqual(instance.bank(5)[YEAR], 3)
+        self.assertEqual(instance.stopped != 0, True)
+
+    def test_lines_wait_while_their_writer_holds_the_pipe(self):
+        instance = Instance(self.folder)
+        pipe = killed_before_it_read(instance, is_closed=False)
+        with instance:
+            wait_for(lambda: len(instance.told()) == 4)
+            self.assertEqual((instance.told(), instance.starts), (done(1, 2), 2))
+            os.close(pipe)
+        self.assertEqual(instance.bank(6)[YEAR], 2)
+
+    def test_lines_are_dropped_where_nobody_holds_the_pipe(self):
+        instance = Instance(self.folder)
+        killed_before_it_read(instance, is_closed=True)
+        with instance:
+            instance.write(order_line(3, 6, 3))
+            wait_for(lambda: len(instance.told()) == 2)
+            self.assertEqual((instance.told(), instance.starts), (done(3), 2))
+
+    def test_the_rest_of_a_line_changes_nothing(self):
+        with Instance(self.folder) as instance:
+            for rest in (order_line(1, 5, 1)[7:], '{"order": 1, "unit": 5, "ye', "[]", order_line(1, 64, 1)):
+                instance.write(rest)
+            instance.write(order_line(2, 5, 2))
+            wait_for(lambda: "reply 2 kept 0 Done" in instance.told())
+            self.assertEqual(instance.told(), ["item 1 fault 11 Json", "item 2 fault 11 Json", "item 3 fault 9 Shape",
+                                               "item 4 order 1 fault 1 Unit", *done(2)])
+            self.assertEqual(instance.starts, 1)
+
+    def test_a_full_journal_is_retired(self):
+        instance = Instance(self.folder)
+        instance.state.mkdir(parents=True)
+        absent = bytes.fromhex("09 01 1318 4503")
+        records = (b"B" + number.to_bytes(8, "big") + bytes(8) + absent for number in range(100000))
+        instance.journal.write_bytes(bytes.fromhex("44423102") + b"".join(records))
+        with instance:
+            instance.write(order_line(100000, 5, 24))
+            wait_for(instance.told)
+            self.assertEqual(instance.told(), ["reply 100000 full"])
+        assert instance.journal_lines()[-1].endswith(" orders 100000 standing idle")
+        instance.journal.rename(instance.state / "bench_until_99999.journal")
+        again = Instance(self.folder)
+        with again:
+            again.write(order_line(100000, 5, 24))
+            wait_for(lambda: len(again.told()) == 3)
+            self.assertEqual(again.told()[1:], done(100000))
+
+    def test_one_that_can_not_start_is_started_again(self):
+        instance = Instance(self.folder)
+        adapter = instance.variables.read_text()
+        instance.variables.write_text('ADAPTER="/none --device 1"\nOPTIONS=\n')
+        with instance:
+            wait_for(lambda: instance.starts > 3)
+            instance.variables.write_text(adapter)
+            instance.write(order_line(1, 60, 24))
+            wait_for(lambda: instance.told()[-2:] == done(1))
 
 
-def test_lines_are_dropped_where_nobody_holds_the_pipe(folder):
-    instance = Instance(folder)
-    killed_before_it_read(instance, is_closed=True)
-    with instance:
-        instance.write(order_line(3, 6, 3))
-        wait_for(lambda: len(instance.told()) == 2)
-        want((instance.told(), instance.starts), (done(3), 2))
+class UnitFileTest(BenchTest):
+    """What the unit file says."""
 
+    def test_the_pipe_is_made_once(self):
+        instance = Instance(self.folder)
+        for _ in range(2):
+            with instance.once():
+                wait_for(instance.journal.exists)
+                self.assertEqual((instance.orders.is_fifo(), oct(instance.orders.stat().st_mode & 0o777)),
+                                 (True, "0o620"))
+                self.assertEqual(oct(instance.replies.stat().st_mode & 0o777), "0o640")
+                number = instance.orders.stat().st_ino
+        self.assertEqual(instance.orders.stat().st_ino, number)
+        instance.orders.unlink()
+        instance.orders.write_text("")
+        self.assertEqual([made.returncode for made in instance.run("ExecStartPre", subprocess.run)], [1])
 
-def test_the_rest_of_a_line_changes_nothing(folder):
-    with Instance(folder) as instance:
-        for rest in (order_line(1, 5, 1)[7:], '{"order": 1, "unit": 5, "ye', "[]", order_line(1, 64, 1)):
-            instance.write(rest)
-        instance.write(order_line(2, 5, 2))
-        wait_for(lambda: "reply 2 kept 0 Done" in instance.told())
-        want(instance.told(), ["item 1 fault 11 Json", "item 2 fault 11 Json", "item 3 fault 9 Shape",
-                               "item 4 order 1 fault 1 Unit", *done(2)])
-        want(instance.starts, 1)
+    def test_it_is_started_again_without_end(self):
+        keys = settings_of(UNIT.read_text())
+        wanted = {"Restart": "always", "RestartSec": "1", "StartLimitIntervalSec": "0", "KillMode": "control-group"}
+        self.assertEqual({key: keys[key] for key in wanted}, {key: [value] for key, value in wanted.items()})
+        variables = variables_of(EXAMPLE.read_text())
+        self.assertEqual(sorted(variables), ["ADAPTER", "OPTIONS"])
+        assert set(re.findall(r"\$([A-Z]+)", keys["ExecStart"][0])) == set(variables), keys["ExecStart"]
+        adapter = pathlib.Path(variables["ADAPTER"].split()[0])
+        assert (ROOT / adapter.relative_to(PROGRAMS)).is_file(), adapter
 
-
-def test_a_full_journal_is_retired(folder):
-    instance = Instance(folder)
-    instance.state.mkdir(parents=True)
-    absent = bytes.fromhex("09 01 1318 4503")
-    records = (b"B" + number.to_bytes(8, "big") + bytes(8) + absent for number in range(100000))
-    instance.journal.write_bytes(bytes.fromhex("44423102") + b"".join(records))
-    with instance:
-        instance.write(order_line(100000, 5, 24))
-        wait_for(instance.told)
-        want(instance.told(), ["reply 100000 full"])
-    assert instance.journal_lines()[-1].endswith(" orders 100000 standing idle")
-    instance.journal.rename(instance.state / "bench_until_99999.journal")
-    again = Instance(folder)
-    with again:
-        again.write(order_line(100000, 5, 24))
-        wait_for(lambda: len(again.told()) == 3)
-        want(again.told()[1:], done(100000))
-
-
-def test_one_that_can_not_start_is_started_again(folder):
-    instance = Instance(folder)
-    adapter = instance.variables.read_text()
-    instance.variables.write_text('ADAPTER="/none --device 1"\nOPTIONS=\n')
-    with instance:
-        wait_for(lambda: instance.starts > 3)
-        instance.variables.write_text(adapter)
-        instance.write(order_line(1, 60, 24))
-        wait_for(lambda: instance.told()[-2:] == done(1))
-
-
-# What the unit file says
-
-
-def test_the_pipe_is_made_once(folder):
-    instance = Instance(folder)
-    for _ in range(2):
-        with instance.once():
-            wait_for(instance.journal.exists)
-            want((instance.orders.is_fifo(), oct(instance.orders.stat().st_mode & 0o777)), (True, "0o620"))
-            want(oct(instance.replies.stat().st_mode & 0o777), "0o640")
-            number = instance.orders.stat().st_ino
-    want(instance.orders.stat().st_ino, number)
-    instance.orders.unlink()
-    instance.orders.write_text("")
-    want([made.returncode for made in instance.run("ExecStartPre", subprocess.run)], [1])
-
-
-def test_it_is_started_again_without_end(folder):
-    keys = settings_of(UNIT.read_text())
-    wanted = {"Restart": "always", "RestartSec": "1", "StartLimitIntervalSec": "0", "KillMode": "control-group"}
-    want({key: keys[key] for key in wanted}, {key: [value] for key, value in wanted.items()})
-    variables = variables_of(EXAMPLE.read_text())
-    want(sorted(variables), ["ADAPTER", "OPTIONS"])
-    assert set(re.findall(r"\$([A-Z]+)", keys["ExecStart"][0])) == set(variables), keys["ExecStart"]
-    adapter = pathlib.Path(variables["ADAPTER"].split()[0])
-    assert (ROOT / adapter.relative_to(PROGRAMS)).is_file(), adapter
-
-
-def test_systemd_takes_the_unit_file(folder):
-    if shutil.which("systemd-analyze") is None:
-        raise Skipped("there is no systemd-analyze")
-    (folder / "dali_bench").symlink_to(settings["program"])
-    unit = folder / UNIT.name.replace("@", "@bus1")
-    unit.write_text(UNIT.read_text().replace(f"{PROGRAMS}/dali_bench", str(folder / "dali_bench")))
-    words = ["systemd-analyze", "verify", "--man=no", unit]
-    ended = subprocess.run(words, capture_output=True, text=True, stdin=subprocess.DEVNULL)
-    if "Operation not permitted" in ended.stderr or "Failed to initialize manager" in ended.stderr:
-        raise Skipped(f"systemd-analyze can't verify here: {ended.stderr.strip()}")
-    want((ended.returncode, ended.stdout, ended.stderr), (0, "", ""))
+    def test_systemd_takes_the_unit_file(self):
+        if shutil.which("systemd-analyze") is None:
+            self.skipTest("there is no systemd-analyze")
+        (self.folder / "dali_bench").symlink_to(settings["program"])
+        unit = self.folder / UNIT.name.replace("@", "@bus1")
+        unit.write_text(UNIT.read_text().replace(f"{PROGRAMS}/dali_bench", str(self.folder / "dali_bench")))
+        words = ["systemd-analyze", "verify", "--man=no", unit]
+        ended = subprocess.run(words, capture_output=True, text=True, stdin=subprocess.DEVNULL)
+        if "Operation not permitted" in ended.stderr or "Failed to initialize manager" in ended.stderr:
+            self.skipTest(f"systemd-analyze can't verify here: {ended.stderr.strip()}")
+        self.assertEqual((ended.returncode, ended.stdout, ended.stderr), (0, "", ""))
 
 
 if __name__ == "__main__":
-    sys.exit(suite.main(__doc__, (sys.modules[__name__],), sys.argv[1:]))
+    sys.exit(beside.main(__doc__, ["test_service"], sys.argv[1:]))

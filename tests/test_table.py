@@ -1,9 +1,10 @@
 #!/usr/bin/env python3
 """Test tools/orders_from_csv: what it makes of tables, what it tells of wrong ones, and that `check` takes its orders.
 
-    test_table.py PROGRAM [FOLDER]
+    test_table.py [PROGRAM [FOLDER]]
 
-FOLDER is as of test_drive.py. The last line is `N passed, M failed`, and the status is 0 only where none failed.
+PROGRAM and FOLDER are as of test_drive.py. The last line is `N passed, M failed`, and the status is 0 only where none
+failed.
 """
 
 import csv
@@ -16,9 +17,9 @@ import sys
 
 sys.dont_write_bytecode = True
 
-import suite  # noqa: E402
+import beside  # noqa: E402
+from base import BenchTest, settings, want  # noqa: E402
 from cases import case_of  # noqa: E402
-from drive_desk import settings, want  # noqa: E402
 from driven import ROOT  # noqa: E402
 
 TOOL = ROOT / "tools" / "orders_from_csv"
@@ -89,7 +90,6 @@ LATIN_1 = {
     "Latin-1": (b"order;unit;colour\n1;5;wei\xdf\n", ['{"order":1,"unit":5,"colour":"wei\\u00df"}']),
     "ASCII as Latin-1": (b"order;unit;colour\n1;5;RAL\n", ['{"order":1,"unit":5,"colour":"RAL"}']),
 }
-
 EMPTY = "line 1: the table is empty: its first line has the keys, as order,unit,gtin"
 UTF_16 = "line 1: the file is in UTF-16, or is no text: it has to be saved as CSV in UTF-8"
 WORKBOOK = "line 1: the file is a workbook, and no table: its sheet has to be saved as CSV in UTF-8"
@@ -162,95 +162,94 @@ def run(words, given=b"", **streams):
     return subprocess.run([TOOL, *words], input=given, **how)
 
 
-def test_good(folder):
-    for options, cases in (((), GOOD), (("--latin-1",), LATIN_1), (("--from", "7"), NUMBERED)):
-        for name, (table, orders) in cases.items():
-            path = folder / "table.csv"
+class TableTest(BenchTest):
+    """Tables with their orders, or with their mistakes."""
+
+    def test_good(self):
+        for options, cases in (((), GOOD), (("--latin-1",), LATIN_1), (("--from", "7"), NUMBERED)):
+            for name, (table, orders) in cases.items():
+                path = self.folder / "table.csv"
+                path.write_bytes(table)
+                wanted = ("[\n" + ",\n".join(orders) + "\n]\n").encode()
+                for words, given in (([*options, path], b""), ([*options, "-"], table)):
+                    ended = run(words, given)
+                    self.assertEqual((name, ended.returncode, ended.stdout, ended.stderr), (name, 0, wanted, b""))
+                json.loads(wanted)
+
+    def test_bad(self):
+        path = self.folder / "table.csv"
+        for table, lines in BAD:
             path.write_bytes(table)
-            wanted = ("[\n" + ",\n".join(orders) + "\n]\n").encode()
-            for words, given in (([*options, path], b""), ([*options, "-"], table)):
-                ended = run(words, given)
-                want((name, ended.returncode, ended.stdout, ended.stderr), (name, 0, wanted, b""))
-            json.loads(wanted)
+            ended = run([path])
+            wanted = "".join(f"orders_from_csv: {path}: {line}\n" for line in lines)
+            self.assertEqual((table, ended.returncode, ended.stdout, ended.stderr.decode()), (table, 1, b"", wanted))
 
+    def test_bad_latin_1(self):
+        ended = run(["--latin-1", "-"], MARK + b"order,unit,year\n1,5,24\n")
+        wanted = b"orders_from_csv: -: line 1: the file begins with the mark of UTF-8, so it isn't in Latin-1\n"
+        self.assertEqual((ended.returncode, ended.stdout, ended.stderr), (1, b"", wanted))
 
-def test_bad(folder):
-    path = folder / "table.csv"
-    for table, lines in BAD:
-        path.write_bytes(table)
+    def test_bad_numbers(self):
+        column = "line 1: order: with --from the numbers aren't those of the table: take the column out"
+        over = f"line 3: order: the number {GREATEST + 1} is over {GREATEST}"
+        for first, table, line in (("7", b"order,unit\n1,5\n", column), (str(GREATEST), b"unit\n5\n6\n", over)):
+            ended = run(["--from", first, "-"], table)
+            wanted = f"orders_from_csv: -: {line}\n"
+            self.assertEqual((ended.returncode, ended.stdout, ended.stderr.decode()), (1, b"", wanted))
+        for first in ("", "-1", "x", "1.0", str(GREATEST + 1)):
+            ended = run([f"--from={first}", "-"], b"unit\n5\n")
+            self.assertEqual((first, ended.returncode, ended.stdout), (first, 2, b""))
+            assert b"is no whole number up to" in ended.stderr, ended
+
+    def test_many_bad_rows(self):
+        ended = run(["-"], b"order,unit,year\n" + 1001 * b"1,5,x\n")
+        lines = ended.stderr.decode().splitlines()
+        self.assertEqual((ended.returncode, ended.stdout, len(lines)), (1, b"", 1001))
+        self.assertEqual(lines[999], f'orders_from_csv: -: line 1001: year: the cell "x", {WHOLE} or null')
+        self.assertEqual(lines[1000], "orders_from_csv: -: more is left out: these are the first 1000 lines")
+
+    def test_odd_name(self):
+        path = self.folder / "a\x1b[31m.csv"
+        path.write_bytes(b"")
         ended = run([path])
-        wanted = "".join(f"orders_from_csv: {path}: {line}\n" for line in lines)
-        want((table, ended.returncode, ended.stdout, ended.stderr.decode()), (table, 1, b"", wanted))
+        self.assertEqual((ended.returncode, ended.stderr.decode()),
+                         (1, f"orders_from_csv: {self.folder}/a\\u{{1b}}[31m.csv: {EMPTY}\n"))
 
+    def test_unread(self):
+        for words, told in (([self.folder], f"{self.folder}: Is a directory"),
+                            ([self.folder / "none.csv"], f"{self.folder}/none.csv: No such file or directory")):
+            ended = run(words)
+            self.assertEqual((ended.returncode, ended.stdout, ended.stderr.decode()),
+                             (2, b"", f"orders_from_csv: {told}\n"))
+        shut = subprocess.run(["sh", "-c", f"exec {TOOL} - <&-"], capture_output=True, timeout=60)
+        self.assertEqual((shut.returncode, shut.stdout, shut.stderr),
+                         (2, b"", b"orders_from_csv: -: Bad file descriptor\n"))
 
-def test_bad_latin_1(folder):
-    ended = run(["--latin-1", "-"], MARK + b"order,unit,year\n1,5,24\n")
-    wanted = b"orders_from_csv: -: line 1: the file begins with the mark of UTF-8, so it isn't in Latin-1\n"
-    want((ended.returncode, ended.stdout, ended.stderr), (1, b"", wanted))
+    def test_wrong_command_lines(self):
+        for words in ([], ["a", "b"], ["--latin1", "a"], ["--latin", "a"], ["-x", "a"]):
+            ended = run(words)
+            self.assertEqual((words, ended.returncode, ended.stdout), (words, 2, b""))
+            assert ended.stderr.startswith(b"usage: orders_from_csv "), ended
+        ended = run(["--help"])
+        assert ended.returncode == 0 and b"null" in ended.stdout and b"--latin-1" in ended.stdout, ended
 
-
-def test_bad_numbers(folder):
-    column = "line 1: order: with --from the numbers aren't those of the table: take the column out"
-    over = f"line 3: order: the number {GREATEST + 1} is over {GREATEST}"
-    for first, table, line in (("7", b"order,unit\n1,5\n", column), (str(GREATEST), b"unit\n5\n6\n", over)):
-        ended = run(["--from", first, "-"], table)
-        wanted = f"orders_from_csv: -: {line}\n"
-        want((ended.returncode, ended.stdout, ended.stderr.decode()), (1, b"", wanted))
-    for first in ("", "-1", "x", "1.0", str(GREATEST + 1)):
-        ended = run([f"--from={first}", "-"], b"unit\n5\n")
-        want((first, ended.returncode, ended.stdout), (first, 2, b""))
-        assert b"is no whole number up to" in ended.stderr, ended
-
-
-def test_many_bad_rows(folder):
-    ended = run(["-"], b"order,unit,year\n" + 1001 * b"1,5,x\n")
-    lines = ended.stderr.decode().splitlines()
-    want((ended.returncode, ended.stdout, len(lines)), (1, b"", 1001))
-    want(lines[999], f'orders_from_csv: -: line 1001: year: the cell "x", {WHOLE} or null')
-    want(lines[1000], "orders_from_csv: -: more is left out: these are the first 1000 lines")
-
-
-def test_odd_name(folder):
-    path = folder / "a\x1b[31m.csv"
-    path.write_bytes(b"")
-    ended = run([path])
-    want((ended.returncode, ended.stderr.decode()), (1, f"orders_from_csv: {folder}/a\\u{{1b}}[31m.csv: {EMPTY}\n"))
-
-
-def test_unread(folder):
-    for words, told in (([folder], f"{folder}: Is a directory"),
-                        ([folder / "none.csv"], f"{folder}/none.csv: No such file or directory")):
-        ended = run(words)
-        want((ended.returncode, ended.stdout, ended.stderr.decode()), (2, b"", f"orders_from_csv: {told}\n"))
-    shut = subprocess.run(["sh", "-c", f"exec {TOOL} - <&-"], capture_output=True, timeout=60)
-    want((shut.returncode, shut.stdout, shut.stderr), (2, b"", b"orders_from_csv: -: Bad file descriptor\n"))
-
-
-def test_wrong_command_lines(folder):
-    for words in ([], ["a", "b"], ["--latin1", "a"], ["--latin", "a"], ["-x", "a"]):
-        ended = run(words)
-        want((words, ended.returncode, ended.stdout), (words, 2, b""))
-        assert ended.stderr.startswith(b"usage: orders_from_csv "), ended
-    ended = run(["--help"])
-    assert ended.returncode == 0 and b"null" in ended.stdout and b"--latin-1" in ended.stdout, ended
-
-
-def test_failing_outputs(folder):
-    table = folder / "table.csv"
-    table.write_bytes(b"order,unit,year\n1,5,24\n")
-    for output, cause in ((">/dev/full", "No space left on device"), (">&-", "Bad file descriptor")):
-        ended = subprocess.run(["sh", "-c", f"exec {TOOL} {table} {output}"], capture_output=True, timeout=60)
-        told = f"orders_from_csv: the output can't be written: {cause}\n"
-        want((ended.returncode, ended.stdout, ended.stderr.decode()), (2, b"", told))
-    reader, writer = os.pipe()
-    os.close(reader)
-    ended = run([table], stdout=writer)
-    os.close(writer)
-    want((ended.returncode, ended.stderr), (2, b"orders_from_csv: the output can't be written: Broken pipe\n"))
-    table.write_bytes(b"order,unit,year\n1,5,x\n")
-    for error in ("2>&-", "2>/dev/full"):
-        ended = subprocess.run(["sh", "-c", f"exec {TOOL} {table} {error}"], capture_output=True, timeout=60)
-        want((error, ended.returncode, ended.stdout), (error, 1, b""))
+    def test_failing_outputs(self):
+        table = self.folder / "table.csv"
+        table.write_bytes(b"order,unit,year\n1,5,24\n")
+        for output, cause in ((">/dev/full", "No space left on device"), (">&-", "Bad file descriptor")):
+            ended = subprocess.run(["sh", "-c", f"exec {TOOL} {table} {output}"], capture_output=True, timeout=60)
+            told = f"orders_from_csv: the output can't be written: {cause}\n"
+            self.assertEqual((ended.returncode, ended.stdout, ended.stderr.decode()), (2, b"", told))
+        reader, writer = os.pipe()
+        os.close(reader)
+        ended = run([table], stdout=writer)
+        os.close(writer)
+        self.assertEqual((ended.returncode, ended.stderr),
+                         (2, b"orders_from_csv: the output can't be written: Broken pipe\n"))
+        table.write_bytes(b"order,unit,year\n1,5,x\n")
+        for error in ("2>&-", "2>/dev/full"):
+            ended = subprocess.run(["sh", "-c", f"exec {TOOL} {table} {error}"], capture_output=True, timeout=60)
+            self.assertEqual((error, ended.returncode, ended.stdout), (error, 1, b""))
 
 
 def checked(table, *options):
@@ -260,58 +259,61 @@ def checked(table, *options):
     return subprocess.run([settings["program"], "check", "-"], input=made.stdout, capture_output=True, timeout=60)
 
 
-def test_check_takes_a_full_order(folder):
-    order = json.loads((ROOT / "examples" / "full.json").read_text())[0]
-    for separator in ",;":
-        table = separator.join(order) + "\r\n" + separator.join(map(str, order.values())) + "\r\n"
-        ended = checked(table.encode())
-        want((ended.returncode, ended.stdout), (0, case_of("full").wanted))
+class CheckTest(BenchTest):
+    """What `check` says of the orders that come out."""
 
+    def test_check_takes_a_full_order(self):
+        order = json.loads((ROOT / "examples" / "full.json").read_text())[0]
+        for separator in ",;":
+            table = separator.join(order) + "\r\n" + separator.join(map(str, order.values())) + "\r\n"
+            ended = checked(table.encode())
+            self.assertEqual((ended.returncode, ended.stdout), (0, case_of("full").wanted))
 
-def test_check_takes_each_key(folder):
-    """The sixteen keys are those of the program, each of its kind, and fourteen may be unknown."""
-    values = {"gtin": "4006381333931", "identification": "0011223344556677", "colour": "24", "luminaire": "24"}
-    order = json.loads((ROOT / "examples" / "full.json").read_text())[0]
-    want(len(order), 16)
-    for key in [key for key in order if key not in ("order", "unit")]:
-        for value in (values.get(key, "24"), "null"):
-            ended = checked(f"order,unit,{key}\n1,5,{value}\n".encode())
-            want((key, ended.returncode, ended.stdout.splitlines()[-1]), (key, 0, b"accepted 1 refused 0"))
+    def test_check_takes_each_key(self):
+        """The sixteen keys are those of the program, each of its kind, and fourteen may be unknown."""
+        values = {"gtin": "4006381333931", "identification": "0011223344556677", "colour": "24", "luminaire": "24"}
+        order = json.loads((ROOT / "examples" / "full.json").read_text())[0]
+        self.assertEqual(len(order), 16)
+        for key in [key for key in order if key not in ("order", "unit")]:
+            for value in (values.get(key, "24"), "null"):
+                ended = checked(f"order,unit,{key}\n1,5,{value}\n".encode())
+                self.assertEqual((key, ended.returncode, ended.stdout.splitlines()[-1]),
+                                 (key, 0, b"accepted 1 refused 0"))
 
+    def test_check_judges_values(self):
+        table = (b"order;unit;gtin;year\r\n1;5;04006381333931;\r\n2;64;;24\r\n3;5;4006381333932;24\r\n4;5;;100\r\n"
+                 b"5;5;;\r\n18446744073709551615;63;null;\r\n;;;\r\n")
+        wanted = (b"item 1 order 1 unit 5 bytes 6\n03 03\n04 A4\n05 CE\n06 EF\n07 AD\n08 AB\nitem 2 fault 1 Unit\n"
+                  b"item 3 fault 4 Gtin\nitem 4 fault 3 Range\nitem 5 fault 8 Empty\n"
+                  b"item 6 order 18446744073709551615 unit 63 bytes 6\n03 FF\n04 FF\n05 FF\n06 FF\n07 FF\n08 FF\n"
+                  b"accepted 2 refused 4\n")
+        ended = checked(table)
+        self.assertEqual((ended.returncode, ended.stdout), (1, wanted))
+        ended = checked(b"order;unit;colour\n1;5;wei\xdf\n", "--latin-1")
+        self.assertEqual((ended.returncode, ended.stdout), (1, b"item 1 fault 5 Text\naccepted 0 refused 1\n"))
+        self.assertEqual(checked(b"order,unit,gtin\n").stdout, b"accepted 0 refused 0\n")
 
-def test_check_judges_values(folder):
-    table = (b"order;unit;gtin;year\r\n1;5;04006381333931;\r\n2;64;;24\r\n3;5;4006381333932;24\r\n4;5;;100\r\n5;5;;\r\n"
-             b"18446744073709551615;63;null;\r\n;;;\r\n")
-    wanted = (b"item 1 order 1 unit 5 bytes 6\n03 03\n04 A4\n05 CE\n06 EF\n07 AD\n08 AB\nitem 2 fault 1 Unit\n"
-              b"item 3 fault 4 Gtin\nitem 4 fault 3 Range\nitem 5 fault 8 Empty\n"
-              b"item 6 order 18446744073709551615 unit 63 bytes 6\n03 FF\n04 FF\n05 FF\n06 FF\n07 FF\n08 FF\n"
-              b"accepted 2 refused 4\n")
-    ended = checked(table)
-    want((ended.returncode, ended.stdout), (1, wanted))
-    ended = checked(b"order;unit;colour\n1;5;wei\xdf\n", "--latin-1")
-    want((ended.returncode, ended.stdout), (1, b"item 1 fault 5 Text\naccepted 0 refused 1\n"))
-    want(checked(b"order,unit,gtin\n").stdout, b"accepted 0 refused 0\n")
-
-
-def test_any_table_comes_back(folder):
-    """What is written as a table by chance comes back as the orders that were meant."""
-    chance = random.Random(1)
-    texts = ["", "0", "007", "null ", "a,b;c", 'a "b"', "a\nb", "a\r\nb", " x", "\u00e9\u4e2d", "'", '"', "\t", "1e3"]
-    for _ in range(40):
-        keys = ["order", "unit", *chance.sample(["gtin", "colour", "luminaire", "year", "cct"], chance.randint(1, 5))]
-        chance.shuffle(keys)
-        rows, orders = [], []
-        for _ in range(chance.randint(0, 5)):
-            numbers = {key: chance.choice([0, 5, 2**53 + 1, GREATEST]) for key in ("order", "unit", "year", "cct")}
-            order = {key: numbers.get(key, chance.choice(texts)) for key in keys}
-            rows.append([order[key] for key in keys])
-            orders.append({key: value for key, value in order.items() if value != ""})
-        text = io.StringIO()
-        csv.writer(text, delimiter=chance.choice(",;"), quoting=chance.choice([csv.QUOTE_MINIMAL, csv.QUOTE_ALL]),
-                   lineterminator=chance.choice(["\n", "\r\n"])).writerows([keys, *rows])
-        ended = run(["-"], chance.choice([b"", MARK]) + text.getvalue().encode())
-        want((ended.returncode, ended.stderr, json.loads(ended.stdout)), (0, b"", orders))
+    def test_any_table_comes_back(self):
+        """What is written as a table by chance comes back as the orders that were meant."""
+        chance = random.Random(1)
+        texts = ["", "0", "007", "null ", "a,b;c", 'a "b"', "a\nb", "a\r\nb", " x", "\u00e9\u4e2d", "'", '"', "\t",
+                 "1e3"]
+        for _ in range(40):
+            keys = ["order", "unit",
+                    *chance.sample(["gtin", "colour", "luminaire", "year", "cct"], chance.randint(1, 5))]
+            chance.shuffle(keys)
+            rows, orders = [], []
+            for _ in range(chance.randint(0, 5)):
+                numbers = {key: chance.choice([0, 5, 2**53 + 1, GREATEST]) for key in ("order", "unit", "year", "cct")}
+                order = {key: numbers.get(key, chance.choice(texts)) for key in keys}
+                rows.append([order[key] for key in keys])
+                orders.append({key: value for key, value in order.items() if value != ""})
+            text = io.StringIO()
+            csv.writer(text, delimiter=chance.choice(",;"), quoting=chance.choice([csv.QUOTE_MINIMAL, csv.QUOTE_ALL]),
+                       lineterminator=chance.choice(["\n", "\r\n"])).writerows([keys, *rows])
+            ended = run(["-"], chance.choice([b"", MARK]) + text.getvalue().encode())
+            self.assertEqual((ended.returncode, ended.stderr, json.loads(ended.stdout)), (0, b"", orders))
 
 
 if __name__ == "__main__":
-    sys.exit(suite.main(__doc__, (sys.modules[__name__],), sys.argv[1:]))
+    sys.exit(beside.main(__doc__, ["test_table"], sys.argv[1:]))

@@ -2,9 +2,9 @@
 #![tactic(auto)]
 
 #[cfg(test)]
-mod driving;
+mod by_hand;
 #[cfg(test)]
-mod failing_store;
+mod driving;
 #[cfg(test)]
 mod following;
 #[cfg(test)]
@@ -13,7 +13,5 @@ mod stops;
 mod store_files;
 #[cfg(test)]
 mod streams;
-#[cfg(test)]
-mod sweeps;
 #[cfg(test)]
 mod worked_drives;

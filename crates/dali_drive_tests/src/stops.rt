@@ -2,9 +2,9 @@
 // driven on to the same end.
 ghost use Rattle.std.specs.Prelude.{◌≡◌, false};
 
+use crate::by_hand::{Seen, carry_again, work_from};
 use crate::driving::{OLD_BEGAN, gtin_order_of};
 use crate::streams::{MANY, Script, Shelf};
-use crate::sweeps::{Seen, carry_again, work_from};
 use dali_bank::Order;
 use dali_frame::Frame;
 use dali_gear::{Fate, GearFault, SimBus, Unit};
@@ -16,7 +16,7 @@ use std::alloc::Global;
 use std::test::Fail;
 
 // Where the records of the three orders end in the journal's file, behind the header and behind each.
-pub(crate) static ENDS: [usize; 10] = [4, 35, 37, 39, 70, 72, 74, 105, 107, 109];
+static ENDS: [usize; 10] = [4, 35, 37, 39, 70, 72, 74, 105, 107, 109];
 
 // As many orders and bytes as the journal has in the end.
 const TERMS: Terms = Terms {
@@ -28,12 +28,12 @@ const TERMS: Terms = Terms {
 // The first bytes of bank 1 of each unit in the end.
 const BANK: [u8; 10] = [0x77, 0xFF, 0xFF, 0x03, 0xA4, 0xCE, 0xEF, 0xAD, 0xAB, 0xFF];
 
-pub(crate) fn end_of(records: usize) -> usize {
+fn end_of(records: usize) -> usize {
     ENDS.get(records).copied().unwrap_or(MANY)
 }
 
 // What is said where so many records are there at first.
-pub(crate) fn said_from(records: usize) -> &'static str {
+fn said_from(records: usize) -> &'static str {
     match records {
         0 => {
             "reply 1 taken\nreply 1 kept 0 Done\nreply 2 taken\nreply 2 kept 0 Done\n\
@@ -65,7 +65,7 @@ fn three_orders() -> Result<[Order; 3], Fail> {
 }
 
 // The journal's file in the end.
-pub(crate) fn whole_file(alloc: Global) -> Result<Vec<u8>, Fail> {
+fn whole_file(alloc: Global) -> Result<Vec<u8>, Fail> {
     let mut file = HEADER.to_vec(alloc)?;
     for (id, unit) in [(1, 5), (2, 6), (3, 7)] {
         let mut records = GTIN_RECORDS;
@@ -105,16 +105,16 @@ fn are_written(bus: &SimBus) -> bool {
 
 // What a drive left.
 #[derive(Drop)]
-pub(crate) struct Left {
-    pub(crate) fault: Option<StoredFault>,
+struct Left {
+    fault: Option<StoredFault>,
     // How many bytes of the answers it didn't take.
     untaken: usize,
-    pub(crate) link: Vec<u8>,
-    pub(crate) out: Vec<u8>,
+    link: Vec<u8>,
+    out: Vec<u8>,
 }
 
 // Drives the orders over a store, and gives it back.
-pub(crate) fn drive_over<S: Store + Drop>(
+fn drive_over<S: Store + Drop>(
     alloc: Global,
     store: S,
     answers: &[u8],
@@ -148,7 +148,7 @@ fn has_ended(left: &Left, seen: &Seen, records: usize) -> bool {
 }
 
 // Goes on from a file of so many whole records, where these frames were carried.
-pub(crate) fn judge_end(
+fn judge_end(
     alloc: Global,
     whole: &[u8],
     file: &[u8],
@@ -211,13 +211,12 @@ fn judge_contents(
     Ok(())
 }
 
-// A file from which the orders are driven: how many of its records are whole, and how many calls open it.
+// A file from which the orders are driven, and how many of its records are whole.
 #[derive(Clone, Copy)]
-pub(crate) struct Run<'a> {
-    pub(crate) whole: &'a [u8],
-    pub(crate) file: &'a [u8],
-    pub(crate) records: usize,
-    pub(crate) opening: usize,
+struct Run<'a> {
+    whole: &'a [u8],
+    file: &'a [u8],
+    records: usize,
 }
 
 // A stop at each moment.
@@ -247,19 +246,18 @@ fn judge_stops(alloc: Global, run: &Run<'_>) -> Result<(), Fail> {
 }
 
 // The first record in version 1, with no header and no moment.
-pub(crate) fn old_begun() -> [u8; 23] {
+fn old_begun() -> [u8; 23] {
     let mut old = OLD_BEGAN;
     old[9] = 5;
     old
 }
 
 // No bytes at all, a journal of version 1 with an order at work, and one of version 2 with a cut record.
-pub(crate) fn runs_of<'a>(whole: &'a [u8], old: &'a [u8]) -> [Run<'a>; 3] {
+fn runs_of<'a>(whole: &'a [u8], old: &'a [u8]) -> [Run<'a>; 3] {
     let none = Run {
         whole,
         file: &[],
         records: 0,
-        opening: 2,
     };
     let cut = whole.get(..36).unwrap_or_default();
     [
@@ -272,7 +270,6 @@ pub(crate) fn runs_of<'a>(whole: &'a [u8], old: &'a [u8]) -> [Run<'a>; 3] {
         Run {
             file: cut,
             records: 1,
-            opening: 3,
             ..none
         },
     ]

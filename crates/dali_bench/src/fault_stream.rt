@@ -29,7 +29,12 @@ pub(crate) enum FaultStream {
 }
 
 // Prints that a file can't be opened, why, and where too many are open what to do.
-pub(crate) fn unopened(rt: &HostRuntime, name: &str, cause: io::Error, stream: FaultStream) -> Status {
+pub(crate) fn unopened(
+    rt: &HostRuntime,
+    name: &str,
+    cause: io::Error,
+    stream: FaultStream,
+) -> Status {
     let name = Escaped::whole(name);
     let advice = if cause.raw_os_error() == Some(TOO_MANY_FILES) {
         MORE_FILES

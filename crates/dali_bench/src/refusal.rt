@@ -14,7 +14,12 @@ const A_MOMENT: &str =
     "A moment is a whole number from 0 to 18446744073709551615, as the clock's seconds: --moment $(date +%s)";
 
 // Prints what `clap` says of a wrong command line, in which it repeats words of that.
-pub(crate) fn refused(rt: &HostRuntime, words: &[&str], error: &clap::Error, stream: FaultStream) -> Status {
+pub(crate) fn refused(
+    rt: &HostRuntime,
+    words: &[&str],
+    error: &clap::Error,
+    stream: FaultStream,
+) -> Status {
     let Ok(text) = format!(in rt.alloc(); "{error}") else {
         return out_of_memory(rt, stream);
     };

@@ -114,11 +114,7 @@ struct Left {
 }
 
 // Drives the orders over a store, and gives it back.
-fn drive_over<S: Store + Drop>(
-    alloc: Global,
-    store: S,
-    answers: &[u8],
-) -> Result<(Left, S), Fail>
+fn drive_over<S: Store + Drop>(alloc: Global, store: S, answers: &[u8]) -> Result<(Left, S), Fail>
     requires { S.failed store ≡ false }
 {
     let mut desk = StoreDesk {

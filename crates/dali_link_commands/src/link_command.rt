@@ -103,13 +103,7 @@ impl<'a> LinkCommand<'a> {
 }
 
 // Drives the orders of a file: all of them, or line by line.
-fn drive_task<
-    R: Files<File = File> + AllocGlobal,
-    I: Read,
-    L: Write,
-    O: Write,
-    N: Write + Drop,
->(
+fn drive_task<R: Files<File = File> + AllocGlobal, I: Read, L: Write, O: Write, N: Write + Drop>(
     rt: &R,
     task: DriveTask<'_>,
     desk: &mut StoreDesk<StdSource<I>, StdSink<L>, FileStore<'_, R>, Lines<O>>,

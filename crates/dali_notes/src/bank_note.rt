@@ -52,7 +52,9 @@ fn tell_letter(note: &mut Note, position: Position<'_>, byte: u8) {
     match byte {
         b' '..=b'~' => {
             let letter = char::from(byte);
-            note.add(format_args!("{position}: the character \"{letter}\" is no hexadecimal digit"));
+            note.add(format_args!(
+                "{position}: the character \"{letter}\" is no hexadecimal digit"
+            ));
         }
         _ => note.add(format_args!("{position}: the byte {byte:02X}h is no hexadecimal digit")),
     }

@@ -81,7 +81,10 @@ fn note_place(alloc: Global, note: &mut Note, input: &[u8]) {
     }
     let fault = stop.min(input.len().saturating_sub(1));
     let count = fault.saturating_add(blanks_of(&input[fault..]));
-    let (position, words) = (Position::behind(input, count), trouble_at(alloc, input, count));
+    let (position, words) = (
+        Position::behind(input, count),
+        trouble_at(alloc, input, count),
+    );
     note.add(format_args!("{position}: {words}"));
 }
 

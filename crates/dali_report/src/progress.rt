@@ -2,9 +2,9 @@
 // it, and no contract tells what it shows.
 ghost use Rattle.std.specs.Prelude.{◌≡◌, is_some};
 
-use crate::watch_state::WatchState;
 use crate::expected::{drive_frames, verify_frames};
 use crate::progress_line::{Now, Totals};
+use crate::watch_state::WatchState;
 use dali_bank::Order;
 use dali_journal::{Code, Journal, Record};
 use dali_read::Finding;

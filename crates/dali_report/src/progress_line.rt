@@ -1,6 +1,6 @@
 // The lines that a person watches.
-use crate::watch_state::{AtHand, WatchState};
 use crate::progress::Watched;
+use crate::watch_state::{AtHand, WatchState};
 use std::fmt;
 
 /// How far a command is.

@@ -117,6 +117,20 @@ struct Driven {
     told: Vec<u8>,
 }
 
+// The task of a drive over orders in a file of this name.
+fn task_of<'a>(drive: &Drive<'a>, name: &'a str) -> DriveTask<'a> {
+    DriveTask {
+        orders: name,
+        journal: drive.journal,
+        older: &[],
+        moment: drive.moment,
+        pace: Pace::Checked,
+        required: Required::Nothing,
+        follow: false,
+        report: None,
+    }
+}
+
 fn driven_files<'a, R: Files<File = File> + AllocGlobal>(
     rt: &'a R,
     drive: &Drive<'a>,
@@ -129,16 +143,7 @@ fn driven_files<'a, R: Files<File = File> + AllocGlobal>(
     let answers = b"--\n".repeat(rt.alloc(), drive.answers)?;
     let mut sent = Vec::new(rt.alloc());
     let mut told = Vec::new(rt.alloc());
-    let task = DriveTask {
-        orders: name,
-        journal: drive.journal,
-        older: &[],
-        moment: drive.moment,
-        pace: Pace::Checked,
-        required: Required::Nothing,
-        follow: false,
-        report: None,
-    };
+    let task = task_of(drive, name);
     let mut desk = StoreDesk {
         link_in: StdSource::new(answers.as_slice()),
         link_out: StdSink::new(&mut sent),

@@ -300,7 +300,7 @@ class Server:
         self.process = subprocess.Popen(words, cwd="/", start_new_session=True, stdin=subprocess.DEVNULL,
                                         stdout=subprocess.DEVNULL, stderr=subprocess.DEVNULL, **self.user)
         ask = ["psql", "-X", "-c", "select 1", self.url]
-        wait_for(lambda: subprocess.run(ask, capture_output=True, check=False).returncode == 0)
+        wait_for(lambda: subprocess.run(ask, capture_output=True, check=False).returncode == 0, 180)
 
     def kill(self, is_whole=True):
         """Kill it and all of its processes, or one that serves the line computer."""

@@ -1,204 +1,147 @@
 #!/usr/bin/env python3
-"""Measure `dali_bench check` beside a plain Python program (baseline.py), and beside what only reads JSON.
+"""Measure the commands over files: `check` beside its peers, and each on inputs of the largest size.
 
-It makes a file of work orders, and one of a quarter of its size, always the same for the same size. It runs both
-programs on both files in turn, and jq and Python's json, and prints the best wall time and the peak memory of each, and
-how they grow from the quarter to the full size.
+1. The start of the program, by itself and by the launcher.
+2. `check` on orders of 1 to 16 MiB, beside a plain Python program (baseline.py), whose output and status have to be the
+   same, and beside jq and Python's json, which only read. With --draw the pictures of BENCHMARKS.md are drawn.
+3. Each command on inputs of the largest size, also those that are made to cost most.
+4. `run` on the largest scenarios: the processor's time by frame, and how it grows with the events.
 
-Status 0: both programs gave the same output and status each time. Status 1: an output or a status differs. Status 2: a
-program couldn't be run. Status 3: an aim isn't held.
+Status 0: all ended as it has to. Status 1: something didn't. Status 2: a program couldn't be run. Status 3: an aim
+isn't held.
 """
 
-import itertools
-import platform
+import filecmp
+import pathlib
 import sys
-from typing import NamedTuple
 
-from measuring import (
-    MEBIBYTE,
-    READERS,
-    REPOSITORY,
-    Aims,
-    Run,
-    argument_parser,
-    best_of,
-    positive,
-    print_machine,
-    run,
-    working_folder,
-)
+import pictures
+from inputs import INPUTS, MOST_EVENTS, SCENARIOS, Scenario, write_journal, FULL, MOST_ORDERS
+from measuring import MEBIBYTE, READERS, REPOSITORY, Wrong, argument_parser, best_of, judged, run
 from orders import write_orders
 
-BASELINE = REPOSITORY / "benchmarks" / "baseline.py"
-LEAST_RATIO = 10
-MOST_GROWTH = 4.5
-# Of the memory, by the input.
-MOST_MEMORY = 3
+SIZES = (1, 2, 4, 8, 16)
+JSON = "Python's json, reading alone"
+# Of `check` on the largest size: how many times as fast as the plain program, how the time may grow with four times the
+# input, the most memory by the input.
+LEAST_RATIO, MOST_GROWTH, MOST_MEMORY = 10, 4.5, 3
+MOST_MICROSECONDS_PER_FRAME = 20
 
 
-class Difference(Exception):
-    """The outputs or the statuses of the two programs differ."""
+def measure_start(bench):
+    """Measure the starts of the program."""
+    for name, program in (("start", bench.program), ("start by the launcher", REPOSITORY / "dali_bench")):
+        best = best_of([run([program, "frame", "A303"], bench.folder / "frame.txt") for _ in range(10 * bench.runs)])
+        if best.status:
+            raise Wrong(f"{program} frame: status {best.status}")
+        print(f"{name:48} {best.seconds * 1e3:8.1f} ms", flush=True)
 
 
-class Measurement(NamedTuple):
-    """What the programs took on one file of orders, by their names: the program, the baseline, and the readers."""
-
-    input_size: int
-    order_count: int
-    runs: dict
-
-    def ratio(self):
-        """Give how many times as fast as the baseline the program is."""
-        return self.runs["baseline"].seconds / self.runs["program"].seconds
-
-
-# Running the programs
-
-
-def compare_statuses(program, baseline):
-    """Raise Difference unless both ended with the same status."""
-    if program.status != baseline.status:
-        raise Difference(
-            f"status {program.status} of the program,"
-            f" {baseline.status} of the baseline"
-        )
-
-
-def compare_outputs(program_path, baseline_path):
-    """Raise Difference at the first line in which the outputs differ."""
-    item = b"none"
-    with open(program_path, "rb") as program, open(
-        baseline_path, "rb"
-    ) as baseline:
-        pairs = itertools.zip_longest(program, baseline, fillvalue=b"")
-        for number, (program_line, baseline_line) in enumerate(pairs, 1):
-            if program_line != baseline_line:
-                raise Difference(
-                    f"line {number} of the output:"
-                    f" program {program_line[:80]!r},"
-                    f" baseline {baseline_line[:80]!r},"
-                    f" last equal item line {item!r}"
-                )
-            if program_line.startswith(b"item"):
-                item = program_line
-
-
-def measure(program, orders_path, order_count, run_count):
-    """Run the programs in turn on one file, and compare the program and the baseline."""
+def read_by_each(bench, path):
+    """Have each program read orders; give what each took, by its name."""
     commands = {
-        "program": [program, "check"],
+        "dali_bench check": [bench.program, "check"],
         # -E: a variable such as PYTHONUNBUFFERED would make the baseline slower.
-        "baseline": [sys.executable, "-E", BASELINE, "check"],
+        "the same in Python": [sys.executable, "-E", REPOSITORY / "benchmarks" / "baseline.py", "check"],
         **READERS,
     }
-    outputs = {name: orders_path.with_suffix(f".{at}.txt") for at, name in enumerate(commands)}
+    outputs = [bench.folder / f"output_{at}.txt" for at in range(len(commands))]
     runs = {name: [] for name in commands}
-    for _ in range(run_count):
-        for name, words in commands.items():
-            runs[name].append(run([*words, orders_path], outputs[name]))
-        compare_statuses(runs["program"][-1], runs["baseline"][-1])
-        compare_outputs(outputs["program"], outputs["baseline"])
+    for _ in range(bench.runs):
+        for (name, words), output in zip(commands.items(), outputs):
+            runs[name].append(run([*words, path], output))
     best = {name: best_of(each) for name, each in runs.items()}
-    return Measurement(orders_path.stat().st_size, order_count, best)
+    ours, plain = list(best.values())[:2]
+    if ours.status != plain.status or not filecmp.cmp(*outputs[:2], shallow=False):
+        raise Wrong(f"{path.name}: the outputs or statuses of the program and the plain one differ")
+    return best
 
 
-# Printing
+def measure_check(bench):
+    """Measure `check` beside its peers, by the size of its input."""
+    path, found = bench.folder / "orders.json", {}
+    for size in SIZES:
+        count = write_orders(path, size * MEBIBYTE)
+        found[size] = read_by_each(bench, path)
+        for name, best in found[size].items():
+            print(
+                f"{size:3} MiB, {count:6} orders, {name:28} {best.seconds:8.3f} s"
+                f" {best.peak_memory / MEBIBYTE:7.1f} MiB {best.peak_memory / path.stat().st_size:5.1f} x input",
+                flush=True,
+            )
+    ours, plain, reader = (found[16][name] for name in ("dali_bench check", "the same in Python", JSON))
+    ratio, growth = plain.seconds / ours.seconds, ours.seconds / found[4]["dali_bench check"].seconds
+    bench.aims.want(ratio >= LEAST_RATIO, f"{LEAST_RATIO} times as fast as the plain program: {ratio:.1f}")
+    bench.aims.want(ours.seconds <= reader.seconds, f"at most the time in which Python reads: {reader.seconds:.3f} s")
+    bench.aims.want(growth <= MOST_GROWTH, f"at most {MOST_GROWTH} times the time for 4 times the input: {growth:.1f}")
+    if bench.arguments.draw:
+        draw(found)
 
 
-def print_heading(program, run_count):
-    """Print the date, the machine and what is measured."""
-    print_machine()
-    print(f"program   {program} check FILE")
-    print(f"baseline  baseline.py, Python {platform.python_version()}")
-    print(f"time      best of {run_count} runs in turn, output to a file")
-    print(f"memory    highest of {run_count} runs")
+def draw(found):
+    """Draw the time and the memory of each program over the size."""
+    for name, title, of in (("check_time", "seconds", lambda best: best.seconds),
+                            ("check_memory", "MiB", lambda best: best.peak_memory / MEBIBYTE)):
+        lines = {program: [(size, of(found[size][program])) for size in SIZES] for program in found[SIZES[0]]}
+        pictures.save(name, "Reading of orders", "MiB of orders", title, lines)
 
 
-def print_measurement(measurement):
-    """Print what was measured on one file."""
-    size = measurement.input_size
-    print(f"\n{size / MEBIBYTE:.2f} MiB, {measurement.order_count} orders")
-    for name, best in measurement.runs.items():
+def measure_inputs(bench):
+    """Measure each command on inputs of the largest size."""
+    path, full = bench.folder / "input", bench.folder / "journal"
+    for given in INPUTS:
+        given.write(path, 16 * MEBIBYTE)
+        size, words = path.stat().st_size, [bench.program, given.command, path]
+        if given.command == "drive":
+            words.append(full)
+        runs = []
+        for _ in range(bench.runs):
+            write_journal(full, range(MOST_ORDERS), FULL, b"", 1)
+            runs.append(run(words, bench.folder / "output.txt"))
+        best = best_of(runs)
         print(
-            f"  {name:28} {best.seconds:8.3f} s, peak memory {best.peak_memory / MEBIBYTE:.1f} MiB"
-            f" = {best.peak_memory / size:.2f} x input, status {best.status}"
+            f"{given.command:8} {given.name:52} {size / MEBIBYTE:5.1f} MiB {best.seconds:7.3f} s"
+            f" {best.peak_memory / MEBIBYTE:8.1f} MiB {best.peak_memory / size:6.1f} x input",
+            flush=True,
         )
-    print(f"  time of baseline / program {measurement.ratio():.2f}")
+        if best.status != given.status:
+            raise Wrong(f"{given.command}, {given.name}: status {best.status}, and {given.status} is due")
+        if given.command == "check":
+            held = best.peak_memory <= MOST_MEMORY * size
+            bench.aims.want(held, f"{given.name}: at most {MOST_MEMORY} times the input in memory")
 
 
-def print_growths(quarter, full):
-    """Print how time and memory grow from the quarter to the full size."""
-    growth = full.input_size / quarter.input_size
-    print(f"\nfrom the quarter to the full size, input x {growth:.2f}")
-    for name, best in full.runs.items():
-        least = quarter.runs[name]
+def measured_run(bench, scenario):
+    """Run a scenario, which has to send its frames, and give what that took."""
+    path, output = bench.folder / "scenario.json", bench.folder / "run.txt"
+    scenario.write(path)
+    best = best_of([run([bench.program, "run", path], output) for _ in range(bench.runs)])
+    told = [line.split()[1] for line in output.read_text(encoding="ascii").splitlines() if line.startswith("total ")]
+    if best.status or told != [str(scenario.frames)]:
+        raise Wrong(f"a scenario: status {best.status}, frames {told}, and {scenario.frames} are due")
+    return best
+
+
+def measure_run(bench):
+    """Measure `run` on scenarios, by their number of events."""
+    start = measured_run(bench, Scenario([], [], [], 0)).processor_seconds
+    for name, make in SCENARIOS.items():
+        scenario = make(MOST_EVENTS)
+        fewer, best = measured_run(bench, make(MOST_EVENTS // 4)), measured_run(bench, scenario)
+        by_frame = best.processor_seconds * 1e6 / scenario.frames
+        growth = (best.processor_seconds - start) / (fewer.processor_seconds - start)
         print(
-            f"  {name:28} time x {best.seconds / least.seconds:.2f},"
-            f" peak memory x {best.peak_memory / least.peak_memory:.2f}"
+            f"run {name:24} {scenario.frames:6} frames {best.processor_seconds * 1e3:7.1f} ms"
+            f" {by_frame:5.2f} us a frame {best.peak_memory / MEBIBYTE:6.1f} MiB,"
+            f" {growth:.1f} times the time for 4 times the events",
+            flush=True,
         )
-
-
-def judge(quarter, full):
-    """Tell which aims aren't held, and give the status."""
-    aims = Aims()
-    aims.want(full.ratio() >= LEAST_RATIO, f"{LEAST_RATIO} times as fast as the baseline: {full.ratio():.1f}")
-    program, reader = full.runs["program"], full.runs["Python's json, reading alone"]
-    aims.want(
-        program.seconds <= reader.seconds,
-        f"at most the time in which Python reads the same: {program.seconds:.3f} s, {reader.seconds:.3f} s",
-    )
-    taken = program.peak_memory / full.input_size
-    aims.want(taken <= MOST_MEMORY, f"at most {MOST_MEMORY} times the input in memory: {taken:.1f}")
-    growth = program.seconds / quarter.runs["program"].seconds
-    aims.want(growth <= MOST_GROWTH, f"at most {MOST_GROWTH} times the time for 4 times the input: {growth:.1f}")
-    return aims.status()
-
-
-# The whole
-
-
-def benchmark(program, size, run_count, folder):
-    """Measure both sizes, print the results, and give the status."""
-    print_heading(program, run_count)
-    measurements = []
-    for name, file_size in (("quarter", size // 4), ("full", size)):
-        path = folder / f"{name}.json"
-        order_count = write_orders(path, file_size)
-        measurement = measure(program, path, order_count, run_count)
-        print_measurement(measurement)
-        measurements.append(measurement)
-    print_growths(*measurements)
-    print("\nsame output and status in all runs")
-    return judge(*measurements)
-
-
-def read_arguments():
-    """Read the command line."""
-    parser = argument_parser("Measure dali_bench check beside plain Python.", run_count=3)
-    parser.add_argument(
-        "--size",
-        type=positive(float),
-        default=16,
-        help="size of the full file in MiB (default: %(default)s)",
-    )
-    return parser.parse_args()
-
-
-def main():
-    """Run the benchmark; give the status described at the top."""
-    arguments = read_arguments()
-    program = arguments.program.resolve()
-    size = int(arguments.size * MEBIBYTE)
-    try:
-        with working_folder(arguments.keep) as folder:
-            return benchmark(program, size, arguments.runs, folder)
-    except Difference as difference:
-        print(f"\nDIFFERENT: {difference}")
-        return 1
-    except OSError as error:
-        print(f"\ncould not run: {error}", file=sys.stderr)
-        return 2
+        most = MOST_MICROSECONDS_PER_FRAME
+        bench.aims.want(by_frame < most, f"{name}: a frame takes under {most} us")
+        bench.aims.want(growth <= MOST_GROWTH, f"{name}: at most {MOST_GROWTH} times the time for 4 times the events")
 
 
 if __name__ == "__main__":
-    sys.exit(main())
+    parser = argument_parser(__doc__.splitlines()[0], 3)
+    parser.add_argument("--draw", action="store_true", help=f"draw {pathlib.Path('docs/pictures')} anew")
+    sys.exit(judged(parser, measure_start, measure_check, measure_inputs, measure_run))

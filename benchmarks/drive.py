@@ -1,291 +1,278 @@
 #!/usr/bin/env python3
 """Measure how long `dali_bench drive` takes, beyond its link.
 
-Orders of a GTIN (112 frames and three records each) for a few units are sent
-through pipes to a link that answers at once (null_link.c). What the pipes
-alone take is measured with a command that does nothing but send and read.
+Orders of a GTIN (112 frames and three records each) for a few units are sent through pipes to a link that answers at
+once (null_link.c). What the pipes alone take is measured with a command that does nothing but send and read.
 
-1. By the number of orders: 10, 100, 1000, with the journal in memory and
-   nothing synced (drive_shim.c passes over each sync): the program's own
-   share of a frame, and its peak memory.
-2. By where the journal is: in a folder on disk, in /dev/shm, and on disk
-   with nothing synced.
-3. Sent again: 1000 orders that the journal knows, which send no frame.
-4. The start alone, over a journal of 100000 orders with all fields: of
-   version 2, and of version 1, which is written anew.
-5. The start behind older journals (`--older`), of 100000 orders with a GTIN
-   each: none, 1, 10, 50, 100.
+1. 10, 100 and 1000 orders, with the journal in memory and on disk: the program's own share of a frame, and its peak
+   memory; and 1000 orders that the journal knows, which send no frame.
+2. The start alone: over a journal of 100000 orders with all fields, of version 2, and of version 1, which is written
+   anew; and behind 0 to 100 older journals (`--older`) of 100000 orders with a GTIN.
+3. `drive --follow`, 1000 orders through a named pipe: each written once the one before it has its kept reply, all
+   written at once, and that of four buses beside each other; beside one `drive` an order.
+4. The peak memory of `drive --follow` by its lines.
 
-Status 0: every order was done. Status 1: one wasn't, or the frames were too
-many or too few. Status 2: a program couldn't be built or run. Status 3: an aim
+Status 0: every order was done. Status 1: one wasn't. Status 2: a program couldn't be built or run. Status 3: an aim
 isn't held.
 """
 
+import contextlib
 import json
 import os
 import pathlib
 import subprocess
 import sys
 import tempfile
+import time
 from typing import NamedTuple
 
-from journal import FULL, GTIN as GTIN_UPDATES, HEADER, MOST_ORDERS, write_journal
-from measuring import (
-    KIBIBYTE,
-    MEBIBYTE,
-    Aims,
-    argument_parser,
-    built,
-    print_machine,
-    working_folder,
-)
+from inputs import FULL, GTIN, HEADER, MOST_ORDERS, write_journal
+from measuring import KIBIBYTE, MEBIBYTE, Bench, Wrong, argument_parser, built, judged
 
-GTIN = "4006381333931"
-UNITS = 5
 FRAMES_OF_ORDER = 112
-RECORDS_OF_ORDER = 3
+ORDERS = 1000
+BUSES = 4
+# The program's own share of a frame, in seconds.
 MOST_SHARE = 20e-6
-# Of a record Began with a GTIN and of what ends its order.
-BYTES_OF_ORDER = 35
 # Of a start behind older journals: how the time may grow with ten times as many, the most seconds behind 50, and the
 # most memory by the length of the files.
 MOST_GROWTH, MOST_START, MOST_OLDER_MEMORY = 12, 4, 2
-MEMORY_FOLDER = pathlib.Path("/dev/shm")
+# Of `--follow`, from 1000 lines to 100000.
+MOST_MORE = 256 * KIBIBYTE
+FEED = 'exec cat "$0" >"$1"'
 
 
 class Driven(NamedTuple):
-    """What one run of a command under the link took."""
+    """What a command under the link took, and what it told."""
 
     frames: int
     seconds: float
     processor_seconds: float
     peak_memory: int
-    status: int
+    told: str
 
 
-class Bench:
-    """The built link and shim, and runs under them."""
-
-    def __init__(self, program, folder, runs):
-        self.program = program
-        self.folder = folder
-        self.memory = MEMORY_FOLDER if os.access(MEMORY_FOLDER, os.W_OK) else folder
-        self.runs = runs
-        self.aims = Aims()
-        self.link = built("benchmarks/null_link.c")
-        self.shim = built("tests/drive_shim.c", "-shared", "-fPIC")
-        # The variables with which nothing is synced.
-        self.unsynced = [f"LD_PRELOAD={self.shim}", "DRIVE_SHIM_ACT=sync any 0 skip 0"]
-
-    def run(self, words, environment=None):
-        """Run a command under the link once."""
-        shim = [] if environment is None else ["/usr/bin/env", *environment]
-        told = subprocess.run(
-            [self.link, *shim, *words],
-            check=True,
-            capture_output=True,
-            text=True,
-            stdin=subprocess.DEVNULL,
-        )
-        frames, nanoseconds, microseconds, memory, status = map(
-            int, told.stdout.split()
-        )
-        return Driven(
-            frames,
-            nanoseconds / 1e9,
-            microseconds / 1e6,
-            memory * KIBIBYTE,
-            status,
-        ), told.stderr
-
-    def pipes(self, frames):
-        """Measure what the pipes alone take."""
-        words = [self.link, "--ask", str(frames)]
-        return least([self.run(words)[0] for _ in range(self.runs)])
-
-    def orders(self, count):
-        """Write a file of so many orders."""
-        path = self.folder / f"orders_{count}.json"
-        orders = [
-            {"order": 1 + index, "unit": index % UNITS, "gtin": GTIN}
-            for index in range(count)
-        ]
-        path.write_text(json.dumps(orders), encoding="ascii")
-        return path
-
-    def drive(self, count, place, is_synced=True, is_sent_again=False):
-        """Measure runs of so many orders with the journal at a place."""
-        orders = self.orders(count)
-        found = []
-        with tempfile.TemporaryDirectory(dir=place) as folder:
-            journal = pathlib.Path(folder) / "bench.journal"
-            words = [self.program, "drive", orders, journal]
-            if is_sent_again:
-                self.run(words, self.unsynced)
-            for _ in range(self.runs):
-                if not is_sent_again:
-                    journal.unlink(missing_ok=True)
-                driven, told = self.run(words, None if is_synced else self.unsynced)
-                frames = 0 if is_sent_again else FRAMES_OF_ORDER * count
-                done = told.count(" kept 0 Done\n")
-                if (driven.status, driven.frames, done) != (0, frames, count):
-                    raise ValueError(f"{driven}, {done} orders of {count} done")
-                found.append(driven)
-        return least(found)
-
-    def start(self, version, place, is_synced=True):
-        """Measure the start over the longest journal of a version."""
-        found = []
-        with tempfile.TemporaryDirectory(dir=place) as folder:
-            journal = pathlib.Path(folder) / "bench.journal"
-            words = [self.program, "drive", self.orders(0), journal]
-            for _ in range(self.runs):
-                write_journal(journal, range(MOST_ORDERS), FULL, b"", version)
-                driven, told = self.run(words, None if is_synced else self.unsynced)
-                with open(journal, "rb") as file:
-                    header = file.read(len(HEADER))
-                if (driven.status, driven.frames, told, header) != (0, 0, "", HEADER):
-                    raise ValueError(f"{driven}, told {told!r}, header {header!r}")
-                found.append(driven)
-        return least(found)
-
-    def start_behind(self, count, place):
-        """Measure the start of a new journal behind as many of the longest ones."""
-        found = []
-        with tempfile.TemporaryDirectory(dir=place) as folder:
-            journal = pathlib.Path(folder) / "bench.journal"
-            words = [self.program, "drive"]
-            for number in range(count):
-                older = pathlib.Path(folder) / f"older_{number}.journal"
-                write_journal(older, range(number * MOST_ORDERS, (number + 1) * MOST_ORDERS), GTIN_UPDATES)
-                words += ["--older", older]
-            for _ in range(self.runs):
-                driven, told = self.run([*words, self.orders(0), journal])
-                if (driven.status, driven.frames, told, journal.read_bytes()) != (0, 0, "", HEADER):
-                    raise ValueError(f"{driven}, told {told!r}")
-                found.append(driven)
-        return least(found)
+def driven_of(printed, told, orders, new):
+    """Read what the link prints, and want so many kept replies, and the frames of new orders."""
+    frames, nanoseconds, microseconds, memory, status = map(int, printed.split())
+    done = told.count(" kept 0 Done\n")
+    if (status, frames, done) != (0, FRAMES_OF_ORDER * new, orders):
+        raise Wrong(f"status {status}, {frames} frames, {done} orders of {orders} done, {new} of them new: {told[:99]}")
+    return Driven(frames, nanoseconds / 1e9, microseconds / 1e6, memory * KIBIBYTE, told)
 
 
 def least(runs):
     """Give the least times and the highest peak memory of several runs."""
     return runs[0]._replace(
-        seconds=min(run.seconds for run in runs),
-        processor_seconds=min(run.processor_seconds for run in runs),
-        peak_memory=max(run.peak_memory for run in runs),
+        seconds=min(it.seconds for it in runs),
+        processor_seconds=min(it.processor_seconds for it in runs),
+        peak_memory=max(it.peak_memory for it in runs),
     )
 
 
-def share_of(driven, pipes, start=0.0):
+def order(number):
+    """Give an order."""
+    return {"order": number, "unit": number % 5, "gtin": "4006381333931"}
+
+
+class DriveBench(Bench):
+    """A bench with the link, and runs under it."""
+
+    def __init__(self, arguments, folder):
+        super().__init__(arguments, folder)
+        self.link, memory = built("benchmarks/null_link.c"), pathlib.Path("/dev/shm")
+        self.places = {"in memory": memory if os.access(memory, os.W_OK) else self.folder, "on disk": self.folder}
+
+    def run(self, words, orders=0, new=None):
+        """Run a command under the link once."""
+        ran = subprocess.run([self.link, *words], check=True, capture_output=True, text=True, stdin=subprocess.DEVNULL)
+        return driven_of(ran.stdout, ran.stderr, orders, orders if new is None else new)
+
+    def pipes(self, count):
+        """Measure what the pipes alone take for so many orders."""
+        words = [self.link, self.link, "--ask", str(FRAMES_OF_ORDER * count)]
+        runs = []
+        for _ in range(self.runs):
+            printed = subprocess.run(words, check=True, capture_output=True, text=True).stdout
+            runs.append(driven_of(printed, " kept 0 Done\n" * count, count, count))
+        return least(runs)
+
+    def orders(self, count):
+        """Write a file of so many orders."""
+        path = self.folder / f"orders_{count}.json"
+        path.write_text(json.dumps([order(number) for number in range(1, count + 1)]), encoding="ascii")
+        return path
+
+    def lines(self, count, numbers):
+        """Write a file of so many lines, of the orders of these numbers in turn."""
+        path = self.folder / f"lines_{count}_{numbers}"
+        with open(path, "w", encoding="ascii") as file:
+            file.writelines(json.dumps(order(1 + at % numbers)) + "\n" for at in range(count))
+        return path
+
+    def drive(self, count, place, is_sent_again=False):
+        """Measure a drive of so many orders with the journal at a place."""
+        runs = []
+        with tempfile.TemporaryDirectory(dir=place) as folder:
+            journal = pathlib.Path(folder, "bench.journal")
+            words = [self.program, "drive", self.orders(count), journal]
+            for _ in range(self.runs):
+                journal.unlink(missing_ok=True)
+                first = self.run(words, count)
+                runs.append(self.run(words, count, 0) if is_sent_again else first)
+        return least(runs)
+
+    def start(self, place, version=None, older=0):
+        """Measure the start of a drive over the longest journal of a version, or behind as many older journals."""
+        runs = []
+        with tempfile.TemporaryDirectory(dir=place) as folder:
+            journal, words = pathlib.Path(folder, "bench.journal"), [self.program, "drive"]
+            for number in range(older):
+                path = pathlib.Path(folder, f"older_{number}.journal")
+                write_journal(path, range(number * MOST_ORDERS, (number + 1) * MOST_ORDERS), GTIN)
+                words += ["--older", path]
+            for _ in range(self.runs):
+                if version:
+                    write_journal(journal, range(MOST_ORDERS), FULL, b"", version)
+                runs.append(self.run([*words, self.orders(0), journal]))
+                if runs[-1].told or not journal.read_bytes().startswith(HEADER):
+                    raise Wrong(f"a start: told {runs[-1].told!r}")
+        return least(runs)
+
+
+class Bus:
+    """A folder with a pipe and a journal, and runs of `drive --follow` over them under the link."""
+
+    def __init__(self, bench, folder):
+        self.bench, self.folder = bench, pathlib.Path(folder)
+        self.pipe, self.journal, self.told = (self.folder / name for name in ("orders", "bench.journal", "told"))
+        os.mkfifo(self.pipe)
+
+    def start(self):
+        """Start a drive that takes its orders from the pipe."""
+        words = [self.bench.link, self.bench.program, "drive", "--follow", self.pipe, self.journal]
+        with open(self.told, "w", encoding="ascii") as told:
+            return subprocess.Popen(words, stdin=subprocess.DEVNULL, stdout=subprocess.PIPE, stderr=told, text=True)
+
+    def end(self, command, orders, new):
+        """Wait for the end of a drive, and give what it took."""
+        return driven_of(command.communicate()[0], self.told.read_text(encoding="ascii"), orders, new)
+
+    def at_once(self, lines, count, new):
+        """Measure a drive over all lines of a file, so many of them new orders."""
+        with subprocess.Popen(["sh", "-c", FEED, lines, self.pipe]):
+            return self.end(self.start(), count, new)
+
+    def one_by_one(self):
+        """Measure new orders that are each written once the one before is done."""
+        command = self.start()
+        with open(self.pipe, "w", encoding="ascii", buffering=1) as pipe, open(self.told, encoding="ascii") as told:
+            for number in range(1, ORDERS + 1):
+                pipe.write(json.dumps(order(number)) + "\n")
+                while not told.readline().startswith(f"reply {number} kept"):
+                    time.sleep(0)
+        return self.end(command, ORDERS, ORDERS)
+
+    def drive_each(self):
+        """Measure one `drive` an order."""
+        files = [self.folder / f"order_{number}.json" for number in range(1, ORDERS + 1)]
+        for number, file in enumerate(files, 1):
+            file.write_text(json.dumps([order(number)]), encoding="ascii")
+        for file in files:
+            self.bench.run([self.bench.program, "drive", file, self.journal], 1)
+
+
+def share_of(driven, pipes, start):
     """Give the program's own share of a frame: the processor's seconds, less those of the pipes and of the start."""
-    return (driven.processor_seconds - pipes.processor_seconds - start) / driven.frames
-
-
-def print_run(name, driven, pipes, count, start=0.0):
-    """Print what a run takes by frame and by order, beside the pipes alone."""
-    frames = driven.frames
-    beyond = driven.seconds - pipes.seconds
-    print(
-        f"{name}: {driven.seconds:.3f} s,"
-        f" a frame {driven.seconds / frames * 1e6:.1f} us"
-        f" (beyond the pipes {beyond / frames * 1e6:.1f} us,"
-        f" processor {driven.processor_seconds / frames * 1e6:.1f} us,"
-        f" own share {share_of(driven, pipes, start) * 1e6:.1f} us),"
-        f" an order {driven.seconds / count * 1e3:.2f} ms,"
-        f" memory {driven.peak_memory / MEBIBYTE:.1f} MiB"
-    )
+    return (driven.processor_seconds - pipes.processor_seconds - start.processor_seconds) / driven.frames
 
 
 def measure_orders(bench):
-    """Measure and print what frames and orders take."""
-    disk, memory = bench.folder, bench.memory
-    pipes = {
-        count: bench.pipes(FRAMES_OF_ORDER * count) for count in (10, 100, 1000)
-    }
-    for count, alone in pipes.items():
-        frames = FRAMES_OF_ORDER * count
-        print(
-            f"pipes alone, {frames} frames: a frame"
-            f" {alone.seconds / frames * 1e6:.1f} us,"
-            f" processor {alone.processor_seconds / frames * 1e6:.1f} us"
-        )
-    start = bench.drive(0, memory, is_synced=False).processor_seconds
-    print(f"the start: {start * 1e3:.1f} ms of the processor")
-    for count, alone in pipes.items():
-        driven = bench.drive(count, memory, is_synced=False)
-        name = f"{count} orders, in memory, not synced"
-        print_run(name, driven, alone, count, start)
-        share = share_of(driven, alone, start)
-        bench.aims.want(share < MOST_SHARE, f"{count} orders: a frame's own share is under 20 us: {share * 1e6:.1f}")
-    unsynced = bench.drive(1000, disk, is_synced=False)
-    print_run("1000 orders, on disk, not synced", unsynced, pipes[1000], 1000, start)
-    in_memory = bench.drive(1000, memory)
-    print_run("1000 orders, in memory, synced", in_memory, pipes[1000], 1000, start)
-    on_disk = bench.drive(1000, disk)
-    print_run("1000 orders, on disk, synced", on_disk, pipes[1000], 1000, start)
-    synced = (on_disk.seconds - unsynced.seconds) / 1000
-    print(
-        f"syncing takes {synced * 1e3:.2f} ms of an order on disk,"
-        f" {synced / RECORDS_OF_ORDER * 1e3:.2f} ms a record"
-    )
-    again = bench.drive(1000, disk, is_sent_again=True)
-    print(
-        f"1000 orders sent again: {again.seconds * 1e3:.1f} ms, no frame,"
-        f" memory {again.peak_memory / MEBIBYTE:.1f} MiB"
-    )
+    """Measure what frames and orders take."""
+    for where, place in bench.places.items():
+        start = bench.drive(0, place)
+        for count in (10, 100, ORDERS):
+            driven, pipes = bench.drive(count, place), bench.pipes(count)
+            share = share_of(driven, pipes, start)
+            print(
+                f"{count:5} orders, {where:9}: {driven.seconds:6.3f} s, {count / driven.seconds:6.0f} orders a second"
+                f" (the pipes alone {count / pipes.seconds:6.0f}), a frame's own share {share * 1e6:.1f} us,"
+                f" {driven.peak_memory / MEBIBYTE:.1f} MiB",
+                flush=True,
+            )
+            most = MOST_SHARE * 1e6
+            bench.aims.want(share < MOST_SHARE, f"{count} orders, {where}: a frame's own share is under {most:.0f} us")
+    again = bench.drive(ORDERS, bench.folder, is_sent_again=True)
+    print(f"{ORDERS:5} orders sent again: {again.seconds * 1e3:.1f} ms, {again.peak_memory / MEBIBYTE:.1f} MiB")
 
 
 def measure_starts(bench):
-    """Measure and print what a start over the longest journals takes."""
-    for version in (2, 1):
-        for where, place, is_synced in (
-            ("in memory, not synced", bench.memory, False),
-            ("on disk, synced", bench.folder, True),
-        ):
-            started = bench.start(version, place, is_synced)
-            print(
-                f"the start over {MOST_ORDERS} orders of version {version},"
-                f" {where}: {started.seconds * 1e3:.1f} ms,"
-                f" memory {started.peak_memory / MEBIBYTE:.1f} MiB"
-            )
-
-
-def measure_starts_behind(bench):
-    """Measure and print what a start behind older journals takes, from none to a hundred of the most orders."""
-    seconds = {}
+    """Measure what starts take."""
+    for where, place in bench.places.items():
+        for version in (2, 1):
+            took = bench.start(place, version)
+            what = f"start over {MOST_ORDERS} orders, version {version}, {where}"
+            print(f"{what}: {took.seconds * 1e3:.1f} ms, {took.peak_memory / MEBIBYTE:.1f} MiB", flush=True)
+    took = {}
     for count in (0, 1, 10, 50, 100):
-        started = bench.start_behind(count, bench.folder)
-        seconds[count] = started.seconds
-        size = count * (len(HEADER) + MOST_ORDERS * BYTES_OF_ORDER)
-        by_size = f" = {started.peak_memory / size:.1f} x files" if count else ""
-        print(
-            f"the start behind {count} journals of {MOST_ORDERS} orders: {started.seconds * 1e3:.1f} ms,"
-            f" memory {started.peak_memory / MEBIBYTE:.1f} MiB{by_size}"
-        )
-    growth, most = seconds[100] / seconds[10], MOST_GROWTH
-    bench.aims.want(growth <= most, f"ten times the journals take at most {most} x the time: {growth:.1f}")
-    bench.aims.want(seconds[50] < MOST_START, f"50 journals take under {MOST_START} s: {seconds[50]:.1f}")
-    taken, most = started.peak_memory / size, MOST_OLDER_MEMORY
-    bench.aims.want(taken <= most, f"memory is at most {most} x files: {taken:.1f}")
+        took[count] = bench.start(bench.folder, older=count)
+        size = count * (len(HEADER) + MOST_ORDERS * 35)
+        by_size = f" = {took[count].peak_memory / size:.1f} x files" if count else ""
+        memory = f"{took[count].peak_memory / MEBIBYTE:.1f} MiB{by_size}"
+        print(f"start behind {count:3} older journals: {took[count].seconds * 1e3:.1f} ms, {memory}", flush=True)
+    growth, memory = took[100].seconds / took[10].seconds, took[100].peak_memory / size
+    bench.aims.want(growth <= MOST_GROWTH, f"ten times the journals take {MOST_GROWTH} x the time: {growth:.1f}")
+    bench.aims.want(took[50].seconds < MOST_START, f"50 journals take under {MOST_START} s: {took[50].seconds:.1f}")
+    bench.aims.want(memory <= MOST_OLDER_MEMORY, f"memory is at most {MOST_OLDER_MEMORY} x files: {memory:.1f}")
 
 
-def status_of(summary, bench_of, *measures):
-    """Take these measures on a bench; give the status, 0 where each order was done and all aims are held."""
-    arguments = argument_parser(summary, 3).parse_args()
-    print_machine()
-    try:
-        with working_folder(arguments.keep) as folder:
-            bench = bench_of(arguments.program.resolve(), pathlib.Path(folder).resolve(), arguments.runs)
-            for measure in measures:
-                measure(bench)
-    except (OSError, subprocess.CalledProcessError) as error:
-        print(f"a program couldn't be built or run: {error}", file=sys.stderr)
-        return 2
-    except ValueError as error:
-        print(f"a run went wrong: {error}")
-        return 1
-    return bench.aims.status()
+def side_by_side(bench, folder, lines):
+    """Drive orders of several buses that run at once."""
+    folders = [pathlib.Path(folder, f"bus_{number}") for number in range(BUSES)]
+    for each in folders:
+        each.mkdir()
+    buses = [Bus(bench, each) for each in folders]
+    with contextlib.ExitStack() as stack:
+        for bus in buses:
+            stack.enter_context(subprocess.Popen(["sh", "-c", FEED, lines, bus.pipe]))
+        for bus, command in [(bus, bus.start()) for bus in buses]:
+            bus.end(command, ORDERS, ORDERS)
+
+
+def measure_follow(bench):
+    """Measure orders a second, line by line."""
+    lines = bench.lines(ORDERS, ORDERS)
+    ways = {
+        "one drive an order": (1, lambda folder: Bus(bench, folder).drive_each()),
+        "one by one": (1, lambda folder: Bus(bench, folder).one_by_one()),
+        "all written at once": (1, lambda folder: Bus(bench, folder).at_once(lines, ORDERS, ORDERS)),
+        f"{BUSES} buses, all written at once": (BUSES, lambda folder: side_by_side(bench, folder, lines)),
+    }
+    for where, place in bench.places.items():
+        for name, (buses, measured) in ways.items():
+            seconds = []
+            for _ in range(bench.runs):
+                with tempfile.TemporaryDirectory(dir=place) as folder:
+                    start = time.perf_counter()
+                    measured(folder)
+                    seconds.append(time.perf_counter() - start)
+            print(f"{name}, {where}: {buses * ORDERS / min(seconds):.0f} orders a second", flush=True)
+
+
+def measure_lines(bench):
+    """Measure the peak memory by the number of lines, of orders that the journal knows."""
+    with tempfile.TemporaryDirectory(dir=bench.folder) as folder:
+        bus, peaks = Bus(bench, folder), {}
+        bus.at_once(bench.lines(ORDERS, ORDERS), ORDERS, ORDERS)
+        for count in (1, ORDERS, 100 * ORDERS):
+            lines = bench.lines(count, min(count, ORDERS))
+            # The kernel's count differs by some 100 KiB.
+            peaks[count] = min(bus.at_once(lines, count, 0).peak_memory for _ in range(bench.runs))
+            print(f"{count:6} lines of known orders: {peaks[count] // KIBIBYTE} KiB", flush=True)
+    more = peaks[100 * ORDERS] - peaks[ORDERS]
+    bench.aims.want(more <= MOST_MORE, f"memory doesn't grow with the lines: {more // KIBIBYTE} KiB")
 
 
 if __name__ == "__main__":
-    sys.exit(status_of(__doc__.splitlines()[0], Bench, measure_orders, measure_starts, measure_starts_behind))
+    measures = (measure_orders, measure_starts, measure_follow, measure_lines)
+    sys.exit(judged(argument_parser(__doc__.splitlines()[0], 3), *measures, bench_of=DriveBench))

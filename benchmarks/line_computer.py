@@ -17,12 +17,11 @@ be built or run. Status 3: an aim isn't held. PostgreSQL and psycopg2 are wanted
 
 import os
 import pathlib
-import subprocess
 import sys
 import tempfile
 import time
 
-from measuring import REPOSITORY, Aims, argument_parser, built, print_machine
+from measuring import REPOSITORY, Wrong, argument_parser, built, judged
 
 sys.dont_write_bytecode = True
 sys.path.insert(0, str(REPOSITORY / "tests"))
@@ -74,7 +73,7 @@ class Line:
         done = self.bench.rows("select count(*) from bench_orders where code = 0")[0][0]
         labels = self.bench.rows("select count(*) from bench_labels")[0][0]
         if (done, labels) != (self.count, self.count):
-            raise ValueError(f"{done} of {self.count} orders are done, with {labels} labels")
+            raise Wrong(f"{done} of {self.count} orders are done, with {labels} labels")
         return seen
 
     def rate(self):
@@ -142,26 +141,18 @@ def measure_many(place, aims):
     aims.want(step < MOST_STEP, f"an order's steps take under {1000 * MOST_STEP:.0f} ms")
 
 
-def main():
-    """Measure all, and give the status."""
-    arguments = argument_parser(__doc__.splitlines()[0], 1).parse_args()
-    print_machine()
-    settings["program"], aims = arguments.program.resolve(), Aims()
+def measure_all(bench):
+    """Take all measures."""
+    settings["program"] = bench.program
+    link = built("benchmarks/null_link.c")
+    bench.folder.chmod(0o755)
     try:
-        link = built("benchmarks/null_link.c")
-        with tempfile.TemporaryDirectory() as place:
-            pathlib.Path(place).chmod(0o755)
-            measure_rates(place, link)
-            measure_kill(place)
-            measure_many(place, aims)
-    except (OSError, Skipped, subprocess.CalledProcessError) as fault:
-        print(f"a program couldn't be built or run: {fault}", file=sys.stderr)
-        return 2
-    except ValueError as fault:
-        print(f"a run went wrong: {fault}")
-        return 1
-    return aims.status()
+        measure_rates(bench.folder, link)
+        measure_kill(bench.folder)
+        measure_many(bench.folder, bench.aims)
+    except Skipped as fault:
+        raise OSError(str(fault)) from fault
 
 
 if __name__ == "__main__":
-    sys.exit(main())
+    sys.exit(judged(argument_parser(__doc__.splitlines()[0], 1), measure_all))

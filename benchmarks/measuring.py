@@ -2,7 +2,6 @@
 
 import argparse
 import atexit
-import contextlib
 import datetime
 import functools
 import os
@@ -28,6 +27,10 @@ READERS = {
 
 # The status of a benchmark in which all ended as it has to, and an aim isn't held.
 AIM_MISSED = 3
+
+
+class Wrong(Exception):
+    """Something ended otherwise than it has to."""
 
 
 class Run(NamedTuple):
@@ -110,53 +113,50 @@ def print_machine():
     """Print the date and the machine."""
     now = datetime.datetime.now(datetime.timezone.utc)
     print(f"date      {now:%Y-%m-%d %H:%M:%S} UTC")
-    print(
-        f"machine   {os.cpu_count()} cores, {processor()},"
-        f" {platform.system()} {platform.release()},"
-        f" load {os.getloadavg()[0]:.1f}"
-    )
+    system = f"{platform.system()} {platform.release()}, load {os.getloadavg()[0]:.1f}"
+    print(f"machine   {os.cpu_count()} cores, {processor()}, {system}")
 
 
-def positive(kind):
-    """Make a reader of a number over zero for the command line."""
-
-    def read(text):
-        number = kind(text)
-        if not 0 < number < float("inf"):
-            raise argparse.ArgumentTypeError("must be over zero")
-        return number
-
-    return read
+def positive(text):
+    """Read a whole number over zero."""
+    number = int(text)
+    if number <= 0:
+        raise argparse.ArgumentTypeError("must be over zero")
+    return number
 
 
-def argument_parser(description, run_count, program=PROGRAM):
+def argument_parser(description, runs):
     """Give a parser of the arguments that each benchmark has."""
     parser = argparse.ArgumentParser(description=description)
-    parser.add_argument(
-        "--program",
-        type=pathlib.Path,
-        default=program,
-        help="path of the built program (default: %(default)s)",
-    )
-    parser.add_argument(
-        "--runs",
-        type=positive(int),
-        default=run_count,
-        help="runs of which the best counts (default: %(default)s)",
-    )
-    parser.add_argument(
-        "--keep",
-        type=pathlib.Path,
-        metavar="FOLDER",
-        help="keep the inputs and the outputs in this folder",
-    )
+    parser.add_argument("--program", type=pathlib.Path, default=PROGRAM, help="the built program")
+    parser.add_argument("--runs", type=positive, default=runs, help="how many runs of each (default: %(default)s)")
     return parser
 
 
-@contextlib.contextmanager
-def working_folder(kept):
-    """Give the folder that is to be kept, or one for this time only."""
-    with tempfile.TemporaryDirectory(prefix="dali_bench_") as temporary:
-        folder = kept or pathlib.Path(temporary)
-        folder.mkdir(parents=True, exist_ok=True)
-        yield folder
+class Bench:
+    """What the measures of a benchmark share: the program, the command line, a folder, aims."""
+
+    def __init__(self, arguments, folder):
+        self.arguments, self.runs = arguments, arguments.runs
+        self.program, self.folder = arguments.program.resolve(), pathlib.Path(folder).resolve()
+        self.aims = Aims()
+
+
+def judged(parser, *measures, bench_of=Bench):
+    """Take these measures on a bench; give the status: 0, or 1 where something ended otherwise than it has to, 2 where
+    a program couldn't be built or run, 3 where an aim isn't held.
+    """
+    arguments = parser.parse_args()
+    print_machine()
+    try:
+        with tempfile.TemporaryDirectory(prefix="dali_bench_") as folder:
+            bench = bench_of(arguments, folder)
+            for measure in measures:
+                measure(bench)
+    except (OSError, subprocess.CalledProcessError) as error:
+        print(f"a program couldn't be built or run: {error}", file=sys.stderr)
+        return 2
+    except Wrong as wrong:
+        print(f"WRONG: {wrong}")
+        return 1
+    return bench.aims.status()

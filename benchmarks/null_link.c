@@ -1,4 +1,4 @@
-/* A link that answers at once, for benchmarks/drive.py and benchmarks/follow.py.
+/* A link that answers at once, for benchmarks/drive.py and benchmarks/line_computer.py.
 
        null_link COMMAND WORDS..    starts the command and answers its frames, as blank units at all addresses would;
                                     then prints what it took: frames, nanoseconds, processor microseconds of the

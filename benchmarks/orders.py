@@ -10,50 +10,23 @@ PLACE_OF_NULL = 12
 PLACE_OF_ESCAPES = 24
 PLACE_OF_REFUSED = 49
 
-# Changes to a full order that make it refused, by the fault that is due.
+# Changes to a full order that make it refused, from fault 1 Unit to 10 Key.
 REFUSED_CHANGES = (
-    {"unit": 64},  # Unit
-    {"unit": 2**64 - 1, "year": "24"},  # Unit, before Kind
-    {"gtin": 4006381333931},  # Kind
-    {"identification": 17},  # Kind
-    {"year": "24"},  # Kind
-    {"week": True},  # Kind
-    {"input_power": 2.5},  # Kind
-    {"cri": -1},  # Kind
-    {"cct": [4000]},  # Kind
-    {"distribution": {}},  # Kind
-    {"light_output": 2**64},  # Kind
-    {"colour": 24},  # Kind
-    {"light_output": 2**64 - 1},  # Range
-    {"year": 100},  # Range
-    {"week": 0, "colour": ""},  # Range, before Text
-    {"cct": 65534},  # Range
-    {"distribution": 255},  # Range
-    {"gtin": "4006381333932"},  # Gtin
-    {"gtin": "400638133393"},  # Gtin
-    {"gtin": "", "week": False},  # Gtin, before Kind
-    {"colour": ""},  # Text
-    {"colour": "a colour of 25 characters"},  # Text
-    {"luminaire": "x" * 61},  # Text
-    {"luminaire": "caf\u00e9"},  # Text
-    {"luminaire": "two\nlines"},  # Text
-    {"min_voltage": 240, "max_voltage": 239},  # Voltage
-    {"order": "7"},  # Shape
-    {"unit": None},  # Shape
-    {"order": 2**64, "weight": 1},  # Shape, before Key
-    {"weight": 1},  # Key
-    {"Year": 24, "unit": 64},  # Key, before Unit
+    {"unit": 64}, {"unit": 2**64 - 1, "year": "24"},
+    {"gtin": 4006381333931}, {"identification": 17}, {"year": "24"}, {"week": True}, {"input_power": 2.5}, {"cri": -1},
+    {"cct": [4000]}, {"distribution": {}}, {"light_output": 2**64}, {"colour": 24},
+    {"light_output": 2**64 - 1}, {"year": 100}, {"week": 0, "colour": ""}, {"cct": 65534}, {"distribution": 255},
+    {"gtin": "4006381333932"}, {"gtin": "400638133393"}, {"gtin": "", "week": False},
+    {"colour": ""}, {"colour": "a colour of 25 characters"}, {"luminaire": "x" * 61}, {"luminaire": "caf\u00e9"},
+    {"luminaire": "two\nlines"},
+    {"min_voltage": 240, "max_voltage": 239},
+    {"order": "7"}, {"unit": None}, {"order": 2**64, "weight": 1},
+    {"weight": 1}, {"Year": 24, "unit": 64},
 )
-
 # Whole items that are refused.
 REFUSED_ITEMS = (
-    {"order": 1, "unit": 5},  # Empty
-    {"order": 1, "gtin": "4006381333931"},  # Shape
-    {"unit": 5, "gtin": "4006381333931"},  # Shape
-    {},  # Shape
-    [],  # Shape
-    "order",  # Shape
-    None,  # Shape
+    {"order": 1, "unit": 5}, {"order": 1, "gtin": "4006381333931"}, {"unit": 5, "gtin": "4006381333931"},
+    {}, [], "order", None,
 )
 
 
@@ -61,10 +34,7 @@ def gtin_of(index):
     """Give a correct GTIN of 8, 12, 13 or 14 digits."""
     length = (8, 12, 13, 14)[index // 2 % 4]
     body = str(index * 7919 + 4006381).zfill(length - 1)[-(length - 1) :]
-    weighted = sum(
-        int(digit) * weight
-        for digit, weight in zip(reversed(body), itertools.cycle((3, 1)))
-    )
+    weighted = sum(int(digit) * weight for digit, weight in zip(reversed(body), itertools.cycle((3, 1))))
     return body + str(-weighted % 10)
 
 
@@ -133,11 +103,7 @@ def item_of(index):
 
 
 def write_orders(path, size):
-    """Write orders up to this many bytes and give the count of items.
-
-    The file is written in ASCII, piece by piece: a child that is started
-    would inherit the peak memory of this process.
-    """
+    """Write orders up to this many bytes and give the count of items."""
     end = "\n]\n"
     room = size - len(end)
     with open(path, "w", encoding="ascii", newline="") as file:

@@ -23,7 +23,6 @@ use dali_link_commands::lines::Lines;
 use dali_link_commands::required::Required;
 use dali_notes::FirstLines;
 use dali_report::{Cleared, Counted, Progress, progress_of};
-use dali_store::FileStore;
 use dali_text::{Escaped, Output};
 use std::alloc::{AllocError, Global};
 use std::io::{BufWriter, ErrorKind, IsTerminal, LineWriter, Read, Write};
@@ -397,7 +396,7 @@ fn carried_out(rt: &HostRuntime, command: LinkCommand<'_>, progress: Option<&Pro
             let mut desk = StoreDesk {
                 link_in: StdSource::new(rt.stdin()),
                 link_out: StdSink::new(Counted::new(rt.stdout(), progress)),
-                journal: FileStore::for_text(rt, command.file()),
+                journal: command.store(rt),
                 out: Lines {
                     output: Output::new(lines),
                 },

@@ -147,7 +147,7 @@ fn driven_files<'a, R: Files<File = File> + AllocGlobal>(
     let mut desk = StoreDesk {
         link_in: StdSource::new(answers.as_slice()),
         link_out: StdSink::new(&mut sent),
-        journal: FileStore::for_text(rt, drive.journal),
+        journal: FileStore::journal(rt, drive.journal),
         out: Lines {
             output: Output::new(&mut told),
         },

@@ -1,9 +1,13 @@
 -- Two drives over a store, one after the other, are sittings, and what is near them is not.
-use Rattle.std.proofs.Common.{◌≡◌, ◌≤◌, refl, sym, ap, inl, inr, ℕ, List, [], ◌∷◌, Option, Some, None, take, arith}
+use Rattle.std.proofs.Common.{◌≡◌, ◌≤◌, ◌∙◌, ◌++◌, refl, sym, ap, inl, inr, ℕ, List, [], ◌∷◌, Option, Some, None}
+use Rattle.std.proofs.Common.{take, drop, take-append-drop, arith}
+use Rattle.std.proofs.lemmas.List.{length-take-le}
 use Rattle.std.specs.Prelude.{length}
 use Rattle.dali_bus.specs.World.{Gear}
 use Rattle.dali_bus.specs.Carry.{Carry, MayHear}
 use Rattle.dali_frame.specs.declared.forward.Frame.TheVariants.{Dtr1}
+use Rattle.dali_journal.proofs.SpellingLemmas.{none_begins_another}
+use Rattle.dali_journal.specs.declared.record.Record.{Record}
 use Rattle.dali_journal.specs.declared.record.Record.TheVariants.{Began}
 use Rattle.dali_journal.specs.declared.version.Version.TheVariants.{Two}
 use Rattle.dali_journal.specs.Spelling.{spelling}
@@ -29,7 +33,7 @@ use Rattle.dali_trace.specs.declared.fault.DriveFault.TheVariants.{Link, NoMemor
 use Rattle.dali_drive.specs.Driven.{IsDriven, IsBrokenDrive, LeavesBetween}
 use Rattle.dali_drive.specs.Stored.{IsBegun, IsPartBehind}
 use Rattle.dali_drive.specs.Sittings.{MayHaveHappened, KeptWhereWhole, BrokeOff}
-use Rattle.dali_drive.specs.Kills.{WasKilled}
+use Rattle.dali_drive.specs.Kills.{FrameInHand, RecordInHand, WasKilled}
 use Rattle.dali_drive.specs.Repeats.{IsSameFile, HasSat, HaveSat, ActOnce}
 use Rattle.dali_drive.specs.WorkedSittings.{bare_file, begun_file, torn_file, before_on, after_taken, after_begun}
 use Rattle.dali_drive.specs.WorkedSittings.{amid_frame, first_sitting, second_sitting, second_without_the_frame}
@@ -233,6 +237,27 @@ not_counted_unless_whole counts = omega (arith, ap (length {A = ℕ}) ((counts (
 pub counted_where_whole : KeptWhereWhole empty taken taken begun_file → ⊥
 counted_where_whole counts =
     omega (arith, ap (length {A = Happening}) ((counts (Began first_order 7) begun_next).1 refl))
+
+-- no frame is in hand before its record is kept, and no record that is whole
+pub no_frame_before_its_record : (past : List Happening) (left : List ℕ) → FrameInHand empty taken past left → ⊥
+no_frame_before_its_record past left hand = hand.next.planned
+
+pub no_whole_record_in_hand : RecordInHand empty taken taken begun_file → ⊥
+no_whole_record_in_hand hand =
+    let bytes = spelling Two hand.entry in
+    let rest = drop hand.count bytes in
+    let front : spelling Two (Began first_order 7) ≡ take hand.count bytes = ap (drop 4) hand.bytes in
+    let whole : bytes ≡ spelling Two (Began first_order 7) ++ rest =
+    sym (take-append-drop hand.count bytes) ∙ ap (λ (l : List ℕ). l ++ rest) (sym front) in
+    let same = none_begins_another Two (Began first_order 7) hand.entry rest first_is_record hand.in_range whole in
+    let less = hand.less in
+    omega (
+      arith,
+      ap (length {A = ℕ}) front,
+      length-take-le hand.count bytes (omega (arith, less)),
+      less,
+      ap (λ (entry : Record). length (spelling Two entry)) same,
+    )
 
 -- a file of other records is no same one
 pub no_same_file : IsSameFile 10 begun_file torn_file → ⊥

@@ -108,15 +108,14 @@ fn show_alike<S: Store, T: Store>(
 // Makes calls on both, over these bytes, and tests that they agree, and the file at the end.
 fn judge(rt: &HostRuntime, name: &str, start: &[u8], calls: &[Call]) -> Result<(), Fail> {
     fs::write(rt, name, start)?;
-    let other = fs::metadata(rt, "/")?;
     let alloc = rt.alloc();
     let mut memory = MemoryStore::new(alloc, start.to_vec(alloc)?);
-    let mut file = FileStore::new(rt, name, &other);
+    let mut file = FileStore::journal(rt, name);
     let is_same = matches!(show_alike(alloc, &mut file, &mut memory, LIMIT), Ok(true));
     expect_that(is_same, "the same bytes at the start")?;
     for &call in calls {
         if let Call::Start = call {
-            file = FileStore::new(rt, name, &other);
+            file = FileStore::journal(rt, name);
         }
         let is_same = matches!(agree(alloc, &mut file, &mut memory, call), Ok(true));
         expect_that(is_same, "the same answers and bytes")?;
@@ -151,10 +150,9 @@ fn a_file_is_replaced_as_memory(rt: HostRuntime) -> Result<(), Fail> {
 #[test]
 fn too_many_bytes(rt: HostRuntime) -> Result<(), Fail> {
     fs::write(&rt, "store_files.big", b"abcd")?;
-    let other = fs::metadata(&rt, "/")?;
     let alloc = rt.alloc();
     let mut memory = MemoryStore::new(alloc, b"abcd".to_vec(alloc)?);
-    let mut file = FileStore::new(&rt, "store_files.big", &other);
+    let mut file = FileStore::journal(&rt, "store_files.big");
     let is_same = matches!(show_alike(alloc, &mut file, &mut memory, 3), Ok(true));
     expect_that(is_same, "too big")?;
     let is_same = matches!(show_alike(alloc, &mut file, &mut memory, 4), Ok(true));
@@ -165,8 +163,7 @@ fn too_many_bytes(rt: HostRuntime) -> Result<(), Fail> {
 // Nothing is made where no call reads first.
 #[test]
 fn a_file_that_is_not_read_first(rt: HostRuntime) -> Result<(), Fail> {
-    let other = fs::metadata(&rt, "/")?;
-    let mut file = FileStore::new(&rt, "store_files.unread", &other);
+    let mut file = FileStore::journal(&rt, "store_files.unread");
     let is_refused = file.append(b"a").is_none() && !file.replace(b"a") && !file.sync();
     expect_that(is_refused && file.has_failed(), "a failure")?;
     expect_that(
@@ -178,7 +175,7 @@ fn a_file_that_is_not_read_first(rt: HostRuntime) -> Result<(), Fail> {
 
 // Puts a text in the place of what a file has, and tells whether that was done, and what the file has then.
 fn put_text(rt: &HostRuntime, name: &str, text: &[u8]) -> Result<(bool, Vec<u8>), Fail> {
-    let is_put = FileStore::for_text(rt, name).replace(text);
+    let is_put = FileStore::text(rt, name).replace(text);
     Ok((is_put, fs::read(rt, name)?))
 }
 
@@ -211,7 +208,7 @@ fn a_text_takes_the_place_of_a_file(rt: HostRuntime) -> Result<(), Fail> {
 fn judge_in_the_way(rt: &HostRuntime, in_the_way: &[u8], is_left: bool) -> Result<(), Fail> {
     fs::write(rt, "store_files.kept", b"11\n")?;
     fs::write(rt, "store_files.kept.new", in_the_way)?;
-    let mut file = FileStore::for_text(rt, "store_files.kept");
+    let mut file = FileStore::text(rt, "store_files.kept");
     expect_that(
         file.replace(b"33\n") == is_left,
         "done where a reading left it",
@@ -245,20 +242,20 @@ fn what_stands_in_the_way_of_a_text(rt: HostRuntime) -> Result<(), Fail> {
 
 #[test]
 fn a_text_is_only_replaced(rt: HostRuntime) -> Result<(), Fail> {
-    let mut file = FileStore::for_text(&rt, "store_files.only");
+    let mut file = FileStore::text(&rt, "store_files.only");
     let is_read = file.read(rt.alloc(), LIMIT).is_ok();
     let is_refused = !is_read && file.append(b"0").is_none() && !file.cut(0) && !file.sync();
     expect_that(
         is_refused && !fs::exists(&rt, "store_files.only")?,
         "no other call",
     )?;
-    let mut terminal = FileStore::for_text(&rt, "/dev/null");
+    let mut terminal = FileStore::text(&rt, "/dev/null");
     expect_that(
         terminal.replace(b"00\n"),
         "what is no regular file is written to",
     )?;
     expect_that(
-        !FileStore::for_text(&rt, "/dev").replace(b"00\n"),
+        !FileStore::text(&rt, "/dev").replace(b"00\n"),
         "a folder isn't",
     )
 }

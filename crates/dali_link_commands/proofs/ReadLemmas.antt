@@ -1,8 +1,8 @@
 -- How a reading ended.
-use Rattle.std.proofs.Common.{◌≡◌, ◌⊎◌, ◌||◌, inl, inr, not, ℕ, Bool, true, false, List, Option}
+use Rattle.std.proofs.Common.{◌≡◌, ◌⊎◌, ◌||◌, ⊤, inl, inr, not, ℕ, Bool, true, false, List, Option}
 use Rattle.dali_store.proofs.Moments.{started, goes_on}
 use Rattle.dali_store.specs.Stores.{Elapses, LeavesOnly, MayAlso}
-use Rattle.dali_store.specs.declared.files.FileStore.{FileStore}
+use Rattle.dali_store.specs.declared.file_store.FileStore.{FileStore}
 use Rattle.dali_store.specs.Files as file
 use Rattle.dali_drive.specs.declared.std_streams.StdSink.{StdSink}
 use Rattle.dali_drive.specs.declared.std_streams.StdSource.{StdSource}
@@ -11,12 +11,11 @@ use Rattle.dali_drive.specs.Desks.{Look}
 use Rattle.dali_faults.specs.declared.fault.Status.{Status}
 use Rattle.dali_link_commands.specs.declared.lines.Lines.{Lines}
 use Rattle.dali_link_commands.specs.Benches.{std_bench}
-use Rattle.dali_link_commands.specs.LinkCommands.{anything}
 use Rattle.dali_link_commands.specs.ReadAnswers.{IsReadAnswer}
 
 -- of a file nothing is known that a stop may leave
 pub nothing_known : (unit : ℕ) (leaves_only : (List ℕ → Type 0) → Type 0) (first : Look) (status : Status) (last : Look)
-    → IsReadAnswer unit leaves_only first status last → IsReadAnswer unit anything first status last
+    → IsReadAnswer unit leaves_only first status last → IsReadAnswer unit (λ leaves. ⊤) first status last
 nothing_known unit leaves_only first status last (inl e) = inl (search)
 nothing_known unit leaves_only first status last (inr (inl e)) = inr (inl (search))
 nothing_known unit leaves_only first status last (inr (inr (inl e))) = inr (inr (inl (search)))
@@ -41,11 +40,11 @@ module _ {S : Type 0} (moment : S → ℕ) (left_since : S → ℕ → List ℕ 
 pub unfailed_on : (old new done : Bool) → old ≡ false → done ≡ true → new ≡ (old || not done) → new ≡ false
 unfailed_on old new done before well is = rw (before, well) at is
 
--- a file becomes the store of a journal
-pub kept_journal : {I L R W : Type 0} (link_held : L → Option (List ℕ)) (left : I → Option (List ℕ))
+-- a store learns in which file the orders are
+pub kept_orders : {I L R W : Type 0} (link_held : L → Option (List ℕ)) (left : I → Option (List ℕ))
     (contents : W → Option (List ℕ)) (desk : StoreDesk (StdSource I) (StdSink L) (FileStore R) (Lines W))
     (journal : FileStore R) (P : Look → Type 0) → file.has_failed journal ≡ file.has_failed desk.journal
     → P (std_bench link_held left contents (record desk { journal = journal }))
     → P (std_bench link_held left contents desk)
-kept_journal link_held left contents desk journal P is so =
+kept_orders link_held left contents desk journal P is so =
     rw is at so

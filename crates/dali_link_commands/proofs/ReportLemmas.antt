@@ -6,7 +6,7 @@ use Rattle.dali_faults.specs.declared.fault.Status.{Status}
 use Rattle.dali_link_commands.specs.declared.report_output.ReportOutput.{ReportOutput}
 use Rattle.dali_drive.specs.Desks.{Look}
 use Rattle.dali_link_commands.specs.Benches.{with_lines}
-use Rattle.dali_link_commands.specs.LinkCommands.{EndsReported, IsFresh, IsReported, is_lost}
+use Rattle.dali_link_commands.specs.LinkCommands.{EndsReported, IsReported, is_lost}
 
 -- a report that was wanted was opened where it has an output
 lost_by_output : {N : Type 0} (wanted opened : Bool) (before after : Report N)
@@ -23,5 +23,5 @@ pub reported : (wanted opened : Bool)
     → EndsReported (is_lost wanted opened after) ended status lines last.streams.out
     → IsReported wanted answers first status last
 reported wanted opened answers first last before after ended status lines failed good output answered told =
-    let fresh : IsFresh wanted before = record { unfailed = good; only_wanted = λ none. cc } in
+    let only_wanted : wanted ≡ false → has_output before ≡ false = λ none. cc in
     let ends = rw (lost_by_output wanted opened before after output) at told in search

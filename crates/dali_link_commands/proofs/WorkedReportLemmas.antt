@@ -6,15 +6,7 @@ use Rattle.dali_report.specs.declared.report.Report.{Report}
 use Rattle.dali_report.specs.Told.{has_failed, has_output}
 use Rattle.dali_faults.specs.declared.fault.Status.{Status}
 use Rattle.dali_faults.specs.declared.fault.Status.TheVariants.{Good, Failed}
-use Rattle.dali_link_commands.specs.LinkCommands.{EndsReported, IsFresh, IsReported}
-
--- a report as it is opened hasn't failed, and goes nowhere where none is wanted
-pub fresh_and_failed : {N : Type 0} (wanted : Bool) (report : Report N) → has_failed report ≡ true
-    → IsFresh wanted report → ⊥
-fresh_and_failed wanted report failed fresh = cc
-
-pub fresh_and_unwanted : {N : Type 0} (report : Report N) → has_output report ≡ true → IsFresh false report → ⊥
-fresh_and_unwanted report goes fresh = cc (fresh.only_wanted refl)
+use Rattle.dali_link_commands.specs.LinkCommands.{EndsReported, IsReported}
 
 -- no end is good where a report is lost
 no_good_end : (lost : Bool) (ended : Status) (before after : Option (List ℕ)) → lost ≡ true
@@ -22,6 +14,11 @@ no_good_end : (lost : Bool) (ended : Status) (before after : Option (List ℕ)) 
 no_good_end lost ended before after is ends = let told = rw is at ends in grind arith
 
 module _ (answers : Report ReportOutput → Report ReportOutput → Look → Status → Look → Type 0) (first last : Look) where
+  -- it has failed before anything is done
+  pub failed_at_first : (wanted : Bool) (status : Status) (r : IsReported wanted answers first status last)
+      → has_failed r.before ≡ true → ⊥
+  failed_at_first wanted status r failed = let never = r.unfailed in cc
+
   -- one was wanted and isn't opened
   pub unopened_and_good : (r : IsReported true answers first Good last) → has_output r.before ≡ false → ⊥
   unopened_and_good r none = no_good_end _ r.ended r.lines last.streams.out (grind arith) r.reported
@@ -40,7 +37,7 @@ module _ (answers : Report ReportOutput → Report ReportOutput → Look → Sta
 
   pub unwanted_and_written : (status : Status) (r : IsReported false answers first status last)
       → has_output r.before ≡ true → ⊥
-  unwanted_and_written status r goes = fresh_and_unwanted r.before goes r.fresh
+  unwanted_and_written status r goes = let never = r.only_wanted refl in cc
 
   -- nothing else than the command's own answer
   pub answered_otherwise : (r : IsReported true answers first Good last)

@@ -9,7 +9,7 @@ use Rattle.dali_drive.specs.StoreDesks.{store_look}
 use Rattle.dali_faults.specs.declared.fault.Status.{Status}
 use Rattle.dali_faults.specs.declared.fault.Status.TheVariants.{Unwritten}
 use Rattle.dali_link_commands.specs.declared.lines.Lines.{Lines}
-use Rattle.dali_store.specs.declared.files.FileStore.{FileStore}
+use Rattle.dali_store.specs.declared.file_store.FileStore.{FileStore}
 use Rattle.dali_store.specs.Files as file
 use Rattle.dali_text.specs.Output.{has_failed, held}
 

@@ -2,9 +2,10 @@
 use Rattle.std.specs.Prelude.{◌≡◌, ◌≤◌, ◌⊎◌, ◌&&◌, ◌||◌, not, ℕ, Bool, true, false, is_some, length, List, [], Option, None, ⊤}
 use Rattle.std.specs.Io.KnownBytes.{Appends}
 use Rattle.std.specs.List.{AllByRecursion}
-use Rattle.std.specs.declared.fs.File.{File}
 use Rattle.dali_bank.specs.Order.{Contents}
 use Rattle.dali_drive.specs.Desks.{Look}
+use Rattle.dali_store.specs.Files.{IsIn}
+use Rattle.dali_store.specs.declared.file_store.FileStore.{FileStore}
 use Rattle.dali_report.specs.declared.report.Report.{Report}
 use Rattle.dali_report.specs.Told.{has_failed, has_output}
 use Rattle.dali_report.specs.declared.progress.Watched.{Watched}
@@ -27,11 +28,11 @@ IsShort (Read unit bank) = unit ≤ 63
 IsShort (Scan addresses sought) = AllByRecursion (λ address. address ≤ 63) addresses.now
 IsShort other = ⊤
 
--- the name of the file that it writes, and none where it writes none
-abbrev pub file_of : LinkCommand → List ℕ
-file_of (Drive task) = task.journal.now
-file_of (Read unit bank) = bank.now
-file_of other = []
+-- the store is in the file that it writes: its journal, or the text of a bank; one without a name where it writes none
+abbrev pub HasStore : {R : Type 0} → LinkCommand → FileStore R → Type 0
+HasStore (Drive task) store = IsIn true task.journal.now store
+HasStore (Read unit bank) store = IsIn false bank.now store
+HasStore other store = IsIn false [] store
 
 -- of what a person watches how far it is
 abbrev pub watched_of : LinkCommand → Watched
@@ -54,19 +55,12 @@ abbrev pub EndsReported : Bool → Status → Status → Option (List ℕ) → O
 EndsReported true ended status before after = TellsUnreported status before after
 EndsReported false ended status before after = (status ≡ ended) × (after ≡ before)
 
--- a report as it is opened: it hasn't failed, and has no output where none is wanted
-pub record IsFresh {N : Type 0} (wanted : Bool) (report : Report N) : Type 0 where
-  pub unfailed : has_failed report ≡ false
-  pub only_wanted : wanted ≡ false → has_output report ≡ false
-
 -- no bytes of a file are known
-abbrev pub file_contents : File → Option (List ℕ)
+abbrev pub file_contents : {F : Type 0} → F → Option (List ℕ)
 file_contents file = None
 
-abbrev pub report_contents : ReportOutput → Option (List ℕ)
-report_contents output = None
-
--- a command with a report, which is opened before all else where it is wanted, and has an output just where it was
+-- a command with a report, which is opened before all else where it is wanted: it hasn't failed then, and has an output
+-- just where it was opened
 pub record IsReported (wanted : Bool)
     (answers : Report ReportOutput → Report ReportOutput → Look → Status → Look → Type 0) (first : Look)
     (status : Status) (last : Look) : Type 0 where
@@ -75,7 +69,8 @@ pub record IsReported (wanted : Bool)
   pub ended : Status
   pub lines : Option (List ℕ)
   pub failed : Bool
-  pub fresh : IsFresh wanted before
+  pub unfailed : has_failed before ≡ false
+  pub only_wanted : wanted ≡ false → has_output before ≡ false
   pub answered : answers before after first ended (with_lines last lines failed)
   pub reported : EndsReported (is_lost wanted (has_output before) after) ended status lines last.streams.out
 
@@ -89,17 +84,14 @@ Drives false task contents older before after first status last =
     first status last
 
 -- of what a stop may leave of the file of a bank nothing is known
-abbrev pub anything : (List ℕ → Type 0) → Type 0
-anything leaves = ⊤
-
 abbrev pub IsLinkAnswer : LinkCommand → Look → Status → Look → Type 0
 IsLinkAnswer (Drive task) first status last =
     IsReported (is_some task.report) (λ before after begun ended behind. IsBehindNamed task.older.now
-    (λ older. Drives task.follow task report_contents older before after begun ended behind)
+    (λ older. Drives task.follow task file_contents older before after begun ended behind)
     (EndsUnread before after begun ended behind)) first status last
-IsLinkAnswer (Read unit bank) first status last = IsReadAnswer unit anything first status last
+IsLinkAnswer (Read unit bank) first status last = IsReadAnswer unit (λ leaves. ⊤) first status last
 IsLinkAnswer (Verify orders report) first status last =
-    IsReported (is_some report) (λ before after. IsFileAnswer (IsVerifyAnswer report_contents before after)
+    IsReported (is_some report) (λ before after. IsFileAnswer (IsVerifyAnswer file_contents before after)
     (after ≡ before)) first status last
 IsLinkAnswer (Scan addresses sought) first status last =
     IsScanAnswer sought (asked_addresses addresses.now) first status last

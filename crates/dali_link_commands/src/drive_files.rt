@@ -56,7 +56,7 @@ pub fn drive_files<
     };
     match opened(rt, task.orders) {
         Ok((file, found)) => {
-            desk.journal.keep_journal(&found);
+            desk.journal.set_orders(&found);
             drive_input(rt.alloc(), older, task, &mut Input::new(file), desk, report)
         }
         Err(error) => tell_unopened(rt.alloc(), &mut desk.out.output, task.orders, error),

@@ -54,7 +54,7 @@ pub fn follow_file<
     match opened(rt, task.orders) {
         Ok((file, found)) => {
             let mut orders = OrderLines::new(rt.alloc(), StdSource::new(file), task.moment);
-            desk.journal.keep_journal(&found);
+            desk.journal.set_orders(&found);
             follow_lines(rt.alloc(), older, task, &mut orders, desk, report)
         }
         Err(error) => tell_unopened(rt.alloc(), &mut desk.out.output, task.orders, error),

@@ -2,7 +2,7 @@ ghost use Rattle.std.specs.Prelude.{◌≡◌, length};
 ghost use Rattle.dali_drive.specs.Desks.{IsUnfailed};
 ghost use Rattle.dali_link_commands.specs.Benches.{TellsUnwritten, std_bench};
 ghost use Rattle.dali_link_commands.specs.BehindAnswers.{EndsUnread, IsBehindNamed};
-ghost use Rattle.dali_link_commands.specs.LinkCommands.{Drives, IsLinkAnswer, IsShort, file_of, watched_of};
+ghost use Rattle.dali_link_commands.specs.LinkCommands.{Drives, HasStore, IsLinkAnswer, IsShort, watched_of};
 ghost use Rattle.dali_link_commands.specs.ReadAnswers.{asked_addresses};
 
 use crate::drive::DriveTask;
@@ -43,14 +43,15 @@ pub enum LinkCommand<'a> {
 }
 
 impl<'a> LinkCommand<'a> {
-    /// The name of the file that it writes: that of the journal or of a bank, or none.
-    pub fn file(&self) -> &'a str
-        ensures { result.now ≡ file_of self.now }
+    /// The store in the file that it writes: that of the journal or of a bank's text. Where it writes none, that of a
+    /// text without a name.
+    pub fn store<R: Files<File = File> + AllocGlobal>(&self, rt: &'a R) -> FileStore<'a, R>
+        ensures { HasStore self.now result }
     {
         match *self {
-            LinkCommand::Drive(task) => task.journal,
-            LinkCommand::Read { bank, .. } => bank,
-            LinkCommand::Verify { .. } | LinkCommand::Scan { .. } => "",
+            LinkCommand::Drive(task) => FileStore::journal(rt, task.journal),
+            LinkCommand::Read { bank, .. } => FileStore::text(rt, bank),
+            LinkCommand::Verify { .. } | LinkCommand::Scan { .. } => FileStore::text(rt, ""),
         }
     }
 
@@ -66,9 +67,8 @@ impl<'a> LinkCommand<'a> {
         }
     }
 
-    /// Carries the command out at a desk whose streams haven't failed, and whose store is in the file that it names
-    /// (`FileStore::for_text`). Each short address that it names has to be at most 63. Whoever watches is told of its
-    /// orders, and changes nothing.
+    /// Carries the command out at a desk whose streams haven't failed, and whose store is its own (`store`). Each short
+    /// address that it names has to be at most 63. Whoever watches is told of its orders, and changes nothing.
     pub fn carry_out<R: Files<File = File> + AllocGlobal, I: Read, L: Write, O: Write>(
         &self,
         rt: &R,

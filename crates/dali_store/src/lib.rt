@@ -1,7 +1,9 @@
 //! The place where the bytes of a journal are kept, and what a stop may leave of them at any moment.
 #![tactic(auto)]
 
+mod file_store;
 mod files;
+mod journal_file;
 mod memory;
 mod new_file;
 mod opening;
@@ -9,7 +11,7 @@ mod place;
 mod store;
 mod text_file;
 
-pub use files::FileStore;
+pub use file_store::FileStore;
 pub use memory::MemoryStore;
 pub use opening::{OpenFault, open};
 pub use store::{Store, StoreFault, keep};

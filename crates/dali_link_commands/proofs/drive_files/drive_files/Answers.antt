@@ -5,7 +5,7 @@ use Rattle.dali_link_commands.specs.BehindAnswers.{IsAnswerBehind}
 use Rattle.dali_link_commands.specs.OrdersAnswers.{IsFileAnswer}
 use Rattle.dali_link_commands.proofs.BehindLemmas.{behind_named, behind_refused}
 use Rattle.dali_link_commands.proofs.DriveLemmas.{file_answered}
-use Rattle.dali_link_commands.proofs.ReadLemmas.{kept_journal}
+use Rattle.dali_link_commands.proofs.ReadLemmas.{kept_orders}
 use Rattle.dali_link_commands.proofs.drive_files.drive_files.Goals as goal
 
 pub returns-in-Ok-opened : goal.returns-in-Ok-opened
@@ -16,11 +16,11 @@ returns-in-Ok-opened g c = record {
       c.args.report.now c.drive_input.new.report in
       let unreported = c.drive_input.new.report ≡ c.args.report.now in (
         behind_named _ c.in-Ok.older _ _ c.in-Ok.ensures.none c.in-Ok.ensures.some c.in-Ok.ensures.rests
-            (kept_journal g.L.Write.contents g.I.Read.remaining g.O.Write.contents c.args.desk.now
-            c.keep_journal.new.self
+            (kept_orders g.L.Write.contents g.I.Read.remaining g.O.Write.contents c.args.desk.now
+            c.set_orders.new.self
             (λ (first : Look). IsFileAnswer answers unreported first c.drive_input.result
             (std_bench g.L.Write.contents g.I.Read.remaining g.O.Write.contents c.drive_input.new.desk))
-            c.keep_journal.ensures (file_answered answers unreported _ _ _ _ _ c.drive_input.ensures.driven.0)),
+            c.set_orders.ensures (file_answered answers unreported _ _ _ _ _ c.drive_input.ensures.driven.0)),
         search rules,
       );
 }

@@ -6,7 +6,7 @@ use Rattle.dali_link_commands.specs.BehindAnswers.{IsLinesBehind}
 use Rattle.dali_link_commands.specs.LinkCommands.{file_contents}
 use Rattle.dali_link_commands.proofs.BehindLemmas.{behind_named, behind_refused}
 use Rattle.dali_link_commands.proofs.FollowLemmas.{new_are_unread}
-use Rattle.dali_link_commands.proofs.ReadLemmas.{kept_journal}
+use Rattle.dali_link_commands.proofs.ReadLemmas.{kept_orders}
 use Rattle.dali_link_commands.proofs.follow_files.follow_file.Goals as goal
 
 pub returns-in-Ok-opened : goal.returns-in-Ok-opened
@@ -17,12 +17,12 @@ returns-in-Ok-opened g c = record {
       c.follow_lines.new.orders,
       new_are_unread source_failed c.new.result c.args.task.moment c.new-orders.result c.new-orders.ensures
           c.new.ensures.failed,
-      kept_journal g.L.Write.contents g.I.Read.remaining g.O.Write.contents c.args.desk.now c.keep_journal.new.self
+      kept_orders g.L.Write.contents g.I.Read.remaining g.O.Write.contents c.args.desk.now c.set_orders.new.self
           (λ (first : Look). IsLinesBehind (source_left file_contents) source_failed g.N.Write.contents c.in-Ok.older
           c.args.task.pace c.args.task.required c.args.report.now c.follow_lines.new.report c.new-orders.result
           c.follow_lines.new.orders first c.follow_lines.result
           (std_bench g.L.Write.contents g.I.Read.remaining g.O.Write.contents c.follow_lines.new.desk))
-          c.keep_journal.ensures c.follow_lines.ensures.answer.0,
+          c.set_orders.ensures c.follow_lines.ensures.answer.0,
     )),
     search rules,
   );

@@ -1,5 +1,6 @@
 -- How a reading ended.
-use Rattle.std.proofs.Common.{◌≡◌, ◌⊎◌, ◌||◌, ⊤, inl, inr, not, ℕ, Bool, true, false, List, Option}
+use Rattle.std.proofs.Common.{◌≡◌, ◌⊎◌, ◌||◌, inl, inr, not, ℕ, Bool, true, false, List, Option}
+use Rattle.std.specs.Prelude.{⊤}
 use Rattle.dali_store.proofs.Moments.{started, goes_on}
 use Rattle.dali_store.specs.Stores.{Elapses, LeavesOnly, MayAlso}
 use Rattle.dali_store.specs.declared.file_store.FileStore.{FileStore}

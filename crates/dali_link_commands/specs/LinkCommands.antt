@@ -2,6 +2,7 @@
 use Rattle.std.specs.Prelude.{◌≡◌, ◌≤◌, ◌⊎◌, ◌&&◌, ◌||◌, not, ℕ, Bool, true, false, is_some, length, List, [], Option, None, ⊤}
 use Rattle.std.specs.Io.KnownBytes.{Appends}
 use Rattle.std.specs.List.{AllByRecursion}
+use Rattle.std.specs.declared.fs.File.{File}
 use Rattle.dali_bank.specs.Order.{Contents}
 use Rattle.dali_drive.specs.Desks.{Look}
 use Rattle.dali_store.specs.Files.{IsIn}
@@ -41,23 +42,23 @@ watched_of (Read unit bank) = Watched.Read
 watched_of (Verify orders report) = Watched.Verify
 watched_of (Scan addresses sought) = Watched.Scan (length (asked_addresses addresses.now))
 
--- a report couldn't be written, which is told in plain words behind all else; not where the output has failed
-abbrev pub TellsUnreported : Status → Option (List ℕ) → Option (List ℕ) → Type 0
-TellsUnreported status before after = (status ≡ Unwritten)
-    ⊎ ((status ≡ Failed) × ((words : List ℕ) × IsPlain words × Appends before after (error_line words)))
-
 -- a report was wanted, and wasn't opened, or has failed
 abbrev pub is_lost : {N : Type 0} → Bool → Bool → Report N → Bool
 is_lost wanted opened report = wanted && (not opened || has_failed report)
 
--- a command that ended so far ends so: as it did, and where its report is lost, telling that
+-- a command that ended so far ends so: as it did; where its report is lost, it tells that in plain words behind all
+-- else, if the output hasn't failed
 abbrev pub EndsReported : Bool → Status → Status → Option (List ℕ) → Option (List ℕ) → Type 0
-EndsReported true ended status before after = TellsUnreported status before after
+EndsReported true ended status before after = (status ≡ Unwritten)
+    ⊎ ((status ≡ Failed) × ((words : List ℕ) × IsPlain words × Appends before after (error_line words)))
 EndsReported false ended status before after = (status ≡ ended) × (after ≡ before)
 
 -- no bytes of a file are known
-abbrev pub file_contents : {F : Type 0} → F → Option (List ℕ)
+abbrev pub file_contents : File → Option (List ℕ)
 file_contents file = None
+
+abbrev pub report_contents : ReportOutput → Option (List ℕ)
+report_contents output = None
 
 -- a command with a report, which is opened before all else where it is wanted: it hasn't failed then, and has an output
 -- just where it was opened
@@ -87,11 +88,11 @@ Drives false task contents older before after first status last =
 abbrev pub IsLinkAnswer : LinkCommand → Look → Status → Look → Type 0
 IsLinkAnswer (Drive task) first status last =
     IsReported (is_some task.report) (λ before after begun ended behind. IsBehindNamed task.older.now
-    (λ older. Drives task.follow task file_contents older before after begun ended behind)
+    (λ older. Drives task.follow task report_contents older before after begun ended behind)
     (EndsUnread before after begun ended behind)) first status last
 IsLinkAnswer (Read unit bank) first status last = IsReadAnswer unit (λ leaves. ⊤) first status last
 IsLinkAnswer (Verify orders report) first status last =
-    IsReported (is_some report) (λ before after. IsFileAnswer (IsVerifyAnswer file_contents before after)
+    IsReported (is_some report) (λ before after. IsFileAnswer (IsVerifyAnswer report_contents before after)
     (after ≡ before)) first status last
 IsLinkAnswer (Scan addresses sought) first status last =
     IsScanAnswer sought (asked_addresses addresses.now) first status last

@@ -2,7 +2,7 @@
 ghost use Rattle.std.specs.Prelude.{◌≡◌, ◌≢◌, ◌↔◌, ◌&&◌, ℕ, List, OnOk, false, true, is_none, is_some};
 ghost use Rattle.dali_text.specs.Output.{Takes, TellsFailure, has_failed, held};
 ghost use Rattle.dali_report.specs.Told.{has_failed as report_failed, has_output, is_watched};
-ghost use Rattle.dali_link_commands.specs.LinkCommands.{EndsReported, TellsUnreported, is_lost};
+ghost use Rattle.dali_link_commands.specs.LinkCommands.{EndsReported, is_lost};
 ghost use Rattle.dali_link_commands.specs.Told.{IsPlain, error_line};
 
 use crate::lines::Lines;
@@ -242,9 +242,9 @@ fn is_same<R: Files<File = File>>(rt: &R, own: &Metadata, name: &str) -> bool {
     }
 }
 
-// Tells that a report can't be written.
+// Tells that a report can't be written, however the command ended.
 fn tell_unreported<W: Write>(alloc: Global, lines: &mut Lines<W>, made: Option<String>) -> Status
-    ensures told { TellsUnreported result
+    ensures told { EndsReported true result result
         (held W.contents lines.old.output) (held W.contents lines.new.output) }
     ensures unwritten { result ≡ Status.Unwritten ↔ has_failed lines.new.output ≡ true }
 {

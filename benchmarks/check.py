@@ -17,7 +17,7 @@ import sys
 
 import pictures
 from inputs import INPUTS, MOST_EVENTS, SCENARIOS, Scenario, write_journal, FULL, MOST_ORDERS
-from measuring import MEBIBYTE, READERS, REPOSITORY, Wrong, argument_parser, best_of, judged, run
+from measuring import MEBIBYTE, PROGRAM, READERS, REPOSITORY, Wrong, argument_parser, best_of, judged, run
 from orders import write_orders
 
 SIZES = (1, 2, 4, 8, 16)
@@ -29,8 +29,9 @@ MOST_MICROSECONDS_PER_FRAME = 20
 
 
 def measure_start(bench):
-    """Measure the starts of the program."""
-    for name, program in (("start", bench.program), ("start by the launcher", REPOSITORY / "dali_bench")):
+    """Measure the starts of the program, and by the launcher where that has built it."""
+    launched = [("start by the launcher", REPOSITORY / "dali_bench")] if bench.program == PROGRAM else []
+    for name, program in [("start", bench.program), *launched]:
         best = best_of([run([program, "frame", "A303"], bench.folder / "frame.txt") for _ in range(10 * bench.runs)])
         if best.status:
             raise Wrong(f"{program} frame: status {best.status}")

@@ -145,33 +145,30 @@ class Bus:
 
     def __init__(self, bench, folder):
         self.bench, self.folder = bench, pathlib.Path(folder)
-        self.pipe, self.journal, self.told = (self.folder / name for name in ("orders", "bench.journal", "told"))
+        self.pipe, self.journal = self.folder / "orders", self.folder / "bench.journal"
         os.mkfifo(self.pipe)
 
     def start(self):
         """Start a drive that takes its orders from the pipe."""
         words = [self.bench.link, self.bench.program, "drive", "--follow", self.pipe, self.journal]
-        with open(self.told, "w", encoding="ascii") as told:
-            return subprocess.Popen(words, stdin=subprocess.DEVNULL, stdout=subprocess.PIPE, stderr=told, text=True)
-
-    def end(self, command, orders, new):
-        """Wait for the end of a drive, and give what it took."""
-        return driven_of(command.communicate()[0], self.told.read_text(encoding="ascii"), orders, new)
+        how = {"stdout": subprocess.PIPE, "stderr": subprocess.PIPE, "text": True}
+        return subprocess.Popen(words, stdin=subprocess.DEVNULL, **how)
 
     def at_once(self, lines, count, new):
         """Measure a drive over all lines of a file, so many of them new orders."""
         with subprocess.Popen(["sh", "-c", FEED, lines, self.pipe]):
-            return self.end(self.start(), count, new)
+            return driven_of(*self.start().communicate(), count, new)
 
     def one_by_one(self):
         """Measure new orders that are each written once the one before is done."""
-        command = self.start()
-        with open(self.pipe, "w", encoding="ascii", buffering=1) as pipe, open(self.told, encoding="ascii") as told:
+        command, told = self.start(), ""
+        with open(self.pipe, "w", encoding="ascii", buffering=1) as pipe:
             for number in range(1, ORDERS + 1):
                 pipe.write(json.dumps(order(number)) + "\n")
-                while not told.readline().startswith(f"reply {number} kept"):
-                    time.sleep(0)
-        return self.end(command, ORDERS, ORDERS)
+                while not told.endswith(f"reply {number} kept 0 Done\n"):
+                    told += command.stderr.readline()
+        printed, rest = command.communicate()
+        return driven_of(printed, told + rest, ORDERS, ORDERS)
 
     def drive_each(self):
         """Measure one `drive` an order."""
@@ -235,8 +232,8 @@ def side_by_side(bench, folder, lines):
     with contextlib.ExitStack() as stack:
         for bus in buses:
             stack.enter_context(subprocess.Popen(["sh", "-c", FEED, lines, bus.pipe]))
-        for bus, command in [(bus, bus.start()) for bus in buses]:
-            bus.end(command, ORDERS, ORDERS)
+        for command in [bus.start() for bus in buses]:
+            driven_of(*command.communicate(), ORDERS, ORDERS)
 
 
 def measure_follow(bench):

@@ -86,7 +86,7 @@ NESTED = repeated('{"":' * LEVELS + "0" + "}" * LEVELS)
 INPUTS = [
     Input("check", "half of the orders with all fields, half with a GTIN", write_orders, 1),
     Input("check", "orders with a GTIN", WITH_GTIN, 0),
-    Input("check", "orders of one number", listed(lambda _: '{"order": 1, "unit": 5, "cri": 1}'), 0),
+    Input("check", "orders with a number of one byte", of_orders(cri=lambda _: 1), 0),
     Input("check", "orders as short as they may be", listed('{{"order":{},"unit":0,"cri":0}}'.format), 0),
     Input("check", "one item of keys that orders don't have", listed('"{:07}":0'.format, "[{", "}]"), 1),
     Input("check", "numbers", repeated("0"), 1),

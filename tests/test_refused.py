@@ -1,11 +1,16 @@
 #!/usr/bin/env python3
-"""Test what is known of edits that were refused before: nothing, where anything that they were tried over is another."""
+"""Test what is known of edits that were refused before: nothing, where anything that they were tried over is another; and
+who tries the others.
+"""
 
+import importlib.machinery
+import importlib.util
 import os
 import pathlib
 import shutil
 import sys
 import tempfile
+import types
 
 ROOT = pathlib.Path(__file__).resolve().parent.parent
 CRATE = "dali_gear"
@@ -80,6 +85,34 @@ def outcomes(root):
     yield "nor is it known as it was", not known(second)
     keep((first, False, "it is proved"))
     yield "what is proved now is known no more", not known(first)
+    yield from helped(root)
+
+
+def helped(root):
+    """Give what is tested of lanes that work at one crate, and whether it is so."""
+    from edits import edits_in
+
+    loader = importlib.machinery.SourceFileLoader("wrong_bodies", str(root / "scripts" / "wrong_bodies"))
+    scripts = importlib.util.module_from_spec(importlib.util.spec_from_loader("wrong_bodies", loader))
+    loader.exec_module(scripts)
+    work = scripts.Work(CRATE, list(edits_in(root / "crates" / CRATE / "wrong-bodies" / "unit.edits")))
+    work.workers, built, room = 1, types.SimpleNamespace(taken={CRATE}), root / "room"
+
+    def next_of(running):
+        return scripts.next_work([work], running, built)
+
+    yield "a crate that nobody works at is taken", next_of([]) is work
+    yield "nobody helps before its first round is over", next_of([work]) is None
+    (room / "kept").mkdir(parents=True)
+    work.leave(room)
+    yield "nor where that has left nothing", next_of([work]) is None
+    (room / "kept" / "it.oantt").write_text("checked", encoding="utf-8")
+    work.leave(room)
+    yield "then somebody does", next_of([work]) is work
+    scripts.begin(work.checked, root / "begun")
+    yield "and begins from what was checked", (root / "begun" / "it.oantt").read_text(encoding="utf-8") == "checked"
+    work.workers = len(work.rounds)
+    yield "as long as each has a round", next_of([work]) is None
 
 
 def main():

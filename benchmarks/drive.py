@@ -52,13 +52,20 @@ class Driven(NamedTuple):
     told: str
 
 
-def driven_of(printed, told, orders, new):
-    """Read what the link prints, and want so many kept replies, and the frames of new orders."""
+def driven_of(printed, told, new):
+    """Read what the link prints, and want status 0 and the frames of so many new orders."""
     frames, nanoseconds, microseconds, memory, status = map(int, printed.split())
-    done = told.count(" kept 0 Done\n")
-    if (status, frames, done) != (0, FRAMES_OF_ORDER * new, orders):
-        raise Wrong(f"status {status}, {frames} frames, {done} orders of {orders} done, {new} of them new: {told[:99]}")
+    if (status, frames) != (0, FRAMES_OF_ORDER * new):
+        raise Wrong(f"status {status}, {frames} frames of {new} new orders: {told[:99]}")
     return Driven(frames, nanoseconds / 1e9, microseconds / 1e6, memory * KIBIBYTE, told)
+
+
+def done_of(printed, told, orders, new):
+    """Do the same, and want a kept reply to so many orders."""
+    done = told.count(" kept 0 Done\n")
+    if done != orders:
+        raise Wrong(f"{done} orders of {orders} done: {told[:99]}")
+    return driven_of(printed, told, new)
 
 
 def least(runs):
@@ -86,7 +93,7 @@ class DriveBench(Bench):
     def run(self, words, orders=0, new=None):
         """Run a command under the link once."""
         ran = subprocess.run([self.link, *words], check=True, capture_output=True, text=True, stdin=subprocess.DEVNULL)
-        return driven_of(ran.stdout, ran.stderr, orders, orders if new is None else new)
+        return done_of(ran.stdout, ran.stderr, orders, orders if new is None else new)
 
     def pipes(self, count):
         """Measure what the pipes alone take for so many orders."""
@@ -94,7 +101,7 @@ class DriveBench(Bench):
         runs = []
         for _ in range(self.runs):
             printed = subprocess.run(words, check=True, capture_output=True, text=True).stdout
-            runs.append(driven_of(printed, " kept 0 Done\n" * count, count, count))
+            runs.append(driven_of(printed, "", count))
         return least(runs)
 
     def orders(self, count):
@@ -157,7 +164,7 @@ class Bus:
     def at_once(self, lines, count, new):
         """Measure a drive over all lines of a file, so many of them new orders."""
         with subprocess.Popen(["sh", "-c", FEED, lines, self.pipe]):
-            return driven_of(*self.start().communicate(), count, new)
+            return done_of(*self.start().communicate(), count, new)
 
     def one_by_one(self):
         """Measure new orders that are each written once the one before is done."""
@@ -168,7 +175,7 @@ class Bus:
                 while not told.endswith(f"reply {number} kept 0 Done\n"):
                     told += command.stderr.readline()
         printed, rest = command.communicate()
-        return driven_of(printed, told + rest, ORDERS, ORDERS)
+        return done_of(printed, told + rest, ORDERS, ORDERS)
 
     def drive_each(self):
         """Measure one `drive` an order."""
@@ -233,7 +240,7 @@ def side_by_side(bench, folder, lines):
         for bus in buses:
             stack.enter_context(subprocess.Popen(["sh", "-c", FEED, lines, bus.pipe]))
         for command in [bus.start() for bus in buses]:
-            driven_of(*command.communicate(), ORDERS, ORDERS)
+            done_of(*command.communicate(), ORDERS, ORDERS)
 
 
 def measure_follow(bench):

@@ -92,12 +92,12 @@ def measure_inputs(bench):
     path, full = bench.folder / "input", bench.folder / "journal"
     for given in INPUTS:
         given.write(path, 16 * MEBIBYTE)
-        size, words = path.stat().st_size, [bench.program, given.command, path]
-        if given.command == "drive":
-            words.append(full)
-        runs = []
+        size, runs = path.stat().st_size, []
         for _ in range(bench.runs):
-            write_journal(full, range(MOST_ORDERS), FULL, b"", 1)
+            words = [bench.program, given.command, path]
+            if given.command == "drive":
+                write_journal(full, range(MOST_ORDERS), FULL, b"", 1)
+                words.append(full)
             runs.append(run(words, bench.folder / "output.txt"))
         best = best_of(runs)
         print(

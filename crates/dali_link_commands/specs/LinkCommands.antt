@@ -84,7 +84,7 @@ Drives false task contents older before after first status last =
     IsFileAnswer (IsAnswerBehind older contents task.moment task.pace task.required before after) (after ≡ before)
     first status last
 
--- of what a stop may leave of the file of a bank nothing is known
+-- each command does what its own function promises; of what a stop may leave of the file of a bank nothing is known
 abbrev pub IsLinkAnswer : LinkCommand → Look → Status → Look → Type 0
 IsLinkAnswer (Drive task) first status last =
     IsReported (is_some task.report) (λ before after begun ended behind. IsBehindNamed task.older.now

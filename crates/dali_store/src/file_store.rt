@@ -1,6 +1,6 @@
 // A file as a store. No contract tells of a real file: its bytes aren't known, and that these calls do what a store's
 // do is trusted.
-ghost use Rattle.std.specs.Prelude.{◌≡◌, ◌||◌, not, false, true};
+ghost use Rattle.std.specs.Prelude.{Bool, List, ℕ, ◌≡◌, ◌||◌, not, false, true};
 ghost use Rattle.dali_store.specs.Files.{IsIn, has_failed};
 
 use crate::files::{Hindrance, unopened};
@@ -12,8 +12,9 @@ use std::fs::{File, Files, Metadata};
 
 /// The file of a journal or of a text as a store (profile).
 ///
-/// What is no regular file, as a named pipe or a terminal, is refused as a journal, and so is the name `-`. A text is
-/// put into whatever is there.
+/// A journal is a regular file: what is none, as a named pipe or a terminal, is refused, and so is the name `-`. A text
+/// takes the place of the text of a bank or of no file, and is written into what is no regular file, as a terminal; any
+/// other regular file, a folder and a named pipe are refused.
 #[derive(Drop)]
 pub struct FileStore<'a, R> {
     rt: &'a R,
@@ -60,9 +61,10 @@ impl<'a, R: Files<File = File> + AllocGlobal> FileStore<'a, R> {
     }
 
     /// Says in which file the orders are: the journal that `read` opens can't be that one. It has to stay open until
-    /// then, since its number is given to another file once it is gone.
+    /// then, since its number is given to another file once it is gone. A text stays as it is.
     pub fn set_orders(&mut self, orders: &Metadata)
-        ensures { has_failed self.new ≡ has_failed self.old }
+        ensures same { (journal : Bool) (name : List ℕ) → IsIn journal name self.old → IsIn journal name self.new }
+        ensures failed { has_failed self.new ≡ has_failed self.old }
     {
         if let Kind::Journal(file) = &mut self.kind {
             file.set_orders(orders);

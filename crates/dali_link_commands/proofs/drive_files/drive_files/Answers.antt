@@ -20,7 +20,7 @@ returns-in-Ok-opened g c = record {
             c.set_orders.new.self
             (λ (first : Look). IsFileAnswer answers unreported first c.drive_input.result
             (std_bench g.L.Write.contents g.I.Read.remaining g.O.Write.contents c.drive_input.new.desk))
-            c.set_orders.ensures (file_answered answers unreported _ _ _ _ _ c.drive_input.ensures.driven.0)),
+            c.set_orders.ensures.failed (file_answered answers unreported _ _ _ _ _ c.drive_input.ensures.driven.0)),
         search rules,
       );
 }

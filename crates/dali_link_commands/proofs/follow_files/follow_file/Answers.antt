@@ -22,7 +22,7 @@ returns-in-Ok-opened g c = record {
           c.args.task.pace c.args.task.required c.args.report.now c.follow_lines.new.report c.new-orders.result
           c.follow_lines.new.orders first c.follow_lines.result
           (std_bench g.L.Write.contents g.I.Read.remaining g.O.Write.contents c.follow_lines.new.desk))
-          c.set_orders.ensures c.follow_lines.ensures.answer.0,
+          c.set_orders.ensures.failed c.follow_lines.ensures.answer.0,
     )),
     search rules,
   );

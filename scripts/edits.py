@@ -15,6 +15,8 @@ and a line `by: FUNCTION` names a function that refuses the edit, where its line
 each edit has a file of its own, as the kit has it.
 """
 
+import collections
+import functools
 import hashlib
 import pathlib
 import re
@@ -23,13 +25,14 @@ from crates import CRATES, text_of
 
 WORDS = ("file", "rule", "edit", "by", "old", "new")
 HEAD = re.compile(r"(\s*)(?:pub(?:\([^)]*\))? )?(?:const )?(?:unsafe )?fn (\w+)")
+CYCLE = re.compile(r"#\[cycle\((\w+)\)\]")
 IMPL = re.compile(r"impl(?:<[^{]*?>)? (?:(?P<trait>[^{]*?) for )?(?P<type>\w+)")
 
 
 class Edit:
     """A wrong body, or a wrong line of a definition: its crate, the rule that it breaks, where that is said, its pairs of
     texts with their files, the lines that it changes, by file and number from 1, and the functions that these are within,
-    by the ends of their names, none where a line is in no function.
+    by the ends of their names, of a cycle of calls all, none where a line is in no function.
     """
 
     def __init__(self, crate, name, rule, rows):
@@ -38,7 +41,8 @@ class Edit:
         self.sum = hashlib.sha256("\n".join(": ".join(it) for it in rows).encode()).hexdigest()
         self.why = self.read(rows)
         found = {function_at(self.crate / file, line) for file, line in self.lines}
-        self.functions = found if found and None not in found else set()
+        at_once = [next((it for it in cycles(crate).values() if name in it), {name}) for name in found]
+        self.functions = set().union(*at_once) if None not in found else set()
 
     def read(self, rows):
         """Read the pairs of texts, and tell why they can't be applied, or give None."""
@@ -134,6 +138,20 @@ def function_of_proof(file):
     if len(folders) > 1 and folders[-2][0].isupper():
         folders = folders[-2:]
     return "::".join(folders) or None
+
+
+@functools.cache
+def cycles(crate):
+    """Give the functions of each cycle of calls of a crate, by the name of the one proof that they have."""
+    found, cycle = collections.defaultdict(set), None
+    for path in (crate / "src").rglob("*.rt"):
+        file = path.relative_to(crate)
+        for row in text_of(path).split("\n"):
+            cycle, head = CYCLE.match(row) or cycle, HEAD.match(row)
+            if cycle and head:
+                found[end_of_name(file, None, cycle[1])].add(end_of_name(file, None, head[2]))
+                cycle = None
+    return found
 
 
 def end_of_name(file, block, name):

@@ -1,7 +1,7 @@
 -- Lemmas on what the command line names.
 use Rattle.std.proofs.Common.{◌≡◌, ◌<◌, ◌≤◌, List, [], ◌∷◌, ◌++◌, ℕ, zero, suc, map, take, length, get_or, arith}
 use Rattle.std.proofs.Common.{Bool, Bor, Option, Some, None, IfSome, IfNone, true, false, option_map}
-use Rattle.std.proofs.Common.{Result, Ok, Err, IfOk, IsOkAnd, codes, refl, ap, sym, subst, ◌∙◌}
+use Rattle.std.proofs.Common.{Result, Ok, Err, IfOk, IsOkAnd, codes, refl, ap, ap₂, sym, subst, ◌∙◌, ◌||◌}
 use Rattle.std.specs.Prelude.{unwrap_or}
 use mathlib.Core.Bool.{beq}
 use Rattle.std.specs.Bool.{Decides}
@@ -9,13 +9,14 @@ use Rattle.std.specs.Option.{option_eq}
 use Rattle.std.specs.Str.Parse.{ParsesBool, ParsesUnsigned}
 use Rattle.std.proofs.lemmas.Bool.Decides.{Decides-like}
 use Rattle.clap.specs.Words.{App, HasMatchesOf, ReadsOne, Row, Text, all_of, first_of, is_simple, is_simple_and_free, one_of}
-use Rattle.clap.specs.Words.{AddsSubcommand, app_of, subcommand_of, subcommand_rows_of, with_subcommand}
+use Rattle.clap.specs.Words.{AddsArg, AddsSubcommand, Rule, app_of, subcommand_of, subcommand_rows_of, with_rule}
+use Rattle.clap.specs.Words.{with_subcommand}
+use Rattle.clap.specs.declared.builder.arg.Arg.{Arg}
 use Rattle.clap.specs.declared.builder.command.Command.{Command}
-use Rattle.clap.specs.declared.builder.command.Command.TheViews.{out-Command as fields_of}
 use Rattle.clap.specs.declared.parser.matches.ArgMatches.{ArgMatches}
 use Rattle.clap.proofs.OnLiterals.{clap_on_literals}
 use Rattle.dali_job.specs.Jobs.{HasFlag, HasNumber, HasOption, HasValue, HasValues, IsEntered, IsJob, IsNoCheck, IsNoDrive}
-use Rattle.dali_job.specs.Jobs.{AreUnits, IsNoScan}
+use Rattle.dali_job.specs.Jobs.{AreUnits, IsApp, IsNoScan, IsRule}
 use Rattle.dali_job.specs.Jobs.{IsNoJob, IsNumber, bench_app}
 use Rattle.dali_job.specs.declared.job.Job.{Job}
 use Rattle.dali_job.specs.declared.job.Job.TheVariants.{Check, Run, Frame, Show, Journal, Drive, Read, Verify, Scan}
@@ -173,15 +174,22 @@ no_units (text ∷ texts) (suc index) d below none (unit ∷ units) =
 
 -- ---- commands
 
+-- a command with one more argument
+pub with_argument : (was : Command) (argument : Arg) (app : App) (rule : Rule) (more : Command)
+    → IsApp app was → IsRule rule argument → AddsArg was argument more → IsApp (with_rule app rule) more
+with_argument was argument app rule more (app_is, local) (rule_is, own) added = (
+  added.shape own ∙ ap₂ with_rule app_is rule_is,
+  added.globals ∙ ap₂ (λ old new. old || new) local own,
+)
+
 -- where a command was made and added, the program is with it
 pub with_added : (E : Type 0) (made : Result Command E) (was all : Command) (before next : App)
-    → IfOk made (λ command. app_of command ≡ next) → IfOk made (λ command. (fields_of command).has_globals ≡ false)
-    → app_of was ≡ before → IsOkAnd made (λ command. AddsSubcommand was command all)
+    → IfOk made (IsApp next) → app_of was ≡ before → IsOkAnd made (λ command. AddsSubcommand was command all)
     → app_of all ≡ with_subcommand before next.top
-with_added E (Ok command) was all before next is_next local was_is added =
+with_added E (Ok command) was all before next (is_next, local) was_is added =
     added.shape local ∙ ap (λ app. with_subcommand app (app_of command).top) was_is
     ∙ ap (λ (app : App). with_subcommand before app.top) is_next
-with_added E (Err error) was all before next is_next local was_is added = absurd added
+with_added E (Err error) was all before next is_next was_is added = absurd added
 
 -- ---- jobs
 

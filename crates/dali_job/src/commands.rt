@@ -1,10 +1,9 @@
 // The program's commands, as `clap` takes them.
-ghost use Rattle.std.specs.Prelude.{◌≡◌, IfOk, IsOkAnd, codes, false};
-ghost use Rattle.clap.specs.declared.builder.command.Command.TheViews.{out-Command as fields_of};
-ghost use Rattle.clap.specs.Words.{AddsSubcommand, app_of, new_app, rule_of};
-ghost use Rattle.dali_job.specs.Jobs.{address_rule, bench_app, check_app, command_app, drive_app, flag_rule, journal_app, many_rule};
-ghost use Rattle.dali_job.specs.Jobs.{number_rule, option_rule, read_app, run_app, scan_app, unit_rule, units_rule};
-ghost use Rattle.dali_job.specs.Jobs.{value_rule, verify_app};
+ghost use Rattle.std.specs.Prelude.{◌≡◌, IfOk, IsOkAnd, codes};
+ghost use Rattle.clap.specs.Words.{AddsSubcommand, app_of, new_app};
+ghost use Rattle.dali_job.specs.Jobs.{IsApp, IsRule, address_rule, bench_app, check_app, command_app, drive_app};
+ghost use Rattle.dali_job.specs.Jobs.{flag_rule, journal_app, many_rule, number_rule, option_rule, read_app, run_app};
+ghost use Rattle.dali_job.specs.Jobs.{scan_app, unit_rule, units_rule, value_rule, verify_app};
 
 use crate::usages::{
     ABOUT, Argument, CHECK, CHECK_JOURNAL_HELP, CHECK_OLDER_HELP, CHECK_ORDERS, DRIVE,
@@ -51,8 +50,7 @@ fn with_made<'a>(
 
 // The command that checks orders, with the journals that are asked.
 fn check_command<'a>(alloc: Global) -> Result<Command<'a>, AllocError>
-    ensures app { IfOk result (λ command. app_of command ≡ check_app) }
-    ensures local { IfOk result (λ command. (fields_of command).has_globals ≡ false) }
+    ensures { IfOk result (IsApp check_app) }
 {
     let orders = command_of(alloc, &CHECK, &CHECK_ORDERS)?;
     let asked = orders.arg(file_option(alloc, "journal", CHECK_JOURNAL_HELP))?;
@@ -61,24 +59,21 @@ fn check_command<'a>(alloc: Global) -> Result<Command<'a>, AllocError>
 
 // The command that runs a scenario, with its flag.
 fn run_command<'a>(alloc: Global) -> Result<Command<'a>, AllocError>
-    ensures app { IfOk result (λ command. app_of command ≡ run_app) }
-    ensures local { IfOk result (λ command. (fields_of command).has_globals ≡ false) }
+    ensures { IfOk result (IsApp run_app) }
 {
     command_of(alloc, &RUN, &RUN_SCENARIO)?.arg(flag_of(alloc, "frames", RUN_FRAMES_HELP))
 }
 
 // The command that prints a journal, with its flag.
 fn journal_command<'a>(alloc: Global) -> Result<Command<'a>, AllocError>
-    ensures app { IfOk result (λ command. app_of command ≡ journal_app) }
-    ensures local { IfOk result (λ command. (fields_of command).has_globals ≡ false) }
+    ensures { IfOk result (IsApp journal_app) }
 {
     command_of(alloc, &JOURNAL, &JOURNAL_FILE)?.arg(flag_of(alloc, "updates", JOURNAL_UPDATES_HELP))
 }
 
 // The command that carries out orders over a link.
 fn drive_command<'a>(alloc: Global) -> Result<Command<'a>, AllocError>
-    ensures app { IfOk result (λ command. app_of command ≡ drive_app) }
-    ensures local { IfOk result (λ command. (fields_of command).has_globals ≡ false) }
+    ensures { IfOk result (IsApp drive_app) }
 {
     let files = command_of(alloc, &DRIVE, &LINK_ORDERS)?.arg(value_argument(
         alloc,
@@ -97,8 +92,7 @@ fn drive_command<'a>(alloc: Global) -> Result<Command<'a>, AllocError>
 
 // The command that compares units with orders, with its report and its flag.
 fn verify_command<'a>(alloc: Global) -> Result<Command<'a>, AllocError>
-    ensures app { IfOk result (λ command. app_of command ≡ verify_app) }
-    ensures local { IfOk result (λ command. (fields_of command).has_globals ≡ false) }
+    ensures { IfOk result (IsApp verify_app) }
 {
     let orders = command_of(alloc, &VERIFY, &LINK_ORDERS)?;
     let reported = orders.arg(file_option(alloc, "report", VERIFY_REPORT_HELP))?;
@@ -107,8 +101,7 @@ fn verify_command<'a>(alloc: Global) -> Result<Command<'a>, AllocError>
 
 // The command that looks which units answer over a link, with its flags.
 fn scan_command<'a>(alloc: Global) -> Result<Command<'a>, AllocError>
-    ensures app { IfOk result (λ command. app_of command ≡ scan_app) }
-    ensures local { IfOk result (λ command. (fields_of command).has_globals ≡ false) }
+    ensures { IfOk result (IsApp scan_app) }
 {
     let units = plain_command(alloc, &SCAN).arg(units_argument(alloc))?;
     let named = units.arg(flag_of(alloc, "gtin", SCAN_GTIN_HELP))?;
@@ -117,8 +110,7 @@ fn scan_command<'a>(alloc: Global) -> Result<Command<'a>, AllocError>
 
 // The command that reads a bank over a link, with its flag.
 fn read_command<'a>(alloc: Global) -> Result<Command<'a>, AllocError>
-    ensures app { IfOk result (λ command. app_of command ≡ read_app) }
-    ensures local { IfOk result (λ command. (fields_of command).has_globals ≡ false) }
+    ensures { IfOk result (IsApp read_app) }
 {
     let unit = plain_command(alloc, &READ).arg(unit_argument(alloc))?;
     let read = unit.arg(value_argument(alloc, "HEXFILE", READ_BANK_HELP))?;
@@ -131,16 +123,14 @@ fn command_of<'a>(
     usage: &Usage<'a>,
     argument: &Argument<'a>,
 ) -> Result<Command<'a>, AllocError>
-    ensures app { IfOk result (λ command. app_of command ≡ command_app usage.now.name.now argument.now.id.now) }
-    ensures local { IfOk result (λ command. (fields_of command).has_globals ≡ false) }
+    ensures { IfOk result (IsApp (command_app usage.now.name.now argument.now.id.now)) }
 {
     plain_command(alloc, usage).arg(value_argument(alloc, argument.id, argument.help))
 }
 
 // A command with no argument.
 fn plain_command<'a>(alloc: Global, usage: &Usage<'a>) -> Command<'a>
-    ensures app { app_of result ≡ new_app usage.now.name.now }
-    ensures local { (fields_of result).has_globals ≡ false }
+    ensures { IsApp (new_app usage.now.name.now) result }
 {
     Command::new(alloc, usage.name)
         .about(usage.about)
@@ -149,8 +139,7 @@ fn plain_command<'a>(alloc: Global, usage: &Usage<'a>) -> Command<'a>
 
 // An argument that has to be there, and takes one value.
 fn value_argument<'a>(alloc: Global, id: &'a str, help: &'a str) -> Arg<'a>
-    ensures rule { rule_of result ≡ value_rule id.entry.now }
-    ensures local { result.global ≡ false }
+    ensures { IsRule (value_rule id.entry.now) result }
 {
     Arg::new(alloc, id)
         .help(help)
@@ -160,24 +149,21 @@ fn value_argument<'a>(alloc: Global, id: &'a str, help: &'a str) -> Arg<'a>
 
 // The unit of `read`, which has to be there.
 fn unit_argument<'a>(alloc: Global) -> Arg<'a>
-    ensures rule { rule_of result ≡ unit_rule (codes "UNIT") }
-    ensures local { result.global ≡ false }
+    ensures { IsRule (unit_rule (codes "UNIT")) result }
 {
     address_argument(alloc, READ_UNIT_HELP, ArgAction::Set).required(true)
 }
 
 // The units of `scan`, which may be left out.
 fn units_argument<'a>(alloc: Global) -> Arg<'a>
-    ensures rule { rule_of result ≡ units_rule (codes "UNIT") }
-    ensures local { result.global ≡ false }
+    ensures { IsRule (units_rule (codes "UNIT")) result }
 {
     address_argument(alloc, SCAN_UNITS_HELP, ArgAction::Append)
 }
 
 // An argument that takes the short address of a unit.
 fn address_argument<'a>(alloc: Global, help: &'a str, action: ArgAction) -> Arg<'a>
-    ensures rule { rule_of result ≡ address_rule (codes "UNIT") action }
-    ensures local { result.global ≡ false }
+    ensures { IsRule (address_rule (codes "UNIT") action) result }
 {
     Arg::new(alloc, "UNIT")
         .help(help)
@@ -187,8 +173,7 @@ fn address_argument<'a>(alloc: Global, help: &'a str, action: ArgAction) -> Arg<
 
 // A flag under its own name.
 fn flag_of<'a>(alloc: Global, id: &'a str, help: &'a str) -> Arg<'a>
-    ensures rule { rule_of result ≡ flag_rule id.entry.now }
-    ensures local { result.global ≡ false }
+    ensures { IsRule (flag_rule id.entry.now) result }
 {
     Arg::new(alloc, id)
         .long(id)
@@ -198,8 +183,7 @@ fn flag_of<'a>(alloc: Global, id: &'a str, help: &'a str) -> Arg<'a>
 
 // An option under its own name that names a file, and may be left out.
 fn file_option<'a>(alloc: Global, id: &'a str, help: &'a str) -> Arg<'a>
-    ensures rule { rule_of result ≡ option_rule id.entry.now }
-    ensures local { result.global ≡ false }
+    ensures { IsRule (option_rule id.entry.now) result }
 {
     Arg::new(alloc, id)
         .long(id)
@@ -210,8 +194,7 @@ fn file_option<'a>(alloc: Global, id: &'a str, help: &'a str) -> Arg<'a>
 
 // The option that names older journals, one each time that it is given.
 fn older_option<'a>(alloc: Global, help: &'a str) -> Arg<'a>
-    ensures rule { rule_of result ≡ many_rule (codes "older") }
-    ensures local { result.global ≡ false }
+    ensures { IsRule (many_rule (codes "older")) result }
 {
     Arg::new(alloc, "older")
         .long("older")
@@ -222,8 +205,7 @@ fn older_option<'a>(alloc: Global, help: &'a str) -> Arg<'a>
 
 // The option of `drive`, with the number that stands where it isn't given.
 fn moment_option<'a>(alloc: Global) -> Arg<'a>
-    ensures rule { rule_of result ≡ number_rule (codes "moment") (codes "0") }
-    ensures local { result.global ≡ false }
+    ensures { IsRule (number_rule (codes "moment") (codes "0")) result }
 {
     Arg::new(alloc, "moment")
         .long("moment")

@@ -31,29 +31,29 @@ returns c =
     ∙ ap (λ (app : App). record app { top = record app.top { subcommand_required = true } })
     (ap app_of_fields c.after_help.ensures ∙ ap app_of_fields c.about.ensures ∙ c.new.ensures.app) in
     let checks =
-    with_added _ c.check_command.result _ c.in_ok-checks.checks top_app _ check.app check.local top
+    with_added _ c.check_command.result _ c.in_ok-checks.checks top_app _ check top
     c.in_ok-checks.ensures in
     let runs =
-    with_added _ c.run_command.result _ c.in_ok-runs.runs checks_app _ run.app run.local checks
+    with_added _ c.run_command.result _ c.in_ok-runs.runs checks_app _ run checks
     c.in_ok-runs.ensures in
     let frames =
-    with_added _ c.command_of.result _ c.in_ok-frames.frames runs_app _ frame.app frame.local runs
+    with_added _ c.command_of.result _ c.in_ok-frames.frames runs_app _ frame runs
     c.in_ok-frames.ensures in
     let shows =
-    with_added _ c.command_of-2.result _ c.in_ok-shows.shows frames_app _ show.app show.local frames
+    with_added _ c.command_of-2.result _ c.in_ok-shows.shows frames_app _ show frames
     c.in_ok-shows.ensures in
     let journals =
-    with_added _ c.journal_command.result _ c.in_ok-journals.journals shows_app _ journal.app journal.local shows
+    with_added _ c.journal_command.result _ c.in_ok-journals.journals shows_app _ journal shows
     c.in_ok-journals.ensures in
     let drives =
-    with_added _ c.drive_command.result _ c.in_ok-drives.drives journals_app _ drive.app drive.local journals
+    with_added _ c.drive_command.result _ c.in_ok-drives.drives journals_app _ drive journals
     c.in_ok-drives.ensures in
     let reads =
-    with_added _ c.read_command.result _ c.in_ok-reads.reads drives_app _ read.app read.local drives
+    with_added _ c.read_command.result _ c.in_ok-reads.reads drives_app _ read drives
     c.in_ok-reads.ensures in
     let verifies =
-    with_added _ c.verify_command.result _ c.in_ok-verifies.verifies reads_app _ verify.app verify.local reads
+    with_added _ c.verify_command.result _ c.in_ok-verifies.verifies reads_app _ verify reads
     c.in_ok-verifies.ensures in
     IfOk-weaker c.with_made-9.result _ _
-    (λ all added. with_added _ c.scan_command.result _ all verifies_app scan_app scan.app scan.local verifies added)
+    (λ all added. with_added _ c.scan_command.result _ all verifies_app scan_app scan verifies added)
     c.with_made-9.ensures

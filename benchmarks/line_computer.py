@@ -5,7 +5,8 @@ Orders of a GTIN (112 frames) go to links that answer at once (null_link.c).
 
 1. 1, 10 and 50 buses over one server of PostgreSQL, and 1 and 10 over a file
    of SQLite, in a folder on disk, each bus with its own process, drive and
-   journal: how many orders a second come to their end over all of them.
+   journal: how many orders a second come to their end over all of them, from
+   the moment at which all buses are ready and the first order is given.
 2. The same 10 buses over PostgreSQL, over a link that takes 2 ms a frame, with
    the whole server killed and started again amid them: how long no order comes
    to its end, beside how long that is without a kill.
@@ -20,18 +21,19 @@ import pathlib
 import sys
 import tempfile
 import time
+import unittest
 
 from measuring import REPOSITORY, Wrong, argument_parser, built, judged
 
 sys.dont_write_bytecode = True
 sys.path.insert(0, str(REPOSITORY / "tests"))
 
-from drive_desk import Skipped, settings  # noqa: E402
+from base import settings  # noqa: E402
 from line_bench import Bench, Server, stop  # noqa: E402
 from line_look import MANY, MOST_PAGE, MOST_STEP, Page, fill, page_seconds, step_seconds  # noqa: E402
 
 GTIN = "4006381333931"
-ORDERS = {1: 200, 10: 40, 50: 10}
+ORDERS = {1: 200, 10: 100, 50: 40}
 SLOW_ORDERS = 12
 PACE = 2
 # The link's words have "--" in front of the drive's, which the link in C doesn't know.
@@ -39,14 +41,12 @@ WORDS = 'shift; exec "$0" "$@"'
 
 
 class Line:
-    """A store with so many buses, each with orders that are all done at the end."""
+    """A store with so many buses, each of which is given orders that are all done at the end."""
 
     def __init__(self, folder, store, buses, orders, adapter):
         self.buses = [f"bus{number}" for number in range(1, buses + 1)]
         self.bench, self.count, self.adapter = Bench(folder, store, self.buses), buses * orders, adapter
-        given = ("unit,gtin\n" + f"5,{GTIN}\n" * orders).encode()
-        for bus in self.buses:
-            self.bench.does("add", "--bus", bus, "-", given=given)
+        self.given = ("unit,gtin\n" + f"5,{GTIN}\n" * orders).encode()
 
     def ended(self):
         """Give how many orders have ended."""
@@ -61,7 +61,9 @@ class Line:
         processes = [self.bench.start(bus, adapter=self.adapter) for bus in self.buses]
         while self.ready() < len(self.buses):
             time.sleep(0.01)
-        seen, is_done = [(time.monotonic(), self.ended())], False
+        seen, is_done = [(time.monotonic(), 0)], False
+        for bus in self.buses:
+            self.bench.does("add", "--bus", bus, "-", given=self.given)
         while seen[-1][1] < self.count:
             time.sleep(0.02)
             if not is_done and seen[-1][1] > self.count / 3:
@@ -77,14 +79,14 @@ class Line:
         return seen
 
     def rate(self):
-        """Give how many orders a second came to their end, from the moment at which all buses were ready."""
+        """Give how many orders a second came to their end, from the moment at which the first was given."""
         seen = self.run()
         return (seen[-1][1] - seen[0][1]) / (seen[-1][0] - seen[0][0])
 
 
 def longest_gap(seen):
     """Give the longest time in which no order came to its end."""
-    moments = [seen[0][0]] + [now for (_, before), (now, count) in zip(seen, seen[1:]) if count > before]
+    moments = [now for (_, before), (now, count) in zip(seen, seen[1:]) if count > before]
     return max(later - earlier for earlier, later in zip(moments, moments[1:]))
 
 
@@ -150,7 +152,7 @@ def measure_all(bench):
         measure_rates(bench.folder, link)
         measure_kill(bench.folder)
         measure_many(bench.folder, bench.aims)
-    except Skipped as fault:
+    except unittest.SkipTest as fault:
         raise OSError(str(fault)) from fault
 
 

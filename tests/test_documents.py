@@ -6,12 +6,14 @@ code, or a definition. A table with the columns of HEAD says where rules live: e
 belongs to a rule, its contracts and laws, its edits and tests, `scripts/where` tells.
 
 It fails besides where a name of several words, as `IsGtin`, stands in no code, definition or proof and in no unit of the
-service; where README doesn't say in the words of the help what the program is; where a diagram has no arrows; and where
-a link leads nowhere. The last line is `N passed, M failed`.
+service; where README doesn't say in the words of the help what the program is; where a diagram has no arrows; where a
+link leads nowhere; and where a script that BENCHMARKS.md names can't be begun. The last line is `N passed, M failed`.
 """
 
+import os
 import pathlib
 import re
+import subprocess
 import sys
 
 ROOT = pathlib.Path(__file__).resolve().parent.parent
@@ -84,6 +86,15 @@ class Judge:
             for name in SEVERAL_WORDS.findall(line):
                 self.look(name in self.names, f"{path.relative_to(ROOT)}:{number}", f"{name} is nowhere")
 
+    def scripts(self, path):
+        """Look whether each script that the document of the benchmarks names says how it is used."""
+        how = {"stdout": subprocess.DEVNULL, "stderr": subprocess.DEVNULL}
+        alone = {**os.environ, "PYTHONDONTWRITEBYTECODE": "1"}
+        for name in sorted(set(re.findall(r"`(\w+\.py)`", text_of(path)))):
+            script = ROOT / "benchmarks" / name
+            is_begun = os.access(script, os.X_OK) and not subprocess.run([script, "--help"], env=alone, **how).returncode
+            self.look(is_begun, path.relative_to(ROOT), f"{name} can't be begun")
+
 
 def anchors_of(path):
     """Give the names by which the headings of a document are linked to."""
@@ -107,6 +118,7 @@ def main():
     about = re.search(r'ABOUT: &str = "\\\n(.*?)";', text_of(CRATES / "dali_job" / "src" / "usages.rt"), re.DOTALL)
     said = re.sub(r"\\\n", "", about[1])
     judge.look(said in text_of(ROOT / "README.md").replace("`", ""), "README.md", f"it doesn't say, as the help: {said}")
+    judge.scripts(ROOT / "docs" / "BENCHMARKS.md")
     for line in judge.wrong:
         print(f"FAILED: the documents: {line}")
     print(f"{judge.passed} passed, {len(judge.wrong)} failed")

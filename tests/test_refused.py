@@ -25,6 +25,7 @@ OF_ONE = (
     (REFUSED_THERE, "src/value.rt:20:1: it is not proved that what the function ensures holds\nonly=1 proved=0\n", True),
     ("refused by a name", "./proofs/value/Lemmas.antt:3:1: error: `it` is not in scope\nonly=1 proved=0\n", True),
     ("proved", "only=1 proved=1\n", False),
+    ("not told", "fn dali_input::value::value_of_text: could not tell\nonly=1 proved=0\n", False),
 )
 # What is changed, and whether the refusal is known afterwards.
 CHANGES = (

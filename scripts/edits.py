@@ -1,6 +1,6 @@
-"""The edits of crates/NAME/wrong-bodies and must-fail: what they change, and in which functions.
+"""The edits of crates/NAME/wrong-bodies: what they change, and in which functions.
 
-A file `writer.edits` of wrong-bodies has the edits that begin in one file, which its first line names:
+A file `writer.edits` has the edits that begin in one file, which its first line names:
 
     file: src/writer.rt
 
@@ -11,8 +11,9 @@ A file `writer.edits` of wrong-bodies has the edits that begin in one file, whic
     new: what stands there in the edit
 
 An edit has as many pairs of texts as it needs. A line `file: PATH` before a pair moves on to another file of the crate,
-and a line `by: FUNCTION` names a function that refuses the edit, where its lines aren't within functions. In must-fail
-each edit has a file of its own, as the kit has it.
+and a line `by: FUNCTION` names a function that refuses the edit, where its lines aren't within functions, or `by:
+FILE.FACT` a lemma of `proofs/FILE.antt`. (The kit's own form, must-fail, has no edit here: for each crate that has one
+`rt ci` proves the crate once more.)
 """
 
 import collections
@@ -30,7 +31,7 @@ IMPL = re.compile(r"impl(?:<[^{]*?>)? (?:(?P<trait>[^{]*?) for )?(?P<type>\w+)")
 
 
 class Edit:
-    """A wrong body, or a wrong line of a definition: its crate, the rule that it breaks, where that is said, its pairs of
+    """A wrong body, or a wrong line of a definition: its crate, the rule that it breaks, its pairs of
     texts with their files, the lines that it changes, by file and number from 1, and the functions that these are within,
     by the ends of their names, of a cycle of calls all, none where a line is in no function.
     """
@@ -70,22 +71,22 @@ class Edit:
 
     def asked(self):
         """Give the functions that a check has to prove of it, none where that is the whole crate."""
-        return self.functions or ({self.by} if self.by else set())
+        return self.functions or ({self.by} if self.by and "." not in self.by else set())
+
+    def refusers(self):
+        """Give the ends of the names of what refuses it: the functions that it changes, or what it names."""
+        return self.functions or ({self.by, self.by.partition("::")[2]} if self.by else set())
 
 
-def all_edits(*kinds):
-    """Give the edits of all crates: those that are wrong bodies, and those that must fail, in the form of the kit."""
-    for kind in kinds or ("must-fail", "wrong-bodies"):
-        for path in sorted(CRATES.glob(f"*/{kind}/*.edit*")):
-            yield from edits_in(path)
+def all_edits():
+    """Give the edits of all crates."""
+    for path in sorted(CRATES.glob("*/wrong-bodies/*.edits")):
+        yield from edits_in(path)
 
 
 def edits_in(path):
-    """Give the edits of a file: one, or several that begin in the file that it names first."""
+    """Give the edits of a file, which begin in the file that it names first."""
     crate, rows = path.parent.parent, rows_of(path)
-    if path.suffix == ".edit":
-        yield Edit(crate, path.stem, None, rows)
-        return
     rule, own = None, []
     for row in [*rows[1:], ("edit", None)]:
         if row[0] in ("rule", "edit") and own:

@@ -1,73 +1,85 @@
-"""Which edits were refused before on this machine, each kept by the sum of all that it was tried over."""
+"""The record of the edits that were refused: `refused.txt`, which `wrong_bodies` alone writes.
+
+It has a line for each: its crate, its name, and the sum of all that its refusal hangs on (`closure.py`), so that an edit
+whose sum is another one is tried again. Where what refused it can't be told, that is all files of its crate and of those
+that it stands on. The lines are sorted, so that records merge.
+"""
 
 import hashlib
-import json
 import os
-import pathlib
+import random
 import tempfile
 
+from closure import Closures
 from crates import ROOT, text_of
 from sums import add_files, kit_version
 
-# What reads an edit, tries it and judges it.
-JUDGES = ("wrong_bodies", "edits.py", "crates.py")
-# Of how many states of a crate the refusals are kept.
-MOST_STATES = 20
+RECORD = ROOT / "refused.txt"
+# What the sums are of: another one where `wrong_bodies` takes something else for a refusal.
+FORM = "1"
+# How many digits of a sum are written.
+DIGITS = 32
 
 
 class Refused:
-    """The edits that earlier runs saw refused, in a folder of the user's own.
+    """What is known of edits, by the record and by the files as they stand."""
 
-    The name of what is kept of a crate is the sum of the kit's identity, of what judges edits, and of the files of the
-    crate and of those that it stands on. So where any of it is another one, nothing is known.
-    """
+    def __init__(self, edits):
+        self.more = f"{FORM} {kit_version().decode()}"
+        self.closures = Closures()
+        self.names = {it.name for it in edits}
+        self.wide = {name: self.wide_sum(name) for name in {it.crate.name for it in edits}}
 
-    def __init__(self):
-        home = os.environ.get("XDG_CACHE_HOME") or pathlib.Path.home() / ".cache"
-        self.folder = pathlib.Path(home) / "dali_bench" / "refused"
-        self.kit = kit_version()
-        self.files = {}
+    def tidy(self):
+        """Drop what has no edit any more."""
+        self.write(self.rows())
 
-    def of(self, name, edits):
-        """Give what was said of those of a crate's edits that are known to be refused."""
-        self.files[name] = self.file_of(name)
-        known = self.known(name)
-        return {edit: known[edit.sum] for edit in edits if edit.sum in known}
+    def rows(self):
+        """Give what the record has: the sums, by the names of the edits."""
+        rows = [line.split(" ") for line in text_of(RECORD).split("\n")]
+        return {f"{row[0]}/{row[1]}": row[2] for row in rows if len(row) == 3}
 
-    def keep(self, name, results):
-        """Keep what was said of the refused ones, where the crate's files are still those that they were tried over."""
-        file = self.files[name]
-        if file != self.file_of(name):
-            return
-        known = self.known(name)
-        for edit, is_refused, said in results:
-            known.pop(edit.sum, None)
-            if is_refused:
-                known[edit.sum] = said
-        try:
-            self.folder.mkdir(mode=0o700, parents=True, exist_ok=True)
-            with tempfile.NamedTemporaryFile("w", dir=self.folder, delete=False, encoding="utf-8") as it:
-                json.dump(known, it)
-            os.replace(it.name, file)
-            states = sorted(self.folder.glob(f"{name}-*"), key=lambda state: state.stat().st_mtime)
-            for state in states[:-MOST_STATES]:
-                state.unlink()
-        except OSError:
-            # Then they are tried again the next time.
-            return
+    def of(self, edits):
+        """Give those of some edits that are known to be refused."""
+        rows = self.rows()
+        return [it for it in edits if it.name in rows and rows[it.name] in (self.narrow_of(it), self.wide_of(it))]
 
-    def known(self, name):
-        """Give what is kept of a crate, by the sums of its edits."""
-        try:
-            return json.loads(text_of(self.files[name]) or "{}")
-        except (OSError, ValueError):
-            return {}
+    def narrow_of(self, edit):
+        """Give the sum of what refuses an edit and of all that this hangs on, None where it can't be told."""
+        total = self.closures.of_edit(edit, self.more)
+        return total and total[:DIGITS]
 
-    def file_of(self, name):
-        """Give the file for a crate as it stands."""
-        total = hashlib.sha256(self.kit)
-        for judge in JUDGES:
-            total.update(text_of(ROOT / "scripts" / judge).encode())
+    def wide_of(self, edit):
+        """Give the sum of an edit and of all files of its crate and of those that it stands on."""
+        return hashlib.sha256(f"{edit.sum} {self.wide[edit.crate.name]}".encode()).hexdigest()[:DIGITS]
+
+    def wide_sum(self, name):
+        """Give the sum of all files of a crate and of those that it stands on."""
+        total = hashlib.sha256(self.more.encode())
         add_files(total, name)
-        return self.folder / f"{name}-{total.hexdigest()}"
+        return total.hexdigest()
 
+    def keep(self, name, outcomes):
+        """Write into the record what came of edits of a crate, where its files are still those that they were tried over."""
+        rows, is_same = self.rows(), self.wide[name] == self.wide_sum(name)
+        for it in outcomes:
+            rows.pop(it.edit.name, None)
+            if it.is_refused and is_same:
+                rows[it.edit.name] = self.narrow_of(it.edit) if it.is_by_own else self.wide_of(it.edit)
+        self.write(rows)
+
+    def write(self, rows):
+        """Write the record, without what has no edit any more, unless it is so already."""
+        rows = {name: total for name, total in rows.items() if name in self.names}
+        text = "".join(sorted(f"{name.replace('/', ' ')} {total}\n" for name, total in rows.items()))
+        if text != text_of(RECORD):
+            with tempfile.NamedTemporaryFile("w", dir=RECORD.parent, delete=False, encoding="utf-8") as it:
+                it.write(text)
+            os.chmod(it.name, 0o644)
+            os.replace(it.name, RECORD)
+
+
+def chosen(edits, seed, count):
+    """Give so many of some edits, by chance, always the same for a seed."""
+    having = sorted(edits, key=lambda it: it.name)
+    return random.Random(seed).sample(having, min(count, len(having)))

@@ -1,8 +1,11 @@
 """Sums over the files of crates, by which what was proved or tried over them is known again."""
 
+import hashlib
 import subprocess
 
 from crates import CRATES, PARTS, below, uses
+
+STATED = CRATES / "dali_bench" / "out" / "libraries"
 
 
 def kit_version():
@@ -20,3 +23,12 @@ def add_files(total, name):
                 content = path.read_bytes()
                 total.update(f"{path.relative_to(CRATES)} {len(content)}\n".encode())
                 total.update(content)
+
+
+def stated_of(version, name):
+    """Give of the library that `scripts/build` built of a crate, without proofs, the file that says over which files that
+    was, the sum of those that stand there, and where it stands, for a version of the kit.
+    """
+    total = hashlib.sha256(version)
+    add_files(total, name)
+    return STATED / f"{name}.sum", total.hexdigest(), STATED / f"{name}.rlib"

@@ -205,6 +205,10 @@ old: Bare (size ∷ sizes) = Bare sizes
 new: Bare (size ∷ sizes) = Bare []
 """
 LINE_EDIT = """file: specs/Top.antt
+
+rule: kinds are weighed
+
+edit: another
 old: Weighed other = 3 ≡ 3
 new: Weighed other = base.Edited 3
 """
@@ -250,7 +254,7 @@ FILES = {
     "crates/top/src/parts.rt": PARTS,
     "crates/top_tests/src/lib.rt": TESTS,
     "crates/top/wrong-bodies/parts.edits": EDITS,
-    "crates/top/must-fail/another.edit": LINE_EDIT,
+    "crates/top/wrong-bodies/Top.edits": LINE_EDIT,
     "docs/PROMISES.md": PROMISES.format(limit=13),
 }
 
@@ -322,7 +326,6 @@ def outcomes_of_unused(root):
     told = ran(root, "unused")[1]
     yield "what tests used is unused without them", "top/src/main.rt:30 only_tested" in told
     shutil.rmtree(root / "crates" / "top" / "wrong-bodies")
-    shutil.rmtree(root / "crates" / "top" / "must-fail")
     told = ran(root, "unused")[1]
     yield "what an edit of the code names", "top/src/parts.rt:32 in_an_edit" in told
     yield "what an edit of a definition names", "low/specs/Base.antt:29 Edited" in told
@@ -340,7 +343,7 @@ def outcomes_of_where(root):
     yield "a definition", status == 0 and told == [
         "definition  crates/top/specs/Top.antt:5 Weighed, which reaches 3, of 9 lines",
         "  named by  crates/top/src/main.rt:8 law (law)",
-        "edit        top/another: must fail",
+        "edit        top/another: kinds are weighed",
     ]
     yield "a function", ran(root, "where", "Held::next") == (0, [
         "function    crates/top/src/parts.rt:9 Held::next",
@@ -349,7 +352,8 @@ def outcomes_of_where(root):
         "edit        top/most_in_an_edit: the next one is proved",
     ])
     yield "what a test names", "test        crates/top_tests/src/lib.rt:5 only_tested();" in ran(root, "where", "only_tested")[1]
-    yield "a rule", ran(root, "where", "kinds", "weighed") == (0, ["edit        top/weighed_beside_the_code: kinds are weighed"])
+    edits = [f"edit        top/{it}: kinds are weighed" for it in ("another", "weighed_beside_the_code")]
+    yield "a rule", ran(root, "where", "kinds", "weighed") == (0, edits)
     yield "a book", ran(root, "where", "most", "lines") == (0, ["book        docs/PROMISES.md:5: What has to be believed"])
     yield "nothing", ran(root, "where", "nowhere") == (1, [])
     yield "no words", ran(root, "where") == (2, [])

@@ -8,10 +8,10 @@ ghost use Rattle.dali_trace.specs.declared.happening.Happening.TheVariants.{Aske
 ghost use Rattle.dali_trace.specs.Next.{IsNext};
 ghost use Rattle.dali_drive.specs.Lines.{IsShort, IsAnswerLine, TakesLine};
 ghost use Rattle.dali_drive.specs.Transcript.{Streams, Transcript};
-ghost use Rattle.dali_drive.specs.Driven.{KeepsRecords, BrokenOff};
+ghost use Rattle.dali_drive.specs.Driven.{IsInTurn, KeepsRecords, BrokenOff};
 ghost use Rattle.dali_laws.specs.Joined.{FollowOn};
 ghost use Rattle.dali_drive.specs.Sittings.{MayHaveHappened};
-ghost use Rattle.dali_trace.specs.Worked.{empty, second_order, asked, begun};
+ghost use Rattle.dali_trace.specs.Worked.{empty, second_order, asked, taken, begun};
 ghost use Rattle.dali_trace.specs.WorkedPlans.{half_tried};
 ghost use Rattle.dali_drive.specs.WorkedDrives.{before_two, frames_turned, one_line_read, record_left_out};
 ghost use Rattle.dali_drive.specs.WorkedSittings.{second_sitting};
@@ -29,10 +29,11 @@ fn other_texts()
     ensures more_to_come { ¬ TakesLine (Some (codes "1--\n")) (Some (codes "--\n")) (Err faults.End) }
 {}
 
-// What doesn't come next, what is out of range, and what a fault can't break off.
+// What doesn't come next, out of turn or out of range, and what a fault can't break off.
 fn other_steps()
     ensures another_order { ¬ IsNext empty begun (Asked second_order 9) }
     ensures another_reply { ¬ IsNext empty asked (Answered 1 replies.Busy) }
+    ensures asked_at_work { ¬ IsInTurn empty (Asked second_order 9 ∷ taken) }
     ensures out_of_range { ¬ KeepsRecords (Kept (Opened 64) ∷ begun) }
     ensures two_steps { ¬ MayHaveHappened empty begun faults.Link half_tried }
     ensures no_memory { (rest : List (Contents × ℕ)) (old new : Streams)

@@ -2,13 +2,7 @@
 #![tactic(auto)]
 
 #[cfg(test)]
-mod by_hand;
-#[cfg(test)]
 mod driving;
-#[cfg(test)]
-mod following;
-#[cfg(test)]
-mod stops;
 #[cfg(test)]
 mod store_files;
 #[cfg(test)]

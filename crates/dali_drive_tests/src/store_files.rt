@@ -106,7 +106,8 @@ fn show_alike<S: Store, T: Store>(
 }
 
 // Makes calls on both, over these bytes, and tests that they agree, and the file at the end.
-fn judge(rt: &HostRuntime, name: &str, start: &[u8], calls: &[Call]) -> Result<(), Fail> {
+fn judge(rt: &HostRuntime, start: &[u8], calls: &[Call]) -> Result<(), Fail> {
+    let name = "store_files.bin";
     fs::write(rt, name, start)?;
     let alloc = rt.alloc();
     let mut memory = MemoryStore::new(alloc, start.to_vec(alloc)?);
@@ -126,25 +127,17 @@ fn judge(rt: &HostRuntime, name: &str, start: &[u8], calls: &[Call]) -> Result<(
 }
 
 // The same over a few bytes at the start.
-fn judge_each(rt: &HostRuntime, name: &str, calls: &[Call]) -> Result<(), Fail> {
-    judge(rt, name, b"", calls)?;
-    judge(rt, name, b"xyz", calls)?;
-    judge(rt, name, b"0123456789", calls)
+fn judge_each(rt: &HostRuntime, calls: &[Call]) -> Result<(), Fail> {
+    judge(rt, b"", calls)?;
+    judge(rt, b"xyz", calls)?;
+    judge(rt, b"0123456789", calls)
 }
 
 #[test]
-fn a_file_grows_as_memory(rt: HostRuntime) -> Result<(), Fail> {
-    judge_each(&rt, "store_files.grown", &GROWN)
-}
-
-#[test]
-fn a_file_is_cut_as_memory(rt: HostRuntime) -> Result<(), Fail> {
-    judge_each(&rt, "store_files.cut", &CUT)
-}
-
-#[test]
-fn a_file_is_replaced_as_memory(rt: HostRuntime) -> Result<(), Fail> {
-    judge_each(&rt, "store_files.replaced", &REPLACED)
+fn a_file_is_as_memory(rt: HostRuntime) -> Result<(), Fail> {
+    judge_each(&rt, &GROWN)?;
+    judge_each(&rt, &CUT)?;
+    judge_each(&rt, &REPLACED)
 }
 
 #[test]

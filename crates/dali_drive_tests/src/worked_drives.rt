@@ -4,8 +4,7 @@ ghost use Rattle.dali_frame.specs.declared.fault.LineFault.TheVariants.{Length};
 ghost use Rattle.dali_journal.specs.declared.record.Record.TheVariants.{Opened};
 ghost use Rattle.dali_trace.specs.declared.fault.DriveFault.TheVariants as faults;
 ghost use Rattle.dali_trace.specs.declared.happening.Reply.TheVariants as replies;
-ghost use Rattle.dali_write.specs.declared.pace.Pace.TheVariants.{Checked};
-ghost use Rattle.dali_trace.specs.declared.happening.Happening.TheVariants.{Asked, Answered, Kept, Stopped};
+ghost use Rattle.dali_trace.specs.declared.happening.Happening.TheVariants.{Asked, Answered, Kept};
 ghost use Rattle.dali_trace.specs.Next.{IsNext};
 ghost use Rattle.dali_drive.specs.Lines.{IsShort, IsAnswerLine, TakesLine};
 ghost use Rattle.dali_drive.specs.Transcript.{Streams, Transcript};
@@ -35,7 +34,6 @@ fn other_steps()
     ensures another_order { ¬ IsNext empty begun (Asked second_order 9) }
     ensures another_reply { ¬ IsNext empty asked (Answered 1 replies.Busy) }
     ensures asked_at_work { ¬ IsInTurn empty (Asked second_order 9 ∷ taken) }
-    ensures stopped { ¬ IsInTurn empty (Stopped Checked ∷ begun) }
     ensures out_of_range { ¬ KeepsRecords (Kept (Opened 64) ∷ begun) }
     ensures two_steps { ¬ MayHaveHappened empty begun faults.Link half_tried }
     ensures no_memory { (rest : List (Contents × ℕ)) (old new : Streams)

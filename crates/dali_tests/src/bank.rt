@@ -131,8 +131,10 @@ fn refused_values(_rt: HostRuntime) -> Result<(), Fail> {
 // A blank bank with these bytes from a location on.
 fn bank_with(first: u8, bytes: &[u8]) -> [u8; 120] {
     let mut bank = BLANK;
-    for (place, &byte) in bank.iter_mut().skip(usize::from(first)).zip(bytes) {
-        *place = byte;
+    for (i, &byte) in bytes.iter().enumerate() {
+        if let Some(place) = bank.get_mut(usize::from(first).saturating_add(i)) {
+            *place = byte;
+        }
     }
     bank
 }

@@ -37,7 +37,8 @@ fn finish<B: Bus>(bus: &mut B, session: &mut Session) -> (u32, Option<Verdict>) 
 fn a_bank_is_read(rt: HostRuntime) -> Result<(), Fail> {
     let mut bus = bus_of(rt.alloc())?;
     let mut session = Session::reading(5);
-    let is_read = finish(&mut bus, &mut session) == (119, Some(Verdict::Read));
+    let (frames, verdict) = finish(&mut bus, &mut session);
+    let is_read = frames == 119 && verdict == Some(Verdict::Read);
     let is_whole = session.bytes() == SHORT_BANK.as_slice();
     expect_that(is_read && is_whole, "the bank in 119 frames")
 }

@@ -82,9 +82,11 @@ fn judge_heard(unit: &mut Unit) -> Result<(), Fail> {
     Ok(())
 }
 
-// Whether the banks begin so.
-fn begin_with(unit: &Unit, first: &[u8], second: &[u8]) -> bool {
-    unit.bank1().starts_with(first) && unit.bank2().starts_with(second)
+// Whether the banks hold what was stored, and this lock byte.
+fn hold(unit: &Unit, lock: u8) -> bool {
+    unit.bank1()
+        .starts_with(&[0x77, 0xFF, lock, 0xAA, 0x11, 0xFF, 0x33, 0xFF])
+        && unit.bank2().starts_with(&[0x0F, 0xFF, lock, 0x22, 0xFF])
 }
 
 fn unit_of(alloc: Global) -> Result<Unit, GearFault> {
@@ -96,11 +98,11 @@ fn unit_of(alloc: Global) -> Result<Unit, GearFault> {
 fn a_unit_hears_and_loses_its_power(rt: HostRuntime) -> Result<(), Fail> {
     let mut unit = unit_of(rt.alloc())?;
     judge_heard(&mut unit)?;
-    let stored = [0x77, 0xFF, 0x55, 0xAA, 0x11, 0xFF, 0x33, 0xFF];
-    let is_stored = begin_with(&unit, &stored, &[0x0F, 0xFF, 0x55, 0x22, 0xFF]);
+    let is_stored = hold(&unit, 0x55);
     unit.power_up();
-    let kept = [0x77, 0xFF, 0xFF, 0xAA, 0x11, 0xFF, 0x33, 0xFF];
-    let is_kept = begin_with(&unit, &kept, &[0x0F, 0xFF, 0xFF, 0x22, 0xFF]);
     let is_off = unit.dtrs() == (0x00, 0x00, 0x00) && !unit.is_enabled();
-    expect_that(is_stored && is_kept && is_off, "the bytes and registers")
+    expect_that(
+        is_stored && is_off && hold(&unit, 0xFF),
+        "the bytes and registers",
+    )
 }

@@ -22,8 +22,13 @@ fn has_bytes(updates: &[(u8, u8)], bytes: &[u8]) -> bool {
     updates.len() == bytes.len()
 }
 
-// GTINs with leading zeros, an identification in digits of either case, and the most of each number.
-static VALUES: [(Field, Value<'static>, &[u8]); 15] = [
+// GTINs with few digits or leading zeros, an identification in digits of either case, and the most of each number.
+static VALUES: [(Field, Value<'static>, &[u8]); 18] = [
+    (
+        Field::Gtin,
+        Value::Digits("73513537"),
+        &[0x00, 0x00, 0x04, 0x61, 0xba, 0x41],
+    ),
     (
         Field::Gtin,
         Value::Digits("012345678905"),
@@ -44,6 +49,7 @@ static VALUES: [(Field, Value<'static>, &[u8]); 15] = [
         Value::Hex("0123456789aBcDeF"),
         &[0x01, 0x23, 0x45, 0x67, 0x89, 0xab, 0xcd, 0xef],
     ),
+    (Field::Year, Value::Number(0), &[0x00]),
     (Field::Year, Value::Number(99), &[0x63]),
     (Field::Week, Value::Number(1), &[0x01]),
     (Field::Week, Value::Number(53), &[0x35]),
@@ -51,6 +57,7 @@ static VALUES: [(Field, Value<'static>, &[u8]); 15] = [
     (Field::MinDimPower, Value::Number(65534), &[0xff, 0xfe]),
     (Field::MinVoltage, Value::Number(65534), &[0xff, 0xfe]),
     (Field::MaxVoltage, Value::Number(65534), &[0xff, 0xfe]),
+    (Field::LightOutput, Value::Number(0), &[0x00, 0x00, 0x00]),
     (
         Field::LightOutput,
         Value::Number(16777214),

@@ -11,9 +11,9 @@ static SHORT_BANK: [u8; 17] = [
 ];
 
 // A bus with unit 5, which has this bank.
-fn bus_of(alloc: Global) -> Result<SimBus, Fail> {
+fn bus_of(alloc: Global, bank: &[u8]) -> Result<SimBus, Fail> {
     let mut units = Vec::new(alloc);
-    let unit = Unit::with_bank1(alloc, 5, &SHORT_BANK, &[])?;
+    let unit = Unit::with_bank1(alloc, 5, bank, &[])?;
     units.push(unit)?;
     Ok(SimBus::new(units, Vec::new(alloc))?)
 }
@@ -32,15 +32,22 @@ fn finish<B: Bus>(bus: &mut B, session: &mut Session) -> (u32, Option<Verdict>) 
     (15_000, None)
 }
 
+// Reads a bank in so many frames.
+fn judge_reading(alloc: Global, bank: &[u8], frames: u32) -> Result<(), Fail> {
+    let mut bus = bus_of(alloc, bank)?;
+    let mut session = Session::reading(5);
+    let (taken, verdict) = finish(&mut bus, &mut session);
+    let is_read = taken == frames && verdict == Some(Verdict::Read);
+    expect_that(is_read && session.bytes() == bank, "the bytes of a bank")
+}
+
 // No command reads a whole bank by one session.
 #[test]
-fn a_bank_is_read(rt: HostRuntime) -> Result<(), Fail> {
-    let mut bus = bus_of(rt.alloc())?;
-    let mut session = Session::reading(5);
-    let (frames, verdict) = finish(&mut bus, &mut session);
-    let is_read = frames == 119 && verdict == Some(Verdict::Read);
-    let is_whole = session.bytes() == SHORT_BANK.as_slice();
-    expect_that(is_read && is_whole, "the bank in 119 frames")
+fn banks_are_read(rt: HostRuntime) -> Result<(), Fail> {
+    let mut bank = [0xA5; 255];
+    bank[0] = 0xFE;
+    judge_reading(rt.alloc(), &SHORT_BANK, 119)?;
+    judge_reading(rt.alloc(), &bank, 1785)
 }
 
 #[test]

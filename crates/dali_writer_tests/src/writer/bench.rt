@@ -8,6 +8,8 @@ const YEAR: [(u8, u8); 1] = [(0x13, 24)];
 
 const NEXT_YEAR: [(u8, u8); 1] = [(0x13, 25)];
 
+const YEAR_AND_WEEK: [(u8, u8); 2] = [(0x13, 0x18), (0x14, 0x35)];
+
 const YEAR_AND_VOLTAGE: [(u8, u8); 3] = [(0x13, 0x18), (0x19, 0x00), (0x1A, 0xDC)];
 
 // Order 1 for a unit that is then left, and order 2 for another one, twice.
@@ -63,7 +65,19 @@ static LOSSES: [Case<'static>; 6] = [
     },
 ];
 
-static ORDERS: [Case<'static>; 6] = [
+static ORDERS: [Case<'static>; 4] = [
+    Case {
+        name: "year and week",
+        deeds: &[Deed::Submit(1, 5, &YEAR_AND_WEEK), Deed::Steps(ENOUGH)],
+        answers: &[(1, TAKEN, 0), (1, DONE, 70)],
+        ..PLAIN
+    },
+    Case {
+        name: "year and voltage",
+        deeds: &[Deed::Submit(1, 5, &YEAR_AND_VOLTAGE), Deed::Steps(ENOUGH)],
+        answers: &[(1, TAKEN, 0), (1, DONE, 84)],
+        ..PLAIN
+    },
     Case {
         name: "two years, and the first one again",
         deeds: &[
@@ -95,6 +109,21 @@ static ORDERS: [Case<'static>; 6] = [
             (2, TAKEN, 144),
             (2, DONE, 297),
         ],
+        ..PLAIN
+    },
+];
+
+static STOPS: [Case<'static>; 5] = [
+    Case {
+        name: "a stop amid the writes",
+        deeds: &[
+            Deed::Fill(1, 0x3C, 0x77, 0x42),
+            Deed::Steps(240),
+            Deed::Stop(0),
+            Deed::Submit(2, 6, &GTIN),
+            Deed::Steps(ENOUGH),
+        ],
+        answers: &[(1, TAKEN, 0), (2, Reply::Busy, 238), (1, DONE, 1_099)],
         ..PLAIN
     },
     // Of the 31 bytes of Began so many don't reach the journal as a record: the order is forgotten.
@@ -146,7 +175,8 @@ static ORDERS: [Case<'static>; 6] = [
 #[test]
 fn runs_and_their_frames(rt: HostRuntime) -> Result<(), Fail> {
     judge_all(rt.alloc(), &LOSSES)?;
-    judge_all(rt.alloc(), &ORDERS)
+    judge_all(rt.alloc(), &ORDERS)?;
+    judge_all(rt.alloc(), &STOPS)
 }
 
 static LEFT_RUN: Case<'static> = Case {

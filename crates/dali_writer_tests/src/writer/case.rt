@@ -15,6 +15,8 @@ pub(crate) const DONE: Reply = Reply::Kept(Code::Done);
 pub(crate) enum Deed<'a> {
     // An order's number, unit and updates. It is submitted at the moment 0.
     Submit(u64, u8, &'a [(u8, u8)]),
+    // An order for unit 5: its number, and a byte for all places between these locations.
+    Fill(u64, u8, u8, u8),
     Steps(usize),
     Stop(u16),
     // The unit at this address loses its power.
@@ -46,6 +48,15 @@ pub(crate) const PLAIN: Case<'static> = Case {
     answers: &[(1, TAKEN, 0), (1, DONE, 112)],
 };
 
+// Updates with this byte of all places from the first location to the last one.
+fn filled(alloc: Global, first: u8, last: u8, byte: u8) -> Result<Vec<(u8, u8)>, RunFault> {
+    let mut updates = Vec::new(alloc);
+    for location in first..=last {
+        put(&mut updates, (location, byte))?;
+    }
+    Ok(updates)
+}
+
 // Puts the submission of an order at the end, where it is one.
 fn submit(
     events: &mut Vec<Event>,
@@ -65,6 +76,10 @@ pub(crate) fn events_of(alloc: Global, deeds: &[Deed<'_>]) -> Result<Vec<Event>,
     for deed in deeds {
         match *deed {
             Deed::Submit(id, unit, updates) => submit(&mut events, id, unit, updates)?,
+            Deed::Fill(id, first, last, byte) => {
+                let updates = filled(alloc, first, last, byte)?;
+                submit(&mut events, id, 5, &updates)?;
+            }
             Deed::Steps(count) => {
                 for _ in 0..count {
                     put(&mut events, Event::Step)?;

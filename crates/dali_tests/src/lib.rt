@@ -10,8 +10,6 @@ mod frame;
 #[cfg(test)]
 mod gear;
 #[cfg(test)]
-mod gtin;
-#[cfg(test)]
 mod journal;
 #[cfg(test)]
 mod write;

@@ -3,9 +3,7 @@ ghost use Rattle.dali_bus.specs.Carry.{Carry};
 ghost use Rattle.dali_write.specs.LoneUnit.{lone_unit};
 
 use dali_frame::Frame;
-use dali_gear::{Bus, laws};
-use dali_shared_tests::expect_that;
-use std::test::Fail;
+use dali_gear::Bus;
 
 // A bus that owes nothing to the simulated one. Its unit, at 9, has a bank 0 and a bank 1, each with location 00h
 // alone; it hears DTR0 and DTR1, the queries of both and the read, and no other frame, and never answers where there
@@ -69,55 +67,4 @@ impl Bus for TestBus {
             self.dtr0 = 0;
         }
     }
-}
-
-// The answer to the last of the frames.
-fn last_answer<B: Bus>(bus: &mut B, frames: &[Frame]) -> Option<u8> {
-    let mut answer = None;
-    for frame in frames {
-        answer = if frame.is_proper() {
-            bus.carry(frame)
-        } else {
-            None
-        };
-    }
-    answer
-}
-
-// The unit at an address loses its power.
-fn lose_power<B: Bus>(bus: &mut B, address: u8) {
-    bus.power(address);
-}
-
-const ANSWERS: [([Frame; 2], Option<u8>); 10] = [
-    ([Frame::Dtr0(0x07), Frame::AskDtr0(9)], Some(0x07)),
-    ([Frame::Dtr0(0x08), Frame::AskDtr0(5)], None),
-    ([Frame::Dtr1(0x01), Frame::AskDtr0(9)], Some(0x08)),
-    ([Frame::AskDtr0(9), Frame::AskDtr1(9)], Some(0x01)),
-    ([Frame::AskDtr1(9), Frame::Read(9)], None),
-    ([Frame::Dtr0(0x00), Frame::Read(9)], Some(0x77)),
-    ([Frame::Dtr1(0x00), Frame::Read(9)], None),
-    ([Frame::Dtr0(0x00), Frame::Read(9)], Some(0x02)),
-    ([Frame::Dtr1(0x01), Frame::AskDtr0(9)], Some(0x01)),
-    ([Frame::Dtr0(0x08), Frame::AskDtr2(9)], None),
-];
-
-#[test]
-fn a_bus_of_ones_own(_rt: HostRuntime) -> Result<(), Fail> {
-    let mut bus = TestBus {
-        dtr1: 0x00,
-        dtr0: 0x00,
-    };
-    for (frames, answer) in &ANSWERS {
-        expect_that(last_answer(&mut bus, frames) == *answer, "the answer")?;
-    }
-    lose_power(&mut bus, 8);
-    expect_that(
-        bus.dtr1 == 0x01 && bus.dtr0 == 0x08,
-        "the registers as they were",
-    )?;
-    lose_power(&mut bus, 9);
-    expect_that(bus.dtr1 == 0x00 && bus.dtr0 == 0x00, "the registers at 00h")?;
-    laws::chains_of_a_bus_are_chains_of_its_worlds::<TestBus>();
-    Ok(())
 }

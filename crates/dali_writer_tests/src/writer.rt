@@ -1,11 +1,6 @@
 mod bank_0;
 mod bench;
-pub(crate) mod case;
-mod gtin;
-mod hostile_bus;
-mod limits;
-mod losses;
-mod moments;
+mod case;
 mod power;
 mod stops;
 mod submits;

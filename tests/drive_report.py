@@ -76,6 +76,18 @@ class Wrong(simulated_link.Unit):
         return byte ^ 0xFF if here and byte is not None else byte
 
 
+class Lying(simulated_link.Unit):
+    """A unit that tells another byte for one that it answers to a frame."""
+
+    def __init__(self, word, told):
+        super().__init__(5, BLANK)
+        self.word, self.told = word, told
+
+    def hear(self, word, refusing=False):
+        answer = super().hear(word, refusing)
+        return self.told if (word, answer) == (self.word, 0x03) else answer
+
+
 def gone(first, count=5000):
     """Give a bus with a blank unit that hears nothing from a frame on, for so many frames."""
     return blank_bus(5, lost_frames=range(first, first + count))
@@ -216,6 +228,16 @@ class ReportTest(BenchTest):
                 # What is known from before has no cause.
                 desk.over(blank_bus(5))
                 self.assertEqual((number, lines_of(path, 2)[0]["cause"]), (number, None))
+
+    def test_bytes_that_are_told_otherwise(self):
+        # Worked by hand: of the GTIN's first byte, 03h, its write is answered by 04h, or its read by 00h.
+        for word, told, frames in [(0xC703, 0x04, 84), (0x0BC5, 0x00, 91)]:
+            place = self.folder / f"{word:04X}"
+            place.mkdir()
+            desk, bus = desk_of(place, PRESENT), one(Lying(word, told))
+            ended = desk.over(bus)
+            self.assertEqual((ended.status, bus.frames, ended.told.split("\n")[1:]),
+                             (0, frames, ["reply 1 kept 4 Doubt", ""]))
 
     def test_a_left_unit_and_the_order_that_it_blocks(self):
         desk, bus = desk_of(self.folder, LEFT.orders[:1]), LEFT.bus()

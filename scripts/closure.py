@@ -191,7 +191,7 @@ class Closures:
     def of_edit(self, edit, more):
         """Give the sum, with a text, of an edit, of what refuses it and of what that hangs on; None where it can't be told."""
         crate = edit.crate.name
-        roots = {self.refuser(crate, it) for it in edit.functions or {edit.by or ""}}
+        roots = {self.refuser(crate, it) for it in edit.functions or edit.by or [""]}
         for (file, line), text in edit.lines.items():
             roots |= {self.at_line(edit.crate / file, line), *self.named_by_line(edit.crate / file, line, text)}
         return None if None in roots else self.sum_of(crate, roots, edit.sum + more)

@@ -11,9 +11,9 @@ A file `writer.edits` has the edits that begin in one file, which its first line
     new: what stands there in the edit
 
 An edit has as many pairs of texts as it needs. A line `file: PATH` before a pair moves on to another file of the crate,
-and a line `by: FUNCTION` names a function that refuses the edit, where its lines aren't within functions, or `by:
-FILE.FACT` a lemma of `proofs/FILE.antt`. (The kit's own form, must-fail, has no edit here: for each crate that has one
-`rt ci` proves the crate once more.)
+and a line `by: NAME` or `by: NAME, NAME` tells what refuses the edit, where its lines aren't within functions: a function,
+as `writer::Writer::want`, or a lemma behind the name of its file, as `WorkedLemmas.not_enabled`. (The kit's own form,
+must-fail, has no edit here: for each crate that has one `rt ci` proves the crate once more.)
 """
 
 import collections
@@ -38,7 +38,7 @@ class Edit:
 
     def __init__(self, crate, name, rule, rows):
         self.crate, self.name, self.rule = crate, f"{crate.name}/{name}", rule
-        self.lines, self.pairs, self.by = {}, [], None
+        self.lines, self.pairs, self.by = {}, [], []
         self.sum = hashlib.sha256("\n".join(": ".join(it) for it in rows).encode()).hexdigest()
         self.why = self.read(rows)
         found = {function_at(self.crate / file, line) for file, line in self.lines}
@@ -50,7 +50,7 @@ class Edit:
         texts, file, old = {}, None, None
         for word, rest in rows:
             if word == "by":
-                self.by = rest
+                self.by = rest.split(", ")
             elif word == "file":
                 file = rest
             elif word == "old":
@@ -71,11 +71,11 @@ class Edit:
 
     def asked(self):
         """Give the functions that a check has to prove of it, none where that is the whole crate."""
-        return self.functions or ({self.by} if self.by and "." not in self.by else set())
+        return self.functions or {it for it in self.by if "." not in it}
 
     def refusers(self):
         """Give the ends of the names of what refuses it: the functions that it changes, or what it names."""
-        return self.functions or ({self.by, self.by.partition("::")[2]} if self.by else set())
+        return self.functions or {*self.by, *(it.partition("::")[2] for it in self.by)}
 
 
 def all_edits():

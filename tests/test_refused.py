@@ -116,7 +116,7 @@ def judged(root, scripts):
         yield f"an edit of code, {name}", is_so
         checks = Recorded(scripts, said)
         told = checks.judged(crate, root, [of_a_limit])
-        wanted = [({of_a_limit.by}, False)] + ([] if name == REFUSED_THERE else [((), False)])
+        wanted = [(set(of_a_limit.by), False)] + ([] if name == REFUSED_THERE else [((), False)])
         yield f"an edit of a limit, {name}", checks.asked == wanted and told[0].is_refused == is_refused
 
 

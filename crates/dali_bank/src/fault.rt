@@ -4,7 +4,7 @@ use std::error::Error;
 use std::fmt;
 
 /// Why a draft was refused. Of several faults the one with the lowest number is told (profile).
-#[derive(Clone, Copy, Debug, PartialEq, Eq, Hash)]
+#[derive(Clone, Copy, Debug, PartialEq, Eq)]
 pub enum BankFault {
     /// The unit's short address is over 63.
     Unit = 1,

@@ -2,7 +2,7 @@
 pub(crate) const FIELDS: usize = 14;
 
 /// A field of memory bank 1 that an order may write (IEC 62386-251, content format 0003h).
-#[derive(Clone, Copy, Debug, PartialEq, Eq, Hash)]
+#[derive(Clone, Copy, PartialEq, Eq)]
 pub enum Field {
     /// The global trade item number of the luminaire.
     Gtin,
@@ -35,7 +35,7 @@ pub enum Field {
 }
 
 /// What values a field takes, and how they are spelled.
-#[derive(Clone, Copy, Debug, PartialEq, Eq)]
+#[derive(Clone, Copy)]
 pub(crate) enum Form {
     /// The digits of a GTIN, as one number.
     Gtin,
@@ -59,7 +59,7 @@ impl Form {
 }
 
 /// A field's row of the layout: where it begins, how many bytes it has, and what it takes.
-#[derive(Clone, Copy, Debug, PartialEq, Eq)]
+#[derive(Clone, Copy)]
 pub(crate) struct Row {
     pub first: u8,
     pub length: u8,

@@ -8,7 +8,7 @@ use crate::spelling::{are_all, big_endian_number};
 use crate::text::text_length;
 
 /// How the bytes of a field in a memory bank are shown (profile).
-#[derive(Clone, Copy, Debug, PartialEq, Eq, Hash)]
+#[derive(Clone, Copy, PartialEq, Eq)]
 pub enum Shown {
     /// The bank ends before the field's last byte.
     Absent,

@@ -1,5 +1,5 @@
 /// A value that an order gives to a field.
-#[derive(Clone, Copy, Debug)]
+#[derive(Clone, Copy)]
 pub enum Value<'a> {
     /// FFh in every byte. Each field takes it.
     Unknown,

@@ -30,7 +30,7 @@ pub enum BehindFault {
 }
 
 /// What a drive goes by (profile).
-#[derive(Clone, Copy, Debug, PartialEq, Eq)]
+#[derive(Clone, Copy, PartialEq, Eq)]
 pub struct Terms {
     /// The journal has at most so many orders, 1 to 100000,
     pub orders: u32,

@@ -5,7 +5,7 @@ ghost use Rattle.dali_drive.specs.Surveys.{sought_course};
 use dali_read::Places;
 
 /// What a scan reads of each unit (profile).
-#[derive(Clone, Copy, Debug, PartialEq, Eq)]
+#[derive(Clone, Copy, PartialEq, Eq)]
 pub enum Sought {
     /// The last location of its memory bank 1.
     Last,

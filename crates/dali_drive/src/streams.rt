@@ -6,7 +6,7 @@ ghost use Rattle.dali_drive.specs.Streams.{TakesOneByte, Puts, PutsFirst, Flushe
 use std::io::ErrorKind;
 
 /// What a source gives for a byte (profile).
-#[derive(Clone, Copy, Debug, PartialEq, Eq)]
+#[derive(Clone, Copy, PartialEq, Eq)]
 pub enum Got {
     /// The next byte.
     Byte(u8),

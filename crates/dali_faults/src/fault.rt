@@ -8,7 +8,7 @@ use dali_trace::{DriveFault, RunFault};
 use thiserror::Error;
 
 /// How a command ended.
-#[derive(Clone, Copy, Debug, PartialEq, Eq)]
+#[derive(Clone, Copy, PartialEq, Eq)]
 pub enum Status {
     /// Done, and nothing was refused.
     Good,

@@ -19,7 +19,7 @@ use dali_text::{Output, OutputFailed};
 use std::io::Write;
 
 /// What a journal says of an order before it is driven (profile).
-#[derive(Clone, Copy, Debug, PartialEq, Eq)]
+#[derive(Clone, Copy, PartialEq, Eq)]
 pub enum Known {
     /// It has ended this same order so. Closed: its unit was left open, and was closed since.
     Kept(Code, bool),

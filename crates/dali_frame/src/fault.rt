@@ -5,7 +5,7 @@ use std::error::Error;
 use std::fmt;
 
 /// Why a line is no answer (profile).
-#[derive(Clone, Copy, Debug, PartialEq, Eq, Hash)]
+#[derive(Clone, Copy, Debug, PartialEq, Eq)]
 pub enum LineFault {
     /// 1: the line hasn't two bytes.
     Length = 1,

@@ -28,7 +28,7 @@ const READ_MEMORY_LOCATION: u8 = 0xC5;
 ///
 /// The first five are special commands, which every unit hears, and hold an operand, 0 to 255. The
 /// next five are commands to one unit, and hold its short address, 0 to 63.
-#[derive(Clone, Copy, Debug, PartialEq, Eq, Hash)]
+#[derive(Clone, Copy, PartialEq, Eq)]
 pub enum Frame {
     /// DTR0: the operand becomes DTR0, the memory location (special commands).
     Dtr0(u8),

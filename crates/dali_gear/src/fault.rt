@@ -5,7 +5,7 @@ use std::error::Error;
 use std::fmt;
 
 /// Why no unit or bus was made. Of several faults the one with the lowest number is told (profile).
-#[derive(Clone, Copy, Debug, PartialEq, Eq, Hash)]
+#[derive(Clone, Copy, Debug, PartialEq, Eq)]
 pub enum GearFault {
     /// The short address is over 63.
     Address = 1,

@@ -9,7 +9,7 @@ ghost use Rattle.dali_input.specs.Keys.{text_of};
 use dali_bank::Field;
 
 /// What a key of an order object names.
-#[derive(Clone, Copy, Debug)]
+#[derive(Clone, Copy)]
 pub enum Key {
     /// The order's number.
     Order,

@@ -40,7 +40,7 @@ pub struct UnitPlan {
 }
 
 /// A fate, and how many frames in a row have it, 1 to 20000 (profile).
-#[derive(Clone, Copy, Debug, PartialEq, Eq)]
+#[derive(Clone, Copy, PartialEq, Eq)]
 pub struct FatePlan {
     /// How many frames in a row have it.
     pub times: u32,

@@ -12,7 +12,7 @@ use clap::{ArgMatches, Command, Error};
 use std::alloc::{AllocError, Global};
 
 /// What the command line asks for.
-#[derive(Drop, Debug, PartialEq, Eq)]
+#[derive(Drop, PartialEq, Eq)]
 pub enum Job<'a> {
     /// To check a file of orders. `journal` is the one, if any is to be asked, that tells what it says of each order,
     /// behind the `older` ones, in the order in which they were given.

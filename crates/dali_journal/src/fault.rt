@@ -7,7 +7,7 @@ use std::fmt;
 /// Why there is no journal (profile). A place is that of a record's first byte. Of several faults the
 /// first record's is told, and of these the one with the lowest number; `Limit` comes before all, and
 /// then `Header`.
-#[derive(Clone, Copy, Debug, PartialEq, Eq, Hash)]
+#[derive(Clone, Copy, Debug, PartialEq, Eq)]
 pub enum JournalFault {
     /// The limit is 0 or over 100000.
     Limit,
@@ -65,7 +65,7 @@ impl fmt::Display for JournalFault {
 impl Error for JournalFault {}
 
 /// There was no memory. The journal is as it was.
-#[derive(Clone, Copy, Debug, PartialEq, Eq, Hash)]
+#[derive(Clone, Copy, Debug, PartialEq, Eq)]
 pub struct NoMemory;
 
 impl fmt::Display for NoMemory {

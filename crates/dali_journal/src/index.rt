@@ -15,7 +15,7 @@ use indexmap::IndexMap;
 use std::alloc::AllocFailed;
 
 /// What the index tells of an order's number: where its `Began` stands, and how it ended.
-#[derive(Clone, Copy, Debug, PartialEq, Eq)]
+#[derive(Clone, Copy, PartialEq, Eq)]
 pub enum IndexEntry {
     /// No order of this number was begun.
     NotBegun,

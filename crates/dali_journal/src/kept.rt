@@ -13,7 +13,7 @@ pub enum Kept {
 }
 
 /// How far an order has come, as the definitions of journals and writers tell it (profile).
-#[derive(Clone, Copy, Debug, PartialEq, Eq)]
+#[derive(Clone, Copy, PartialEq, Eq)]
 pub enum Progress {
     /// The order was begun.
     Begun,

@@ -13,7 +13,7 @@ use std::fmt;
 pub(crate) const MOST_BYTES: usize = 249;
 
 /// How an order ended (profile).
-#[derive(Clone, Copy, Debug, PartialEq, Eq, Hash)]
+#[derive(Clone, Copy, PartialEq, Eq)]
 pub enum Code {
     /// Each update's location was read back and held its byte, and the unit was closed.
     Done = 0,

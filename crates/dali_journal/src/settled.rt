@@ -10,7 +10,7 @@ use crate::record::Code;
 use indexmap::IndexMap;
 
 /// An order that has ended: its number, where its `Began` stands, and how it ended.
-#[derive(Clone, Copy, Debug, PartialEq, Eq)]
+#[derive(Clone, Copy, PartialEq, Eq)]
 pub struct Settled {
     pub id: u64,
     pub at: usize,

@@ -3,7 +3,7 @@ ghost use Rattle.dali_journal.specs.Spelling.{version_number};
 ghost use Rattle.dali_journal.specs.Decoding.{head_length};
 
 /// How a journal's bytes are written (profile).
-#[derive(Clone, Copy, Debug, PartialEq, Eq, Hash)]
+#[derive(Clone, Copy, PartialEq, Eq)]
 pub enum Version {
     /// No header, and no moments: each is 0.
     One,

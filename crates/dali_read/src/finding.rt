@@ -6,7 +6,7 @@ use dali_bank::Order;
 use dali_write::greatest_location;
 
 /// How the memory bank 1 of an order's unit stands to the order (profile).
-#[derive(Clone, Copy, Debug, PartialEq, Eq, Hash)]
+#[derive(Clone, Copy, PartialEq, Eq)]
 pub enum Finding {
     /// Each location that the order writes holds the order's byte.
     Same,

@@ -3,7 +3,7 @@ ghost use Rattle.std.specs.Prelude.{◌≡◌, ◌&&◌, Bool, false, true};
 ghost use Rattle.dali_report.specs.Outcomes.{outcome_by};
 
 /// What the last replies of a drive come to.
-#[derive(Clone, Copy, Debug, PartialEq, Eq)]
+#[derive(Clone, Copy, PartialEq, Eq)]
 pub enum Outcome {
     /// No order had its last reply.
     Nothing,

@@ -29,7 +29,7 @@ const UNWRAPPED: &str = "\x1B[?7l";
 const WRAPPED: &str = "\x1B[?7h";
 
 /// Of what a person watches how far it is.
-#[derive(Clone, Copy, Debug, PartialEq, Eq)]
+#[derive(Clone, Copy, PartialEq, Eq)]
 pub enum Watched {
     /// Orders are carried out by this plan.
     Drive(Pace),

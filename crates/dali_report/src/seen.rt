@@ -14,7 +14,7 @@ use std::alloc::{AllocError, Global};
 pub const LINE_LIMIT: usize = 2048;
 
 /// What a line of a file is to a report.
-#[derive(Clone, Copy, Debug, PartialEq, Eq)]
+#[derive(Clone, Copy, PartialEq, Eq)]
 pub enum Seen {
     /// A line of this run; 0 where it tells none, as one of an earlier version.
     Line(u64),

@@ -5,7 +5,7 @@ ghost use Rattle.std.specs.Prelude.{◌≡◌, IfOk, IfErr, true, false};
 
 mod gtin;
 
-pub use gtin::{GTIN, GTIN_RECORDS, HEADER};
+pub use gtin::GTIN;
 use std::alloc::AllocError;
 use std::test::Fail;
 

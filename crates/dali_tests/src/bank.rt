@@ -1,5 +1,5 @@
 // Values at the edges of their fields. The bytes of values amid them are in examples/check.cases.
-use dali_bank::{BLANK, BankFault, Draft, Field, Order, Shown, Value, laws, read_field};
+use dali_bank::{BLANK, BankFault, Draft, Field, Order, Shown, Value, read_field};
 use dali_shared_tests::expect_that;
 use std::test::Fail;
 
@@ -174,10 +174,4 @@ fn bytes_as_they_are_shown(_rt: HostRuntime) -> Result<(), Fail> {
         expect_that(read_field(&bank, field) == shown, "how each field is shown")?;
     }
     Ok(())
-}
-
-#[test]
-fn laws_do_nothing() {
-    laws::set_values_are_shown();
-    laws::fields_are_shown_once();
 }

@@ -6,7 +6,7 @@ mod loading;
 mod reading;
 
 use dali_bank::Order;
-use dali_journal::{Code, Journal, JournalFault, NoMemory, Record, laws};
+use dali_journal::{Code, Journal, JournalFault, NoMemory, Record};
 use dali_shared_tests::{GTIN, expect_that};
 use std::alloc::Global;
 use std::test::Fail;
@@ -109,16 +109,4 @@ fn a_refused_growth_changes_nothing(rt: HostRuntime) -> Result<(), Fail> {
         return Err(NoMemory.into());
     }
     Ok(())
-}
-
-#[test]
-fn laws_hold(_rt: HostRuntime) {
-    laws::sentences_are_groups();
-    laws::kept_is_in_the_groups();
-    laws::moments_are_kept();
-    laws::no_record_begins_another();
-    laws::bytes_begin_with_one_piece();
-    laws::torn_journals_have_no_fault();
-    laws::journals_load_again();
-    laws::bytes_have_one_fault();
 }

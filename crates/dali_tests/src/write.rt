@@ -1,6 +1,6 @@
 use dali_gear::{Bus, SimBus, Unit};
 use dali_shared_tests::expect_that;
-use dali_write::{Ask, Session, Verdict, laws};
+use dali_write::{Ask, Session, Verdict};
 use std::alloc::Global;
 use std::test::Fail;
 
@@ -48,32 +48,4 @@ fn banks_are_read(rt: HostRuntime) -> Result<(), Fail> {
     bank[0] = 0xFE;
     judge_reading(rt.alloc(), &SHORT_BANK, 119)?;
     judge_reading(rt.alloc(), &bank, 1785)
-}
-
-#[test]
-fn laws_hold(_rt: HostRuntime) {
-    laws::simulated_runs_are_runs();
-    laws::sessions_follow_their_plans();
-    laws::sessions_send_few_frames();
-    laws::checked_reads_are_true();
-    laws::guarded_writes_are_safe();
-    laws::verdicts_are_true();
-    laws::readers_are_quiet();
-    laws::sessions_touch_their_places_alone();
-    laws::tries_miss_by_losses();
-    laws::accesses_outlive_losses();
-    laws::done_sessions_take_exactly();
-    laws::sessions_take_exactly();
-    laws::sessions_give_up_late();
-    laws::doubts_have_a_cause();
-    laws::successful_writes_are_stored();
-    laws::accesses_keep_the_bank();
-    laws::apart_units_are_alone();
-    laws::wants_are_determined();
-    laws::each_frame_was_wanted();
-    laws::still_reads_are_true();
-    laws::verdicts_rest_on_reads();
-    laws::sessions_end_by_their_kind();
-    laws::wanted_frames_are_guarded();
-    laws::unreached_units_were_not_read();
 }

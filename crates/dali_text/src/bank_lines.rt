@@ -11,7 +11,7 @@ use dali_bank::{Field, Shown, read_field};
 use std::io::Write;
 
 /// A row of what is told of a memory bank.
-#[derive(Clone, Copy, Debug, PartialEq, Eq)]
+#[derive(Clone, Copy, PartialEq, Eq)]
 pub enum Row {
     /// The last location of the bank, as the bank tells it.
     Last,

@@ -7,7 +7,7 @@ use std::fmt;
 use std::io::Write;
 
 /// The two upper-case hexadecimal digits of a byte.
-#[derive(Clone, Copy, Debug)]
+#[derive(Clone, Copy)]
 pub struct ByteDigits(pub u8);
 
 impl fmt::Display for ByteDigits {
@@ -24,7 +24,7 @@ impl fmt::Display for ByteDigits {
 }
 
 /// The four upper-case hexadecimal digits of a word.
-#[derive(Clone, Copy, Debug)]
+#[derive(Clone, Copy)]
 pub struct WordDigits(pub u16);
 
 impl fmt::Display for WordDigits {

@@ -7,7 +7,7 @@ use std::error::Error;
 use std::fmt;
 
 /// Why a run didn't come to its end (profile).
-#[derive(Clone, Copy, Debug, PartialEq, Eq, Hash)]
+#[derive(Clone, Copy, Debug, PartialEq, Eq)]
 pub enum RunFault {
     /// The limit is 0 or over 100000. Nothing was done.
     Limit = 1,
@@ -64,7 +64,7 @@ impl From<AllocError> for RunFault {
 
 /// Why a drive didn't come to its end (profile). What goes on is a new writer, from the journal that is loaded from the
 /// records' bytes.
-#[derive(Clone, Copy, Debug, PartialEq, Eq, Hash)]
+#[derive(Clone, Copy, Debug, PartialEq, Eq)]
 pub enum DriveFault {
     /// 1: the sink of the journal failed.
     Journal,

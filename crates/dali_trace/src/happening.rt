@@ -10,7 +10,7 @@ use std::fmt;
 ///
 /// At once the first of `Kept`, `IdReused`, `Busy`, `Full` and `Taken` is given that applies: the one
 /// with the lowest number. `Kept` and `Blocked` are also said later, of an order that was taken.
-#[derive(Clone, Copy, Debug, PartialEq, Eq, Hash)]
+#[derive(Clone, Copy, PartialEq, Eq)]
 pub enum Reply {
     /// 5: the order will be carried out.
     Taken,

@@ -10,7 +10,7 @@ use crate::request::{Request, Wish};
 use dali_frame::Frame;
 
 /// An access to bank 1: a read of a block, or a checked write of a byte to a location.
-#[derive(Clone, Copy, Debug, PartialEq, Eq)]
+#[derive(Clone, Copy)]
 pub(crate) enum Access {
     ReadFrom(Block),
     WriteTo(u8, u8),

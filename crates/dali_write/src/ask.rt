@@ -1,7 +1,7 @@
 use dali_frame::Frame;
 
 /// How a session ended (profile).
-#[derive(Clone, Copy, Debug, PartialEq, Eq, Hash)]
+#[derive(Clone, Copy, PartialEq, Eq)]
 pub enum Verdict {
     /// A fresh session: the unit's bank 1 is long enough for the order, and has the content format
     /// 0003h where the order needs it.
@@ -29,7 +29,7 @@ pub enum Verdict {
 }
 
 /// Why a session came to no good end (profile): its first access that failed, or that read another byte back.
-#[derive(Clone, Copy, Debug, PartialEq, Eq, Hash)]
+#[derive(Clone, Copy, PartialEq, Eq)]
 pub enum Cause {
     /// Each try of a read missed: of the location, or of the row of locations that begins there.
     Unread(u8),
@@ -40,7 +40,7 @@ pub enum Cause {
 }
 
 /// What a session wants (profile).
-#[derive(Clone, Copy, Debug, PartialEq, Eq, Hash)]
+#[derive(Clone, Copy, PartialEq, Eq)]
 pub enum Ask {
     /// This frame is to be sent.
     Send(Frame),

@@ -10,7 +10,7 @@ use dali_frame::Frame;
 ///
 /// A *block read* selects the first location as a checked read does, reads so many times, and asks both registers back:
 /// DTR0 has moved on by that many, and DTR1 is 01h still. That of one location is the checked read.
-#[derive(Clone, Copy, Debug, PartialEq, Eq)]
+#[derive(Clone, Copy, PartialEq, Eq)]
 pub struct Block {
     /// The first location.
     pub location: u8,

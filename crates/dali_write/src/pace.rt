@@ -1,6 +1,6 @@
 /// By which plan an order is carried out (profile). Both ask DTR1 and DTR0 back before each write, and read back all
 /// that was written.
-#[derive(Clone, Copy, Debug, PartialEq, Eq, Hash)]
+#[derive(Clone, Copy, PartialEq, Eq)]
 pub enum Pace {
     /// Each write enables its unit by two frames, and each location is read by itself.
     Checked,

@@ -4,7 +4,7 @@ ghost use Rattle.dali_write.specs.Requests.{Meets};
 use dali_frame::Frame;
 
 /// The answer that a frame of a try wants (profile).
-#[derive(Clone, Copy, Debug, PartialEq, Eq)]
+#[derive(Clone, Copy, PartialEq, Eq)]
 pub enum Wish {
     /// None: one that comes is passed over.
     Nothing,
@@ -28,7 +28,7 @@ impl Wish {
 }
 
 /// A frame of a try, with the answer that it wants (profile).
-#[derive(Clone, Copy, Debug, PartialEq, Eq)]
+#[derive(Clone, Copy, PartialEq, Eq)]
 pub struct Request {
     /// The frame.
     pub frame: Frame,

@@ -135,7 +135,7 @@ fn read_at(location: u8) -> Access
 }
 
 /// What a session is about to do.
-#[derive(Clone, Copy, Debug, PartialEq, Eq)]
+#[derive(Clone, Copy)]
 pub(crate) enum Stage {
     ReadLength,
     ReadFormat,

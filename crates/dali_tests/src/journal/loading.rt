@@ -1,5 +1,5 @@
 use super::{BEGAN, HEADER, NEXT, OLD_BOTH};
-use dali_journal::Journal;
+use dali_journal::{Journal, Version};
 use dali_shared_tests::expect_that;
 use std::alloc::Global;
 use std::test::Fail;
@@ -68,7 +68,8 @@ fn bytes_of(alloc: Global, text: &str) -> Result<Vec<u8>, Fail> {
 fn load(alloc: Global, limit: u32, text: &str) -> Result<String, Fail> {
     let bytes = bytes_of(alloc, text)?;
     Ok(match Journal::load(alloc, limit, &bytes) {
-        Ok((_, len, version)) => format!(in alloc; "{version:?} {len}")?,
+        Ok((_, len, Version::One)) => format!(in alloc; "One {len}")?,
+        Ok((_, len, Version::Two)) => format!(in alloc; "Two {len}")?,
         Err(fault) => format!(in alloc; "{fault:?}")?,
     })
 }

@@ -71,6 +71,12 @@ def helped(root, scripts):
     yield "then somebody does", next_of([work]) is work
     scripts.begin(work.checked, root / "begun")
     yield "and begins from what was checked", (root / "begun" / "it.oantt").read_text(encoding="utf-8") == "checked"
+    yield "edits of functions need no check of the whole crate", not work.has_facts()
+    facts = [it for it in edits_in(root / "crates" / CYCLE / "wrong-bodies" / "bank_text.edits") if not it.functions]
+    for it in facts:
+        it.by = ["WorkedItemsLemmas.fact"]
+    several = scripts.Work(CYCLE, facts[:1] * 3)
+    yield "several that facts refuse do", several.has_facts() and not scripts.Work(CYCLE, facts[:1] * 2).has_facts()
     work.workers = len(work.rounds)
     yield "as long as each has a round", next_of([work]) is None
 

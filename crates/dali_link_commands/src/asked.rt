@@ -18,7 +18,7 @@ use std::fs::{File, Files};
 use std::io::Read;
 
 /// Why the journal of an input can't be asked.
-#[derive(Clone, Copy, Debug, PartialEq, Eq)]
+#[derive(Clone, Copy)]
 pub enum AskedFault {
     /// Its bytes can't be read, or are no journal's.
     Unloaded(Fault),

@@ -18,7 +18,7 @@ use std::io::{ErrorKind, Read};
 use std::{fs, io};
 
 /// Why a file can't be used as an older journal.
-#[derive(Clone, Copy, Debug, PartialEq, Eq)]
+#[derive(Clone, Copy, PartialEq, Eq)]
 pub enum OlderFault {
     /// Its bytes can't be read, or are no journal's.
     Unloaded(Fault),
@@ -79,7 +79,7 @@ pub fn joined_behind(
 }
 
 /// Which of the inputs can't be used as an older journal, counted from 0, and why.
-#[derive(Clone, Copy, Debug, PartialEq, Eq)]
+#[derive(Clone, Copy, PartialEq, Eq)]
 pub struct Unusable {
     pub index: usize,
     pub fault: OlderFault,

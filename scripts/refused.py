@@ -27,8 +27,12 @@ class Refused:
     def __init__(self, edits):
         self.more = f"{FORM} {kit_version().decode()}"
         self.closures = Closures()
-        self.names = {it.name for it in edits}
+        self.names, self.first = {it.name for it in edits}, text_of(RECORD)
         self.wide = {name: self.wide_sum(name) for name in {it.crate.name for it in edits}}
+
+    def has_changed(self):
+        """Tell whether the record is another one than at first."""
+        return text_of(RECORD) != self.first
 
     def tidy(self):
         """Drop what has no edit any more."""

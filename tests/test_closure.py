@@ -11,6 +11,7 @@ import importlib.util
 import io
 import pathlib
 import shutil
+import subprocess
 import sys
 import tempfile
 
@@ -232,6 +233,16 @@ old:     twice()
 new:     twice() + 1
 """,
 }
+# Tells of the edits whose functions and facts aren't found.
+NAMED_BY = """
+from closure import Closures
+from edits import all_edits
+
+closures = Closures()
+named = [it for it in all_edits() if it.functions or it.by]
+print([it.name for it in named if closures.of_edit(it, "") is None])
+"""
+CHANGED = "refused.txt has changed: commit it with what it is of"
 MIDS = ("twice", "attributed", "of_held", "weighed", "uncalled")
 ALL = {"low/size", *(f"mid/{it}" for it in (*MIDS, "fact", "by_function", "by_nothing")), "top/again"}
 # Of what nothing names, all that is known is the crate and those below.
@@ -350,10 +361,13 @@ def after_runs(root, scripts):
     status, told, tried = scripts.run()
     yield "what isn't in the record is tried", (status, told[-1], tried) == (0, "10 passed, 0 failed", ALL)
     yield "and known from then on", not scripts.unknown()
+    yield "which is told", CHANGED in told
     lines = record.read_text(encoding="utf-8").split("\n")
     yield "the record is sorted, a line an edit", lines == sorted(lines[:-1]) + [""] and len(lines) == 11
     yield "crate, name and sum", [it.split(" ")[:2] for it in lines[:2]] == [["low", "size"], ["mid", "attributed"]]
-    yield "a crate that is named has no sample", scripts.run("low", "mid")[2] == set()
+    status, told, tried = scripts.run("low", "mid")
+    yield "a crate that is named has no sample", tried == set()
+    yield "and the record is as it was", CHANGED not in told
     yield "all are tried where that is asked", scripts.run("--all", "low")[2] == {"low/size"}
     scripts.wrong_bodies.SAMPLE = 2
     first, again = scripts.run("--seed", "a"), scripts.run("--seed", "a")
@@ -390,9 +404,19 @@ def changed_meanwhile(root, scripts):
     path.write_text(text, encoding="utf-8")
 
 
+def of_this_repository():
+    """Give what is tested of the edits of this repository, and whether it is so."""
+    ended = subprocess.run([sys.executable, "-B", "-c", NAMED_BY], cwd=ROOT / "scripts", capture_output=True, text=True)
+    yield f"what an edit names is there: {ended.stdout}{ended.stderr}", (ended.returncode, ended.stdout) == (0, "[]\n")
+
+
 def main():
     """Test, tell what failed, and return the status."""
     passed = failed = 0
+    for name, is_so in of_this_repository():
+        passed, failed = passed + bool(is_so), failed + (not is_so)
+        if not is_so:
+            print(f"FAILED: what an edit hangs on: {name}")
     with tempfile.TemporaryDirectory() as folder:
         root = pathlib.Path(folder) / "root"
         repository(root)

@@ -40,9 +40,10 @@ class Refused:
         return {f"{row[0]}/{row[1]}": row[2] for row in rows if len(row) == 3}
 
     def of(self, edits):
-        """Give those of some edits that are known to be refused."""
+        """Give those of some edits that are known to be refused. What can't be applied isn't."""
         rows = self.rows()
-        return [it for it in edits if it.name in rows and rows[it.name] in (self.narrow_of(it), self.wide_of(it))]
+        having = [it for it in edits if it.name in rows and not it.why]
+        return [it for it in having if rows[it.name] in (self.narrow_of(it), self.wide_of(it))]
 
     def narrow_of(self, edit):
         """Give the sum of what refuses an edit and of all that this hangs on, None where it can't be told."""

@@ -36,6 +36,8 @@ NAMED_IN_ATTRIBUTE = re.compile(r"\b(?:using|unfolding)\(([^)]*)\)")
 # The module of a crate's constants in antt, and what the modules of a function and of a lemma file stand in.
 CONSTANTS, PROOFS = "TheConstants", "proofs"
 TYPES = ("struct", "enum", "type")
+# Where operators come from that go without saying; the second passes on what the first has.
+PLAIN = ("std.specs.Prelude", "std.proofs.Common")
 
 # An item, as whoever proves it reads it or as whoever names it does; and its digest, with the nodes that it names, and the
 # paths that bring names in.
@@ -180,13 +182,15 @@ class Closures:
     def named_in_terms(self, text, imports, module):
         """Give what a text of antt may name, by what its file brings in, and the paths that bring that in."""
         needs, paths, unfolded = set(), set(), paths_in("\n".join(UNFOLDED.findall(text)))
-        for path in paths_in(text):
+        named = paths_in(text)
+        for path in named | operators_in({it[0] for it in named}, [*imports.names, *(module.items if module else ())]):
             item = self.library.item(imports, path, module)
             # What is unfolded counts by its body, also where that is hidden elsewhere.
             needs |= {told(item), *([whole(item)] if path in unfolded else [])} if item else set()
             source, name = imports.names.get(path[0], (imports.modules.get(path[0]), ""))
-            if source:
+            if source and (path in named or source not in PLAIN):
                 paths.add(f"{path[0]}={source}.{name}")
+            if source:
                 needs |= self.made_of_code(source.split("."))
         return needs, paths
 
@@ -276,6 +280,11 @@ def crate_of(item):
 def paths_in(text):
     """Give the paths of names in a text of antt, up to the second name of each."""
     return {tuple(it.strip("«»").split(".")[:2]) for it in tokens_of(text)}
+
+
+def operators_in(words, names):
+    """Give which of some names have words of a text around the places of their arguments, as `◌≡◌` has."""
+    return {(name,) for name in names if "◌" in name and not words.isdisjoint(filter(None, name.split("◌")))}
 
 
 def name_of(function):

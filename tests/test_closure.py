@@ -21,6 +21,9 @@ SIZES = """use Rattle.std.specs.Prelude.{◌≡◌, ℕ}
 abbrev pub small : ℕ
 small = 3
 
+abbrev pub ◌∸◌ : ℕ → ℕ → ℕ
+x ∸ y = x
+
 -- what is reached by a contract alone
 abbrev pub IsSmall : ℕ → Type 0
 IsSmall size = size ≡ small
@@ -91,10 +94,10 @@ impl Weighs for Held {
 pub const MOST: usize = 9;
 """
 TWICE = """use Rattle.std.specs.Prelude.{◌≡◌, ℕ}
-use Rattle.low.specs.Sizes.{small as little}
+use Rattle.low.specs.Sizes.{small as little, ◌∸◌}
 
 abbrev pub IsTwice : ℕ → Type 0
-IsTwice size = size ≡ little * 2
+IsTwice size = size ≡ little * 2 ∸ 0
 
 abbrev pub IsFour : ℕ → Type 0
 IsFour size = size ≡ 4
@@ -337,7 +340,9 @@ CHANGES = (
     ("how that is proved", "mid/proofs/Steps.antt", "step = refl", "step = by refl", WIDE),
     ("a comment", "low/src/code.rt", "/// A size.", "/// Some size.", WIDE),
     ("what brings a name in", "mid/src/code.rt", "size as a_size", "other as a_size", {"mid/twice"} | WIDE),
-    ("a name of the kit", "mid/specs/Twice.antt", "Prelude.{◌≡◌, ℕ}", "Other.{◌≡◌}\nuse Rattle.std.specs.Prelude.{ℕ}", WIDE),
+    ("a name of the kit", "mid/specs/Twice.antt", "Prelude.{◌≡◌, ℕ}", "Other.{◌≡◌}\nuse Rattle.std.specs.Prelude.{ℕ}",
+     {f"mid/{it}" for it in MIDS} | BY_FUNCTIONS | {"mid/fact", "top/again"} | WIDE),
+    ("an operator of a crate", "low/specs/Sizes.antt", "x ∸ y = x", "x ∸ y = y", {"mid/twice", "top/again"} | WIDE),
     ("the crate on top", "top/src/code.rt", "    twice()\n", "    2 - 2 + twice()\n", {"top/again"}),
     ("an edit", "mid/wrong-bodies/code.edits", "a_size() + 4", "a_size() + 5", {"mid/twice"}),
 )

@@ -26,9 +26,10 @@ class Refused:
 
     def __init__(self, edits):
         self.more = f"{FORM} {kit_version().decode()}"
-        self.closures = Closures()
         self.names = {it.name for it in edits}
+        # First, so that nothing is kept where a file changes while the closures are read.
         self.wide = {name: self.wide_sum(name) for name in {it.crate.name for it in edits}}
+        self.closures = Closures()
 
     def tidy(self):
         """Drop what has no edit any more."""

@@ -462,6 +462,19 @@ def changed_meanwhile(root, scripts):
     yield "what was refused over files that changed meanwhile", (status, tried) == (0, ALL)
     yield "is known no more", scripts.unknown() == ALL
     path.write_text(text, encoding="utf-8")
+    scripts.wrong_bodies.Checks.checked = lambda _, *words, keeps: scripts.checked(*words, keeps)
+    closures = scripts.refused.Closures
+
+    def closures_and_changed():
+        path.write_text(text.replace("2 + more", "more + 2"), encoding="utf-8")
+        return made
+
+    made = closures()
+    scripts.refused.Closures = closures_and_changed
+    yield "also while the closures were read", scripts.run("low")[2] == {"low/size"}
+    scripts.refused.Closures = closures
+    path.write_text(text, encoding="utf-8")
+    yield "nothing is known of it", "low/size" in scripts.unknown()
 
 
 def main():

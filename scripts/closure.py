@@ -136,7 +136,8 @@ class Closures:
     def meant(self, part, name, before):
         """Give what a name in an item of code may mean, by what stands before it."""
         brought = paths_by_name(part.file)
-        name = last_of(brought.get(name, name))
+        # Behind a dot or a path it is its own name, whatever `use` brings in.
+        name = name if before else last_of(brought.get(name, name))
         having = [it for it in self.by_name.get(name, ()) if it.file.crate in self.seen_by[part.file.crate]]
         methods = [it for it in having if it.owner and it.kind == "fn"]
         others = {told(it) for it in having if it not in methods}

@@ -147,6 +147,7 @@ MID = """ghost use Rattle.mid.specs.Twice.{IsTwice, IsFour};
 
 use low::{Alias, Held, Weighs, bare, size as a_size};
 use std::cmp::max;
+use std::mem::take as made;
 
 pub fn twice() -> usize
     ensures { IsTwice result }

@@ -26,14 +26,23 @@ NAME = re.compile(r"[A-Za-z_]\w*")
 BEFORE = re.compile(r"(?:(?P<dot>(?<!\.)\.)|(?:(?P<path>\w+)|[>\]])\s*::)\s*$")
 # How far before a name that may stand.
 REACH = 100
+# What stands before a method, and the methods that macros call.
+DOT = BEFORE.search(".")
+CALLED_BY = {"write!": ("write_fmt",), "writeln!": ("write_fmt", "writeln")}
+UNFOLDED = re.compile(r"^ *unfolding (.*)$", re.MULTILINE)
+# What stands atop a file for all that is in it, or before a module, but for what goes without saying.
+ATOP = re.compile(r"^ *#!\[(?!tactic\(auto\)\]).*$|^ *#\[tactic.*\n.*\bmod .*$", re.MULTILINE)
 NAMED_IN_ATTRIBUTE = re.compile(r"\b(?:using|unfolding)\(([^)]*)\)")
 # The module of a crate's constants in antt, and what the modules of a function and of a lemma file stand in.
 CONSTANTS, PROOFS = "TheConstants", "proofs"
 TYPES = ("struct", "enum", "type")
+# Where operators come from that go without saying; the second passes on what the first has.
+PLAIN = ("std.specs.Prelude", "std.proofs.Common")
 
-# An item, as whoever proves it reads it or as whoever names it does; and its digest, with the nodes that it names.
+# An item, as whoever proves it reads it or as whoever names it does; and its digest, with the nodes that it names, and the
+# paths that bring names in.
 Node = collections.namedtuple("Node", "item is_whole")
-Read = collections.namedtuple("Read", "digest needs")
+Read = collections.namedtuple("Read", "digest needs paths")
 
 
 def whole(item):
@@ -86,13 +95,14 @@ class Closures:
 
     def read_anew(self, node):
         """Read a node's text and what it names."""
-        text, needs = self.read_code(node) if isinstance(node.item, Part) else self.read_antt(node)
-        return Read(hashlib.sha256(text.encode()).digest(), frozenset(needs - {node}))
+        head, text, needs, paths = self.read_code(node) if isinstance(node.item, Part) else self.read_antt(node)
+        text = "\n".join([head, *sorted(paths), text])
+        return Read(hashlib.sha256(text.encode()).digest(), frozenset(needs - {node}), frozenset(paths))
 
     # Of code.
 
     def read_code(self, node):
-        """Give the text of an item of code, and what it names."""
+        """Give the head and the text of an item of code, what it names, and the paths that bring that in."""
         part, file = node.item, node.item.file
         inner = [it for it in file.parts if it.owner is part and it.kind == "fn"]
         end = part.end if node.is_whole or is_open(part) else body_of(part)
@@ -101,24 +111,23 @@ class Closures:
         needs |= {told(it) for it in inner if part.kind == "trait" or part.trait}
         needs |= {whole(it) for it in self.blocks[part.name] if part.kind in TYPES and it.trait}
         needs |= {whole(part.owner)} if part.owner else set()
-        attributes = part.attributes() if node.is_whole else ""
+        attributes = self.attributes_of(part) if node.is_whole else ""
         if node.is_whole:
             needs |= self.named_by_attributes(file.crate, attributes + code[part.start :])
             needs |= {whole(it) for it in self.proofs[part]}
         head = f"{file.crate} {file.module} {part.full_name()}\n{attributes}"
-        return "\n".join([head, *sorted(paths), without_comments(text[part.start :])]), needs
+        return head, without_comments(text[part.start :]), needs, paths
 
     def named_in(self, part, code):
         """Give what a text of code names from an item on, and the paths that bring that in."""
         file, brought = part.file, paths_by_name(part.file)
         terms = [it for it in part.clauses() if it[1] <= len(code)]
         needs, paths = set(), set()
-        for found in NAME.finditer(code, part.start):
-            is_term = any(start <= found.start() < end for start, end in terms)
-            meant = self.meant(part, found[0], BEFORE.search(code, max(0, found.start() - REACH), found.start()))
+        for at, name, before in names_in(code, part.start):
+            is_term = any(start <= at < end for start, end in terms)
             # A clause may name a type, as in `⟦<Vec<T> as Ord>⟧`.
-            needs |= {it for it in meant if not is_term or it.is_whole}
-            paths |= {f"{found[0]}={brought[found[0]]}"} if found[0] in brought else set()
+            needs |= {it for it in self.meant(part, name, before) if not is_term or it.is_whole}
+            paths |= {f"{name}={brought[name]}"} if name in brought else set()
         for start, end in terms:
             more, sources = self.named_in_terms(file.text[start:end], file.imports(part), None)
             needs, paths = needs | more, paths | sources
@@ -127,7 +136,8 @@ class Closures:
     def meant(self, part, name, before):
         """Give what a name in an item of code may mean, by what stands before it."""
         brought = paths_by_name(part.file)
-        name = last_of(brought.get(name, name))
+        # Behind a dot or a path it is its own name, whatever `use` brings in.
+        name = name if before else last_of(brought.get(name, name))
         having = [it for it in self.by_name.get(name, ()) if it.file.crate in self.seen_by[part.file.crate]]
         methods = [it for it in having if it.owner and it.kind == "fn"]
         others = {told(it) for it in having if it not in methods}
@@ -135,8 +145,15 @@ class Closures:
             return {told(it) for it in methods} if before else others
         path = last_of(brought.get(before["path"], before["path"] or ""))
         path = part.owner.name if path == "Self" and part.owner else path
+        types = {path, *(word for it in self.by_name.get(path, ()) if it.kind == "type" for word in words_of(it))}
         # Behind a bracket stands some type.
-        return others | {told(it) for it in methods if not before["path"] or path in (it.owner.name, trait_of(it.owner))}
+        return others | {told(it) for it in methods if not before["path"] or types & {it.owner.name, trait_of(it.owner)}}
+
+    def attributes_of(self, part):
+        """Give the attributes of an item, and those that its file and its crate have for all items."""
+        roots = [self.files.get(CRATES / part.file.crate / "src" / f"{it}.rt") for it in ("lib", "main")]
+        atop = [row for file in dict.fromkeys([*roots, part.file]) if file for row in atop_of(file)]
+        return "\n".join([*atop, part.attributes()])
 
     def named_by_attributes(self, crate, text):
         """Give the lemmas and definitions that attributes in a text name."""
@@ -151,7 +168,7 @@ class Closures:
     # Of antt.
 
     def read_antt(self, node):
-        """Give the text of a definition, a lemma or a file of antt, and what it names."""
+        """Give the head and the text of a definition, a lemma or a file of antt, what it names, and the paths of that."""
         item = node.item
         if isinstance(item, Module):
             module, name = item, ""
@@ -161,23 +178,28 @@ class Closures:
             rows = [*item.blocks, *(item.rows if node.is_whole else blocks_of(item.rows)[0])]
         text = "\n".join(rows)
         needs, paths = self.named_in_terms(text, module.imports, module)
-        return "\n".join([f"{module.name} {name} {node.is_whole}", *sorted(paths), text]), needs
+        return f"{module.name} {name} {node.is_whole}", text, needs, paths
 
     def named_in_terms(self, text, imports, module):
         """Give what a text of antt may name, by what its file brings in, and the paths that bring that in."""
-        needs, paths = set(), set()
-        for path in {tuple(it.strip("«»").split(".")[:2]) for it in tokens_of(text)}:
+        needs, paths, unfolded = set(), set(), paths_in("\n".join(UNFOLDED.findall(text)))
+        named = paths_in(text)
+        for path in named | operators_in({it[0] for it in named}, [*imports.names, *(module.items if module else ())]):
             item = self.library.item(imports, path, module)
-            needs |= {told(item)} if item else set()
+            # What is unfolded counts by its body, also where that is hidden elsewhere.
+            needs |= {told(item), *([whole(item)] if path in unfolded else [])} if item else set()
             source, name = imports.names.get(path[0], (imports.modules.get(path[0]), ""))
-            if source:
+            if source and (path in named or source not in PLAIN):
                 paths.add(f"{path[0]}={source}.{name}")
+            if source:
                 needs |= self.made_of_code(source.split("."))
         return needs, paths
 
     def made_of_code(self, words):
-        """Give the types and constants, or the functions, of which the kit made a module."""
-        crate = words[0]
+        """Give the types and constants, or the functions, of which the kit made a module, or the data type whose it is."""
+        crate, outer = words[0], self.library.modules.get(".".join(words[:-1]))
+        if outer and words[-1] in outer.items:
+            return {told(outer.items[words[-1]])}
         if DECLARED in words:
             named = [it for word in words for it in self.by_name.get(word, ())]
             named += [it for its in self.by_name.values() for it in its if it.kind == "const" and CONSTANTS in words]
@@ -190,22 +212,29 @@ class Closures:
 
     def of_edit(self, edit, more):
         """Give the sum, with a text, of an edit, of what refuses it and of what that hangs on; None where it can't be told."""
-        crate = edit.crate.name
-        roots = {self.refuser(crate, it) for it in edit.functions or edit.by or [""]}
+        crate, brought = edit.crate.name, set()
+        roots = set().union(*(self.refusers(crate, it) for it in edit.functions or edit.by or [""]))
         for (file, line), text in edit.lines.items():
-            roots |= {self.at_line(edit.crate / file, line), *self.named_by_line(edit.crate / file, line, text)}
-        return None if None in roots else self.sum_of(crate, roots, edit.sum + more)
+            node = self.at_line(edit.crate / file, line)
+            needs, paths = self.named_by_line(edit.crate / file, line, text) if node else (set(), set())
+            roots |= {node, *needs}
+            # What brings a name in counts too where only the edit has that name.
+            brought |= {it for it in paths if it not in self.read(node).paths}
+        return None if None in roots else self.sum_of(crate, roots, "\n".join([edit.sum + more, *sorted(brought)]))
 
-    def refuser(self, crate, name):
-        """Give the function of a name, or the fact whose name stands behind that of its file and a dot, or None."""
+    def refusers(self, crate, name):
+        """Give the function of a name, with those of its cycle of calls, which have one proof, or the fact whose name stands
+        behind that of its file and a dot; None among them where there is none.
+        """
         file, dot, fact = name.partition(".")
         if dot:
             module = self.library.modules.get(f"{crate}.{PROOFS}.{file}")
             item = module and module.items.get(fact)
-        else:
-            functions = self.functions[crate]
-            item = functions.get(name) or functions.get(name.partition("::")[2])
-        return item and whole(item)
+            return {item and whole(item)}
+        functions = self.functions[crate]
+        name = name if name in functions else name.partition("::")[2]
+        at_once = next((its for its in cycles(CRATES / crate).values() if name in its), {name})
+        return {it and whole(it) for it in map(functions.get, at_once)}
 
     def at_line(self, path, line):
         """Give the item that has a line of a file, whole, the file where it is one of antt, or None."""
@@ -218,20 +247,45 @@ class Closures:
         return module and whole(max(before, key=lambda it: it.line, default=module))
 
     def named_by_line(self, path, line, text):
-        """Give what a line of a file names in an edit."""
+        """Give what a line of a file names in an edit, and the paths that bring that in."""
         file, node = self.files.get(path), self.at_line(path, line)
-        if not node or not file:
-            module = node and getattr(node.item, "module", node.item)
-            return self.named_in_terms(text, module.imports, module)[0] if module else set()
-        needs = self.named_in_terms(text, file.imports(node.item), None)[0]
-        for found in NAME.finditer(text):
-            needs |= self.meant(node.item, found[0], BEFORE.search(text, 0, found.start()))
-        return needs
+        if not file:
+            module = getattr(node.item, "module", node.item)
+            return self.named_in_terms(text, module.imports, module)
+        needs, paths = self.named_in_terms(text, file.imports(node.item), None)
+        first = file.rows[line - 1]
+        is_term = any(start < first + len(text) and first < end for start, end in file.terms)
+        brought, paths = paths_by_name(file), paths if is_term else set()
+        for _, name, before in names_in(text, 0):
+            needs |= self.meant(node.item, name, before)
+            paths |= {f"{name}={brought[name]}"} if name in brought else set()
+        return needs, paths
+
+
+def names_in(code, start):
+    """Give the names in a text of code from a place on, where each stands, and by what it may mean what stands before it:
+    where a macro calls methods, these too.
+    """
+    for found in NAME.finditer(code, start):
+        at = found.start()
+        yield at, found[0], BEFORE.search(code, max(0, at - REACH), at)
+        for name in CALLED_BY.get(code[at : found.end() + 1], ()):
+            yield at, name, DOT
 
 
 def crate_of(item):
     """Give the crate of an item."""
     return item.file.crate if isinstance(item, Part) else getattr(item, "module", item).crate
+
+
+def paths_in(text):
+    """Give the paths of names in a text of antt, up to the second name of each."""
+    return {tuple(it.strip("«»").split(".")[:2]) for it in tokens_of(text)}
+
+
+def operators_in(words, names):
+    """Give which of some names have words of a text around the places of their arguments, as `◌≡◌` has."""
+    return {(name,) for name in names if "◌" in name and not words.isdisjoint(filter(None, name.split("◌")))}
 
 
 def name_of(function):
@@ -240,6 +294,11 @@ def name_of(function):
     found = IMPL.match(file.code, owner.start) if owner and owner.kind == "impl" else None
     block = found and {"type": found["name"], "trait": found["trait"]}
     return end_of_name(file.path.relative_to(CRATES / file.crate), block, function.name)
+
+
+def words_of(part):
+    """Give the names in the code of an item."""
+    return NAME.findall(part.file.code, part.start, part.end)
 
 
 def trait_of(block):
@@ -276,6 +335,12 @@ def without(text, parts, blank):
 def without_comments(text):
     """Give a text of code without its comments."""
     return NO_CODE.sub(lambda it: "" if it[0].startswith("//") else it[0], text)
+
+
+@functools.cache
+def atop_of(file):
+    """Give the attributes that a file of code has for all that is in it, or for modules."""
+    return ATOP.findall(file.code)
 
 
 @functools.cache

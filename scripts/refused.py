@@ -26,9 +26,10 @@ class Refused:
 
     def __init__(self, edits):
         self.more = f"{FORM} {kit_version().decode()}"
-        self.closures = Closures()
         self.names, self.first = {it.name for it in edits}, text_of(RECORD)
+        # First, so that nothing is kept where a file changes while the closures are read.
         self.wide = {name: self.wide_sum(name) for name in {it.crate.name for it in edits}}
+        self.closures = Closures()
 
     def has_changed(self):
         """Tell whether the record is another one than at first."""
@@ -44,9 +45,10 @@ class Refused:
         return {f"{row[0]}/{row[1]}": row[2] for row in rows if len(row) == 3}
 
     def of(self, edits):
-        """Give those of some edits that are known to be refused."""
+        """Give those of some edits that are known to be refused. What can't be applied isn't."""
         rows = self.rows()
-        return [it for it in edits if it.name in rows and rows[it.name] in (self.narrow_of(it), self.wide_of(it))]
+        having = [it for it in edits if it.name in rows and not it.why]
+        return [it for it in having if rows[it.name] in (self.narrow_of(it), self.wide_of(it))]
 
     def narrow_of(self, edit):
         """Give the sum of what refuses an edit and of all that this hangs on, None where it can't be told."""
@@ -69,7 +71,7 @@ class Refused:
         for it in outcomes:
             rows.pop(it.edit.name, None)
             if it.is_refused and is_same:
-                rows[it.edit.name] = self.narrow_of(it.edit) if it.is_by_own else self.wide_of(it.edit)
+                rows[it.edit.name] = it.is_by_own and self.narrow_of(it.edit) or self.wide_of(it.edit)
         self.write(rows)
 
     def write(self, rows):

@@ -22,6 +22,9 @@ SIZES = """use Rattle.std.specs.Prelude.{◌≡◌, ℕ}
 abbrev pub small : ℕ
 small = 3
 
+abbrev pub ◌∸◌ : ℕ → ℕ → ℕ
+x ∸ y = x
+
 -- what is reached by a contract alone
 abbrev pub IsSmall : ℕ → Type 0
 IsSmall size = size ≡ small
@@ -62,7 +65,21 @@ impl Held {
     {
         self.held
     }
+
+    pub fn made() -> usize
+        ensures { 4 ≡ result }
+    {
+        4
+    }
+
+    pub fn write_fmt(&mut self, text: usize) -> usize
+        ensures { result ≡ text }
+    {
+        text
+    }
 }
+
+pub type Alias = Held;
 
 pub trait Weighs {
     fn weight(&self) -> usize
@@ -78,13 +95,17 @@ impl Weighs for Held {
 pub const MOST: usize = 9;
 """
 TWICE = """use Rattle.std.specs.Prelude.{◌≡◌, ℕ}
-use Rattle.low.specs.Sizes.{small as little}
+use Rattle.low.specs.Sizes.{small as little, ◌∸◌}
 
 abbrev pub IsTwice : ℕ → Type 0
-IsTwice size = size ≡ little * 2
+IsTwice size = size ≡ little * 2 ∸ 0
 
 abbrev pub IsFour : ℕ → Type 0
 IsFour size = size ≡ 4
+
+pub data Mode : Type 0 where
+  Once : Mode
+  Often : ℕ → Mode
 """
 LEMMAS = """use Rattle.mid.specs.Twice.{IsTwice}
 use Rattle.low.specs.Sizes.{IsOther}
@@ -99,10 +120,15 @@ pub named_by_attribute : IsOther 4
 named_by_attribute = refl
 """
 WORKED = """use Rattle.mid.specs.Twice.{IsFour}
+use Rattle.mid.specs.Twice.Mode.{Once}
 use Rattle.mid.proofs.Steps.{step}
 
-pub four : IsFour 4
-four = step
+hidden : ℕ
+hidden = 4
+
+pub four : IsFour hidden
+unfolding hidden
+four = step Once
 
 pub five : IsFour 5 → 4 ≡ 5
 five = other
@@ -120,7 +146,9 @@ returns c = twice_is
 """
 MID = """ghost use Rattle.mid.specs.Twice.{IsTwice, IsFour};
 
-use low::{Held, Weighs, bare, size as a_size};
+use low::{Alias, Held, Weighs, bare, size as a_size};
+use std::cmp::max;
+use std::mem::take as made;
 
 pub fn twice() -> usize
     ensures { IsTwice result }
@@ -152,6 +180,26 @@ pub fn uncalled() -> usize
 {
     low::MOST - bare()
 }
+
+pub fn written(held: &mut Held) -> usize
+    ensures { IsFour result }
+{
+    write!(held, "four") + Alias::made()
+}
+
+#[cycle(round)]
+pub fn even(left: usize) -> usize
+    ensures { IsFour result }
+{
+    odd(left - 1)
+}
+
+#[cycle(round)]
+pub fn odd(left: usize) -> usize
+    ensures { IsFour result }
+{
+    even(left - 1)
+}
 """
 TOP = """ghost use Rattle.mid.specs.Twice.{IsTwice};
 
@@ -172,6 +220,7 @@ FILES = {
     "crates/mid/proofs/Steps.antt": STEPS,
     "crates/mid/proofs/WorkedLemmas.antt": WORKED,
     "crates/mid/proofs/code/twice/Answers.antt": ANSWERS,
+    "crates/mid/src/lib.rt": "#![tactic(auto)]\n\npub mod code;\n",
     "crates/mid/src/code.rt": MID,
     "crates/top/src/code.rt": TOP,
     "crates/low/wrong-bodies/code.edits": """file: src/code.rt
@@ -205,6 +254,10 @@ new:     it.weight() + 1
 edit: uncalled
 old:     low::MOST - bare()
 new:     low::MOST
+
+edit: written
+old: write!(held, "four")
+new: max(write!(held, "four"), 5)
 """,
     "crates/mid/wrong-bodies/Twice.edits": """file: specs/Twice.antt
 
@@ -219,6 +272,11 @@ edit: by_function
 by: code::attributed
 old: IsFour size = size ≡ 4
 new: IsFour size = size ≡ 6
+
+edit: by_one_of_a_cycle
+by: code::even
+old: IsFour size = size ≡ 4
+new: IsFour size = size ≡ 8
 
 edit: by_nothing
 old: IsFour size = size ≡ 4
@@ -243,11 +301,13 @@ named = [it for it in all_edits() if it.functions or it.by]
 print([it.name for it in named if closures.of_edit(it, "") is None])
 """
 CHANGED = "refused.txt has changed: commit it with what it is of"
-MIDS = ("twice", "attributed", "of_held", "weighed", "uncalled")
-ALL = {"low/size", *(f"mid/{it}" for it in (*MIDS, "fact", "by_function", "by_nothing")), "top/again"}
+MIDS = ("twice", "attributed", "of_held", "weighed", "uncalled", "written")
+BY_FUNCTIONS = {"mid/by_function", "mid/by_one_of_a_cycle"}
+ALL = {"low/size", *(f"mid/{it}" for it in (*MIDS, "fact", "by_nothing")), *BY_FUNCTIONS, "top/again"}
 # Of what nothing names, all that is known is the crate and those below.
 WIDE = {"mid/by_nothing"}
 OF_HELD = {"mid/of_held"}
+WRITTEN = {"mid/written"}
 # What is changed, where, from what to what, and which edits are tried again.
 CHANGES = (
     ("a body below", "low/src/code.rt", "2 + more", "more + 2", {"low/size"} | WIDE),
@@ -258,14 +318,23 @@ CHANGES = (
      {"low/size", "mid/twice"} | WIDE),
     ("a contract of a method", "low/src/code.rt", "{ IsOther result }\n    {\n        self", "{ IsSmall result }\n    {\n        self",
      OF_HELD | WIDE),
-    ("a contract of a trait", "low/src/code.rt", "{ IsOther result };", "{ IsSmall result };", {"mid/weighed", "mid/of_held"} | WIDE),
+    ("a contract of a trait", "low/src/code.rt", "{ IsOther result };", "{ IsSmall result };", {"mid/weighed", "mid/of_held", "mid/written"} | WIDE),
+    ("a contract of what a macro calls", "low/src/code.rt", "{ result ≡ text }", "{ text ≡ result }", WRITTEN | WIDE),
+    ("a contract by another name of its type", "low/src/code.rt", "{ 4 ≡ result }", "{ result ≡ 4 }", WRITTEN | WIDE),
+    ("what brings in a name that only an edit has", "mid/src/code.rt", "cmp::max", "cmp::min as max", WRITTEN | WIDE),
+    ("a body of another in a cycle", "mid/src/code.rt", "even(left - 1)", "even(0 + left - 1)",
+     {"mid/by_one_of_a_cycle"} | WIDE),
+    ("an attribute atop a crate", "mid/src/lib.rt", "auto", "auto, using(crate::proofs::Lemmas::unnamed)",
+     {f"mid/{it}" for it in MIDS} | BY_FUNCTIONS | WIDE),
+    ("an attribute of a module", "mid/src/lib.rt", "pub mod", "#[tactic(none)]\npub mod",
+     {f"mid/{it}" for it in MIDS} | BY_FUNCTIONS | WIDE),
     ("a field of a type", "low/src/code.rt", "pub held: usize,", "pub held: usize,\n    pub more: usize,",
-     {"mid/of_held", "mid/weighed"} | WIDE),
+     {"mid/of_held", "mid/weighed", "mid/written"} | WIDE),
     ("a body of a trait's method", "low/src/code.rt", "        4\n    }", "        2 + 2\n    }", WIDE),
     ("a definition two crates below", "low/specs/Sizes.antt", "small = 3", "small = 4",
      {"low/size", "mid/twice", "top/again"} | WIDE),
     ("a definition that a lemma states", "low/specs/Sizes.antt", "size ≡ 4", "4 ≡ size",
-     {"mid/attributed", "mid/of_held", "mid/weighed", "mid/by_function"} | WIDE),
+     {"mid/attributed", "mid/of_held", "mid/weighed", "mid/written", "mid/by_function"} | WIDE),
     ("a definition in the crate", "mid/specs/Twice.antt", "size ≡ little * 2", "little * 2 ≡ size", {"mid/twice", "top/again"} | WIDE),
     ("a lemma's statement", "mid/proofs/Lemmas.antt", "twice_is : IsTwice 6", "twice_is : IsTwice (3 * 2)", {"mid/twice"} | WIDE),
     ("a lemma's proof", "mid/proofs/Lemmas.antt", "twice_is = refl", "twice_is = by refl", WIDE),
@@ -273,13 +342,19 @@ CHANGES = (
     ("a lemma of an attribute", "mid/proofs/Lemmas.antt", "named_by_attribute : IsOther 4", "named_by_attribute : IsOther (2 + 2)",
      {"mid/attributed", "mid/by_function"} | WIDE),
     ("an answer", "mid/proofs/code/twice/Answers.antt", "returns c = twice_is", "returns _ = twice_is", {"mid/twice"} | WIDE),
+    ("what a fact unfolds", "mid/proofs/WorkedLemmas.antt", "hidden = 4", "hidden = 2 + 2", {"mid/fact"} | WIDE),
+    ("a type of a constructor", "mid/specs/Twice.antt", "Often : ℕ", "Often : ℕ → ℕ", {"mid/fact"} | WIDE),
+    ("what an edit changes stands twice", "mid/specs/Twice.antt", "IsFour size = size ≡ 4",
+     "IsFour size = size ≡ 4\n-- IsFour size = size ≡ 4", {"mid/fact"} | BY_FUNCTIONS | WIDE),
     ("a fact's proof", "mid/proofs/WorkedLemmas.antt", "four = step", "four = by step", {"mid/fact"} | WIDE),
     ("another fact", "mid/proofs/WorkedLemmas.antt", "five = other", "five = another", WIDE),
     ("what a fact rests on", "mid/proofs/Steps.antt", "step : IsFour 4", "step : IsFour (2 + 2)", {"mid/fact"} | WIDE),
     ("how that is proved", "mid/proofs/Steps.antt", "step = refl", "step = by refl", WIDE),
     ("a comment", "low/src/code.rt", "/// A size.", "/// Some size.", WIDE),
     ("what brings a name in", "mid/src/code.rt", "size as a_size", "other as a_size", {"mid/twice"} | WIDE),
-    ("a name of the kit", "mid/specs/Twice.antt", "Prelude.{◌≡◌, ℕ}", "Other.{◌≡◌}\nuse Rattle.std.specs.Prelude.{ℕ}", WIDE),
+    ("a name of the kit", "mid/specs/Twice.antt", "Prelude.{◌≡◌, ℕ}", "Other.{◌≡◌}\nuse Rattle.std.specs.Prelude.{ℕ}",
+     {f"mid/{it}" for it in MIDS} | BY_FUNCTIONS | {"mid/fact", "top/again"} | WIDE),
+    ("an operator of a crate", "low/specs/Sizes.antt", "x ∸ y = x", "x ∸ y = y", {"mid/twice", "top/again"} | WIDE),
     ("the crate on top", "top/src/code.rt", "    twice()\n", "    2 - 2 + twice()\n", {"top/again"}),
     ("an edit", "mid/wrong-bodies/code.edits", "a_size() + 4", "a_size() + 5", {"mid/twice"}),
 )
@@ -359,11 +434,11 @@ def after_runs(root, scripts):
     record = root / "refused.txt"
     record.unlink()
     status, told, tried = scripts.run()
-    yield "what isn't in the record is tried", (status, told[-1], tried) == (0, "10 passed, 0 failed", ALL)
+    yield "what isn't in the record is tried", (status, told[-1], tried) == (0, f"{len(ALL)} passed, 0 failed", ALL)
     yield "and known from then on", not scripts.unknown()
     yield "which is told", CHANGED in told
     lines = record.read_text(encoding="utf-8").split("\n")
-    yield "the record is sorted, a line an edit", lines == sorted(lines[:-1]) + [""] and len(lines) == 11
+    yield "the record is sorted, a line an edit", lines == sorted(lines[:-1]) + [""] and len(lines) == len(ALL) + 1
     yield "crate, name and sum", [it.split(" ")[:2] for it in lines[:2]] == [["low", "size"], ["mid", "attributed"]]
     status, told, tried = scripts.run("low", "mid")
     yield "a crate that is named has no sample", tried == set()
@@ -378,7 +453,7 @@ def after_runs(root, scripts):
     record.write_text("\n".join([*lines[:-1], "mid gone 0123", ""]), encoding="utf-8")
     scripts.let_through = {"mid/twice"}
     status, told, tried = scripts.run()
-    yield "a record that lies is found", status == 1 and tried == ALL and told[-1] == "9 passed, 1 failed"
+    yield "a record that lies is found", status == 1 and tried == ALL and told[-1] == f"{len(ALL) - 1} passed, 1 failed"
     yield "by its name", any(it.startswith("FAILED: mid/twice: ") for it in told)
     yield "and its line goes, with that of no edit", scripts.unknown() == {"mid/twice"} and "gone" not in record.read_text()
     record.write_text(record.read_text() + "mid gone 0123\n", encoding="utf-8")
@@ -402,6 +477,19 @@ def changed_meanwhile(root, scripts):
     yield "what was refused over files that changed meanwhile", (status, tried) == (0, ALL)
     yield "is known no more", scripts.unknown() == ALL
     path.write_text(text, encoding="utf-8")
+    scripts.wrong_bodies.Checks.checked = lambda _, *words, keeps: scripts.checked(*words, keeps)
+    closures = scripts.refused.Closures
+
+    def closures_and_changed():
+        path.write_text(text.replace("2 + more", "more + 2"), encoding="utf-8")
+        return made
+
+    made = closures()
+    scripts.refused.Closures = closures_and_changed
+    yield "also while the closures were read", scripts.run("low")[2] == {"low/size"}
+    scripts.refused.Closures = closures
+    path.write_text(text, encoding="utf-8")
+    yield "nothing is known of it", "low/size" in scripts.unknown()
 
 
 def of_this_repository():

@@ -80,6 +80,20 @@ static DRIVES: [Drive<'static>; 3] = [
     },
 ];
 
+// The task of a drive over orders in a file of this name.
+fn task_of<'a>(drive: &Drive<'a>, name: &'a str) -> DriveTask<'a> {
+    DriveTask {
+        orders: name,
+        journal: drive.journal,
+        older: &[],
+        moment: 0,
+        pace: Pace::Checked,
+        required: Required::Nothing,
+        follow: false,
+        report: None,
+    }
+}
+
 // Drives the order of a file of this name, and tells whether that ends well, and sends and tells what it has to.
 fn is_driven<'a, R: Files<File = File> + AllocGlobal>(
     rt: &'a R,
@@ -89,16 +103,7 @@ fn is_driven<'a, R: Files<File = File> + AllocGlobal>(
     fs::write(rt, name, ORDER)?;
     let mut sent = Vec::new(rt.alloc());
     let mut told = Vec::new(rt.alloc());
-    let task = DriveTask {
-        orders: name,
-        journal: drive.journal,
-        older: &[],
-        moment: 0,
-        pace: Pace::Checked,
-        required: Required::Nothing,
-        follow: false,
-        report: None,
-    };
+    let task = task_of(drive, name);
     let mut desk = StoreDesk {
         link_in: StdSource::new(drive.answers.as_bytes()),
         link_out: StdSink::new(&mut sent),

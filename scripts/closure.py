@@ -228,8 +228,8 @@ class Closures:
         """
         file, dot, fact = name.partition(".")
         if dot:
-            module = self.library.modules.get(f"{crate}.{PROOFS}.{file}")
-            item = module and module.items.get(fact)
+            modules = [self.library.modules.get(f"{crate}.{part}.{file}") for part in (PROOFS, "specs")]
+            item = next((it.items[fact] for it in modules if it and fact in it.items), None)
             return {item and whole(item)}
         functions = self.functions[crate]
         name = name if name in functions else name.partition("::")[2]

@@ -5,6 +5,7 @@ whose sum is another one is tried again. Where what refused it can't be told, th
 that it stands on. The lines are sorted, so that records merge.
 """
 
+import collections
 import hashlib
 import os
 import random
@@ -19,6 +20,8 @@ RECORD = ROOT / "refused.txt"
 FORM = "1"
 # How many digits of a sum are written.
 DIGITS = 32
+# How many edits of a crate are chosen.
+MOST_OF_A_CRATE = 10
 
 
 class Refused:
@@ -86,6 +89,11 @@ class Refused:
 
 
 def chosen(edits, seed, count):
-    """Give so many of some edits, by chance, always the same for a seed."""
-    having = sorted(edits, key=lambda it: it.name)
-    return random.Random(seed).sample(having, min(count, len(having)))
+    """Give so many of some edits, by chance, always the same for a seed: of few crates, each of which costs a check.
+
+    A crate is chosen by one of its edits, so that each edit is about as likely as any other.
+    """
+    of_crates = collections.defaultdict(list)
+    for it in random.Random(seed).sample(sorted(edits, key=lambda it: it.name), len(edits)):
+        of_crates[it.crate.name].append(it)
+    return [it for its in of_crates.values() for it in its[:MOST_OF_A_CRATE]][:count]

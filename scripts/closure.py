@@ -196,7 +196,7 @@ class Closures:
         return needs, paths
 
     def made_of_code(self, words):
-        """Give the types and constants, or the functions, of which the kit made a module, or the data type whose it is."""
+        """Give the types and constants, or the functions, of which the kit made a module, or a data type of antt."""
         crate, outer = words[0], self.library.modules.get(".".join(words[:-1]))
         if outer and words[-1] in outer.items:
             return {told(outer.items[words[-1]])}

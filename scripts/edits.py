@@ -31,9 +31,9 @@ IMPL = re.compile(r"impl(?:<[^{]*?>)? (?:(?P<trait>[^{]*?) for )?(?P<type>\w+)")
 
 
 class Edit:
-    """A wrong body, or a wrong line of a definition: its crate, the rule that it breaks, its pairs of
-    texts with their files, the lines that it changes, by file and number from 1, and the functions that these are within,
-    by the ends of their names, of a cycle of calls all, none where a line is in no function.
+    """A wrong body, or a wrong line of a definition: its crate, the rule that it breaks, its pairs of texts with their
+    files, the lines that it changes, by file and number from 1, what its line `by:` names, and the functions that the lines
+    are within, by the ends of their names, of a cycle of calls all, none where a line is in no function.
     """
 
     def __init__(self, crate, name, rule, rows):

@@ -8,6 +8,7 @@ that it stands on. The lines are sorted, so that records merge.
 import collections
 import hashlib
 import os
+import pathlib
 import random
 import tempfile
 
@@ -82,10 +83,19 @@ class Refused:
         rows = {name: total for name, total in rows.items() if name in self.names}
         text = "".join(sorted(f"{name.replace('/', ' ')} {total}\n" for name, total in rows.items()))
         if text != text_of(RECORD):
-            with tempfile.NamedTemporaryFile("w", dir=RECORD.parent, delete=False, encoding="utf-8") as it:
-                it.write(text)
-            os.chmod(it.name, 0o644)
-            os.replace(it.name, RECORD)
+            try:
+                replace(RECORD, text)
+            except OSError as fault:
+                # Then they are tried again the next time.
+                print(f"refused.txt can't be written: {fault.strerror}", flush=True)
+
+
+def replace(path, text):
+    """Put a text in the place of a file: behind a kill or on a full disk the old one or the new one stands there."""
+    with tempfile.TemporaryDirectory(dir=path.parent, prefix=f".{path.name}-") as folder:
+        made = pathlib.Path(folder) / path.name
+        made.write_text(text, encoding="utf-8")
+        os.replace(made, path)
 
 
 def chosen(edits, seed, count):

@@ -460,7 +460,26 @@ def after_runs(root, scripts):
     scripts.run("low")
     yield "also where nothing is tried", "gone" not in record.read_text()
     scripts.let_through = set()
+    yield from unwritten(root, scripts)
     yield from changed_meanwhile(root, scripts)
+
+
+def unwritten(root, scripts):
+    """Give what is tested of a record that can't be written, and whether it is so."""
+    record, replace = root / "refused.txt", scripts.refused.os.replace
+    was = record.read_text(encoding="utf-8")
+    record.unlink()
+
+    def is_full(*_):
+        raise OSError(28, "No space left on device")
+
+    scripts.refused.os.replace = is_full
+    status, told, tried = scripts.run()
+    scripts.refused.os.replace = replace
+    yield "a record that can't be written", (status, tried) == (0, ALL)
+    yield "is told of, and there is none", "refused.txt can't be written: No space left on device" in told and not record.exists()
+    yield "nor anything else", not list(root.glob(".refused*"))
+    record.write_text(was, encoding="utf-8")
 
 
 def changed_meanwhile(root, scripts):

@@ -4,7 +4,7 @@ import math
 
 from measuring import REPOSITORY
 
-COLOURS = ("#0072b2", "#d55e00", "#009e73", "#cc79a7")
+COLOURS = ("#0072b2", "#d55e00", "#009e73", "#cc79a7", "#56b4e9")
 # A picture's width and height, and the room at its left and below for the numbers.
 WIDTH, HEIGHT, LEFT, BELOW = 640, 360, 70, 50
 

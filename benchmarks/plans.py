@@ -1,11 +1,11 @@
 #!/usr/bin/env python3
 """Count what an order takes on the bus, by the checked and by the short plan.
 
-1. An order with a GTIN and one with all fields on a simulated unit, where each frame is lost with a chance of 0, 0.5,
-   1, 2 and 5 in a hundred, always the same ones by their seed: the mean number of frames, their mean time on the wire
+1. An order with a GTIN and one with all fields on a simulated unit, where each frame is lost with a chance of 0, 1,
+   2, 5 and 10 in a hundred, always the same ones by their seed: the mean number of frames, their mean time on the wire
    (29 ms for a frame with no answer, 49 ms for one with), and how many of a hundred orders are done.
-2. With --draw: a picture of the frames by the number of updates, with nothing lost, with one answer in twenty lost, and
-   the most that is proved, whatever is lost.
+2. With --draw: a picture of the frames by the number of updates, by both plans with nothing and with one answer in
+   twenty lost, and the most that is proved, whatever is lost.
 
 Status 0: with nothing lost the numbers are the proved ones. Status 1: they aren't, or a run didn't end. Status 2: the
 program couldn't be run.
@@ -21,9 +21,9 @@ from measuring import REPOSITORY, Wrong, argument_parser, judged
 
 GTIN = {"gtin": "4006381333931"}
 # The frames of each order with nothing lost, by each plan.
-PROVED = {("GTIN", "checked"): 112, ("GTIN", "short"): 62,
-          ("all fields", "checked"): 1652, ("all fields", "short"): 766}
-CHANCES = (0, 0.005, 0.01, 0.02, 0.05)
+PROVED = {("GTIN", "checked"): 112, ("GTIN", "short"): 49,
+          ("all fields", "checked"): 1652, ("all fields", "short"): 536}
+CHANCES = (0, 0.01, 0.02, 0.05, 0.1)
 # More steps than any order takes: 112 n + 565 with 115 updates.
 STEPS = 14000
 # Orders by the number of their updates.
@@ -90,6 +90,7 @@ def draw_frames(bench):
         "nothing lost": lambda order: ended(bench, order, "checked", []),
         "nothing lost, short plan": lambda order: ended(bench, order, "short", []),
         "one answer in twenty lost": lambda order: ended(bench, order, "checked", lossy),
+        "one answer in twenty lost, short plan": lambda order: ended(bench, order, "short", lossy),
     }
     lines = {name: [(count, way(order)[0]) for count, order in ORDERS.items()] for name, way in ways.items()}
     lines["at most, whatever is lost"] = [(count, 112 * count + 560) for count in ORDERS]

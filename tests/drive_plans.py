@@ -1,4 +1,4 @@
-"""Tests of the short plan: its frames, losses, units that don't do as asked, and kills behind which the plan turns."""
+"""Tests of the short plan: its frames, what is lost or altered, units that don't do as asked, kills between plans."""
 
 import json
 import signal
@@ -8,20 +8,29 @@ from functools import partialmethod
 from base import BenchTest, settings
 from drive_desk import DONE_JOURNAL, DONE_TOLD, GTIN, GTIN_BYTES, PRESENT, desk_of
 from drive_units import ALL_FIELDS, BLANK, DOUBTFUL, LEFT, LOSSY, SCENES, bank_of, finish
-from driven import Desk, judge, simulated_link
+from driven import Desk, Following, judge, simulated_link
 
 FULL = ALL_FIELDS.orders[0]
 YEAR = {"order": 1, "unit": 5, "year": 24}
 # An order, its frames by each plan, and the rows that it is read back in.
 COUNTS = [
-    ({"order": 1, "unit": 5, "gtin": GTIN}, 112, 62),  # 02h to 08h
-    (YEAR, 56, 46),  # 02h; 13h
-    ({"order": 1, "unit": 5, "year": 24, "week": 53}, 70, 52),  # 02h; 13h and 14h
-    ({"order": 1, "unit": 5, "gtin": GTIN, "identification": "0011223344556677"}, 224, 110),  # 02h to 10h
-    (FULL, 1652, 766),
+    ({"order": 1, "unit": 5, "gtin": GTIN}, 112, 49),  # 02h to 08h
+    (YEAR, 56, 44),  # 02h; 13h
+    ({"order": 1, "unit": 5, "year": 24, "week": 53}, 70, 48),  # 02h; 13h and 14h
+    ({"order": 1, "unit": 5, "gtin": GTIN, "identification": "0011223344556677"}, 224, 81),  # 02h to 10h
+    (FULL, 1652, 536),
 ]
-# What a miss costs at most: all frames of a block read of sixteen locations.
+# What one miss costs at most: all frames of a block read of sixteen locations.
 MOST_OF_A_MISS = 22
+# Answers that are lost of a GTIN order, by their frames, the frames that it then takes, and its code. Its row of 02h to
+# 08h has 13 frames, of which the last one is frame 49. Where it fails it is read again: 02h, and three times two.
+LAST_OF_A_TRY = [49, 62, 75, 88, 101, 114, 127, 140]
+LOST_OF_A_ROW = [
+    (LAST_OF_A_TRY[:7], 140, "0 Done"),
+    (LAST_OF_A_TRY, 140 + 7 + 3 * 8, "0 Done"),
+    ([*LAST_OF_A_TRY, 147], 140 + 2 * 7 + 3 * 8, "0 Done"),
+    ([*LAST_OF_A_TRY, *range(147, 197, 7)], 140 + 8 * 7 + 14, "4 Doubt"),
+]
 DONE = "reply 1 kept 0 Done"
 
 
@@ -77,6 +86,30 @@ class Forgetful(simulated_link.Unit):
         return is_stored
 
 
+class Staying(simulated_link.Unit):
+    """A unit that doesn't move DTR0 on at a write."""
+
+    def _write(self, byte, refusing):
+        """Do what a unit does, and stay."""
+        location = self.registers[0]
+        is_stored = super()._write(byte, refusing)
+        self.registers[0] = location
+        return is_stored
+
+
+class Altering(simulated_link.Bus):
+    """A bus with unit 5 that alters the answer to one frame, counted from 1: one bit is turned."""
+
+    def __init__(self, altered):
+        super().__init__([simulated_link.Unit(5)])
+        self.altered = altered
+
+    def carry(self, word):
+        """Carry a forward frame; return the answer, which may be altered."""
+        answer = super().carry(word)
+        return answer ^ 0x40 if answer is not None and self.frames == self.altered else answer
+
+
 def turned_run(folder, scene, stops):
     """Kill drives by the one plan and the other at each of the stops; judge each moment, and then go on."""
     desk, bus = Turned(settings["program"], folder, scene.orders), scene.bus()
@@ -101,6 +134,12 @@ class PlansTest(BenchTest):
                 judge(bus, {5: BLANK}, desk.held())
             self.assertEqual([frames_of(played(order, plan)) for plan in ("checked", "short")], [checked, short])
 
+    def test_a_stream_by_the_short_plan(self):
+        desk, bus = Following(settings["program"], self.folder, PRESENT), simulated_link.Bus([simulated_link.Unit(5)])
+        desk.options = ["--short-plan"]
+        self.assertEqual((desk.over(bus).told, bus.frames), (f"{desk.ready}{DONE_TOLD}", 49))
+        judge(bus, {5: BLANK}, desk.held())
+
     def test_what_the_short_plan_writes(self):
         desk, bus = short_desk(self.folder, PRESENT), simulated_link.Bus([simulated_link.Unit(5)])
         desk.over(bus)
@@ -121,9 +160,35 @@ class PlansTest(BenchTest):
     test_each_frame_and_answer_lost_part_3 = partialmethod(each_frame_and_answer_lost, 2, 4)
     test_each_frame_and_answer_lost_part_4 = partialmethod(each_frame_and_answer_lost, 3, 4)
 
+    def test_a_row_that_fails_is_read_again(self):
+        for lost, frames, code in LOST_OF_A_ROW:
+            fates, before = [], 0
+            for frame in lost:
+                fates += [{"times": frame - before - 1}, {"answer_lost": True}]
+                before = frame
+            lines = played(PRESENT[0], fates=fates)
+            self.assertEqual((lost, frames_of(lines), f"reply 1 kept {code}" in lines), (lost, frames, True))
+
+    def test_each_answer_altered(self):
+        # The reads of the row of 02h to 10h are the frames 65 to 79. It is read again by 02h and seven times two.
+        order, _, short = COUNTS[3]
+        for frame in range(1, short + 1):
+            desk, bus = short_desk(self.folder, [order], b""), Altering(frame)
+            told = desk.over(bus).told
+            frames = {short + 7 + 7 * 8} if 65 <= frame <= 79 else range(short, short + MOST_OF_A_MISS + 1)
+            assert told == DONE_TOLD and bus.frames in frames, (frame, told, bus.frames)
+            judge(bus, {5: BLANK}, desk.held())
+
+    def test_an_altered_byte_of_a_short_row(self):
+        # 02h is read by frame 35, 13h by frame 42: rows of one location aren't read again.
+        for frame, code in (34, "0 Done"), (35, "4 Doubt"), (42, "4 Doubt"):
+            desk, bus = short_desk(self.folder, [YEAR], b""), Altering(frame)
+            self.assertIn(f"reply 1 kept {code}\n", desk.over(bus).told)
+            judge(bus, {5: BLANK}, desk.held())
+
     def test_power_lost_behind_each_step(self):
         codes = set()
-        for steps in range(1, 67):
+        for steps in range(1, 54):
             lines = played(PRESENT[0], events=[{"submit": PRESENT[0]}, {"steps": steps}, {"power": 5}, {"steps": 2000}])
             code = next(line for line in lines if line.startswith("reply 1 kept"))
             bank = next(line for line in lines if line.startswith("bank 5 00"))
@@ -139,9 +204,15 @@ class PlansTest(BenchTest):
                 self.assertEqual((plan, [line for line in lines if " kept " in line]), (plan, [f"reply 1 kept {code}"]))
 
     def test_a_unit_that_drops_write_enable(self):
-        # Each of the seven writes behind the first one takes seven frames more: the try that misses has five.
+        # Each of the seven writes behind the first one takes seven frames more, behind a try that misses.
         desk, bus = short_desk(self.folder, PRESENT), simulated_link.Bus([Forgetful(5)])
-        self.assertEqual((desk.over(bus).told, bus.frames), (DONE_TOLD, 62 + 7 * 7))
+        self.assertEqual((desk.over(bus).told, bus.frames), (DONE_TOLD, 49 + 7 * 7))
+        judge(bus, {5: BLANK}, desk.held())
+
+    def test_a_unit_that_does_not_move_on(self):
+        # Each of the six writes just behind another one misses at its second question, and takes seven frames then.
+        desk, bus = short_desk(self.folder, PRESENT), simulated_link.Bus([Staying(5)])
+        self.assertEqual((desk.over(bus).told, bus.frames), (DONE_TOLD, 49 + 6 * (2 + 7 - 3)))
         judge(bus, {5: BLANK}, desk.held())
 
     def test_scenes_by_the_short_plan(self):

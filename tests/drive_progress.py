@@ -180,7 +180,7 @@ class ProgressTest(BenchTest):
     def test_what_orders_should_take(self):
         orders = [FULL, YEAR | {"order": 2}, PRESENT[0] | {"order": 3}]
         orders += [{"order": 4, "unit": 5, "gtin": GTIN, "identification": "0011223344556677"}]
-        for make, wanted in (desk_of, {1652, 56, 112, 224}), (short_desk, {766, 46, 62, 110}):
+        for make, wanted in (desk_of, {1652, 56, 112, 224}), (short_desk, {536, 44, 49, 81}):
             desk = make(self.folder, orders, b"")
             status, drawn, _ = seen(desk, bus_of())
             self.assertEqual((status, {expected for _, expected in frames_in(drawn)}), (0, wanted))
@@ -193,16 +193,16 @@ class ProgressTest(BenchTest):
 
     def test_each_miss_makes_more(self):
         for make in desk_of, short_desk:
-            whole, exact = 112 if make is desk_of else 62, 0
+            whole, exact = 112 if make is desk_of else 49, 0
             for lost in range(1, whole + 1, 3):
                 desk = make(self.folder, PRESENT, b"")
                 report = reporting(desk, *desk.options)
                 report.unlink(missing_ok=True)
                 status, drawn, _ = seen(desk, bus_of(lost_frames=[lost]))
                 line = lines_of(report)[0]
-                # Where the last line was drawn behind the miss, it is exact.
+                # Where the last line was drawn behind the miss, and DTR0 was set since then, it is exact.
                 last = [DRAWN.fullmatch(one) for one in drawn][-1]
-                if int(last[4]) == line["misses"] == 1:
+                if int(last[4]) == line["misses"] == 1 and int(last[2]) > lost + 5:
                     self.assertEqual((status, int(last[3])), (0, line["frames"]))
                     exact += 1
             assert exact > whole // 6, exact
@@ -247,7 +247,7 @@ class ProgressTest(BenchTest):
             desk = desk_of(self.folder, PRESENT, b"")
             desk.options = ["--progress", *options]
             told = desk.over(bus_of()).told
-            frames = 62 if options else 112
+            frames = 49 if options else 112
             assert told.startswith(DONE_TOLD) and "\x1b" not in told and "\r" not in told, told
             totals = f"not done 0, written now 1, known before 0, frames {frames}, misses 0"
             check_totals(told.removeprefix(DONE_TOLD).removesuffix("\n"), totals)

@@ -203,12 +203,18 @@ class ReportTest(BenchTest):
             (gtin, lambda: one(Wrong(0x08)), [(4, cause("other", 0x08, 0xAB ^ 0xFF))]),
             (gtin, lambda: one(Wrong(0x02)), [(4, cause("other", 0x02, 0x00))]),
             # The first access that failed is told, and none of those that close the unit: it is gone for all of them,
-            # or is back for them. The checked plan writes 08h by the frames 50 to 56 and reads 02h by 64 to 70, the
-            # short one reads the row from 02h on by the frames 50 to 62.
+            # or is back for them. The checked plan writes 06h by the frames 36 to 42 and reads 02h by 64 to 70, the
+            # short one reads the row from 02h on by the frames 37 to 49.
             (gtin, lambda: gone(8), [(5, cause("unwritten", 0x02))]),
             (gtin, lambda: gone(8, 32), [(4, cause("unwritten", 0x02))]),
-            (gtin, lambda: gone(50), [(5, cause("unwritten", 0x08)), (5, cause("unread", 0x02))]),
+            (gtin, lambda: gone(37), [(5, cause("unwritten", 0x06)), (5, cause("unread", 0x02))]),
             (gtin, lambda: gone(64), [(5, cause("unread", 0x02)), (0, None)]),
+            # A row that fails is no cause. By the short plan 02h is then read again, by seven frames, and 03h with 04h.
+            # A try that misses has two frames there, and four of a checked write.
+            (gtin, lambda: gone(37, 16), [(0, None)]),
+            (gtin, lambda: gone(37, 32), [(4, cause("unwritten", 0x06)), (4, cause("unread", 0x02))]),
+            (gtin, lambda: blank_bus(5, lost_frames={*range(37, 53), *range(60, 76)}),
+             [(0, None), (4, cause("unread", 0x03))]),
             # The first look at the unit, and ends that have no cause.
             (year, lambda: gone(1), [(3, cause("unread", 0x00))]),
             (year, lambda: gone(8), [(3, cause("unread", 0x11))]),

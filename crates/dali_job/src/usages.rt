@@ -175,7 +175,7 @@ pub(crate) const DRIVE_FOLLOW_HELP: &str =
     "Takes ORDERS as a stream, such as a named pipe, and carries out each line before it reads the next";
 
 pub(crate) const DRIVE_SHORT_HELP: &str =
-    "Takes half the frames: a unit stays write-enabled, and bytes are read back in rows";
+    "Takes fewer frames, down to a third: a write goes on from the one before, and bytes are read back in rows";
 
 pub(crate) const DRIVE_DONE_HELP: &str =
     "Ends with 1 where the last reply of some order isn't `kept 0 Done`";

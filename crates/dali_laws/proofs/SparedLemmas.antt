@@ -32,6 +32,7 @@ use Rattle.dali_write.proofs.PowerLemmas.{drifts_keep}
 use Rattle.dali_write.proofs.DriftLemmas.{drifts_bank}
 use Rattle.dali_write.proofs.StillReadLemmas.{stands_true}
 use Rattle.dali_write.proofs.RestLemmas.{closing_rests}
+use Rattle.dali_write.proofs.TurnLemmas.{close_turn, length_turn, unlock_turn}
 use Rattle.dali_write.proofs.SuccessLemmas.{gone, closing_goes, fresh_goes, world_alone}
 use Rattle.dali_write.proofs.OpenedSuccessLemmas.{unlock_goes, takes_still}
 use Rattle.dali_write.proofs.ElseLemmas.{closing_keeps_bank, run_apart, none_on, same_bank, alone_with}
@@ -140,7 +141,7 @@ cleared (standings.Left left) unit bank older begun mid run idle onset closed ki
     let end =
     gone loses (OnlyDiffers at_left.0.bank1 2) verdicts.Closed verdicts.Closed left
     (close verdicts.Closed verdicts.NotClosed) at_left.0 older [] begun mid spared
-    (closing_goes at_left.0.bank1 (omega arith)) closed in
+    (closing_goes at_left.0.bank1 (omega arith)) (close_turn None verdicts.Closed verdicts.NotClosed) closed in
     let off = closed_off loses left end.2.now older begun mid run closed end.2.alone in
     let same_misses : misses_in (older ++ []) ≡ misses_in older = ap misses_in (append-nil older) in
     let count = end.1 in
@@ -282,7 +283,8 @@ looked pace first order bank verdict sent told older begun last run idle onset k
     let end =
     gone loses (λ now. now ≡ clear.now.bank1) (found_verdict clear.now.bank1.bytes order.updates) verdict order.unit
     (read_length pace order.updates) clear.now told older two.mid last spared
-    (fresh_goes pace order.updates clear.now.bank1 (like_bank bank clear.now.bank1 clear.like onset.whole)) wants in
+    (fresh_goes pace order.updates clear.now.bank1 (like_bank bank clear.now.bank1 clear.like onset.whole))
+    (length_turn pace order.updates) wants in
     let count = end.1 in
     let less = end.2.few in
     let before = clear.few in
@@ -343,7 +345,7 @@ spared_end pace first order code bank sent begun last run idle onset rises kind 
     last spared
     (unlock_goes pace order.updates look.now.bank1 rises (omega arith)
     (like_takes bank look.now.bank1 order.updates look.like (takes due)))
-    wants in
+    (unlock_turn pace order.updates) wants in
     let count = end.1 in
     let less = end.2.few in
     let before = look.few in
@@ -396,7 +398,7 @@ spared_closed (standings.Left other) left unit bank sent begun last run at onset
     let end =
     gone loses (OnlyDiffers at_left.0.bank1 2) verdicts.Closed verdicts.NotClosed left
     (close verdicts.Closed verdicts.NotClosed) at_left.0 sent [] begun last spared
-    (closing_goes at_left.0.bank1 (omega arith)) wants in
+    (closing_goes at_left.0.bank1 (omega arith)) (close_turn None verdicts.Closed verdicts.NotClosed) wants in
     let never = end.2.ends in cc
 
 -- what is said

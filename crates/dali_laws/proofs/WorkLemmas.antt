@@ -1,5 +1,5 @@
 -- What a trace that keeps to the plans costs.
-use Rattle.std.proofs.Common.{◌≡◌, ◌⊎◌, inl, inr, refl, sym, ap, ◌∙◌, subst, ℕ, ◌+◌, ◌*◌, ◌≤◌, Bool, true, false}
+use Rattle.std.proofs.Common.{◌≡◌, ◌⊎◌, inl, inr, refl, sym, ap, ◌∙◌, subst, ℕ, ◌+◌, ◌≤◌, Bool, true, false}
 use Rattle.std.specs.Prelude.{⊤}
 use Rattle.std.proofs.Common.{nat_lt, if◌then◌else◌, List, [], ◌∷◌, ◌++◌, length, length-append, append-nil, Option}
 use Rattle.std.proofs.Common.{Some, None, IfSome, arith}
@@ -23,16 +23,17 @@ use Rattle.dali_write.specs.declared.ask.Verdict.TheVariants as verdicts
 use Rattle.dali_write.specs.Plans.{Plan, greatest, read_length, unlock, close}
 use Rattle.dali_write.specs.Tries.{Wants}
 use Rattle.dali_write.specs.Walks.{Took}
-use Rattle.dali_write.specs.Doubts.{HasFailed, EndsUnread, FoundAnother}
+use Rattle.dali_write.specs.Doubts.{EndsUnread, FailedForGood, FoundAnother}
 use Rattle.dali_write.specs.Frames.{read_frames, write_frames}
 use Rattle.dali_write.specs.Counts.{closing_limit, fresh_limit, opened_limit, done_frames}
 use Rattle.dali_write.specs.Misses.{IsLong}
 use Rattle.dali_write.proofs.NextLemmas.{first_wanted, next_wanted, fresh_few, opened_few, closing_few}
 use Rattle.dali_write.proofs.MissLemmas.{took_long}
-use Rattle.dali_write.proofs.ExactLemmas.{done_took}
+use Rattle.dali_write.proofs.TurnLemmas.{close_turn, length_turn, unlock_turn}
+use Rattle.dali_write.specs.Plans.{IsInTurn}
+use Rattle.dali_write.proofs.ExactLemmas.{HasOthers, none_other, done_took_on}
 use Rattle.dali_write.proofs.ExactEndLemmas.{low_took, high_took, closed_took}
 use Rattle.dali_write.proofs.GiveUpLemmas.{fresh_late, opened_late, closing_late, unread_joined, unlooked_joined}
-use Rattle.dali_write.proofs.GiveUpLemmas.{failed_joined}
 use Rattle.dali_write.proofs.DoubtLemmas.{doubt_cause}
 use Rattle.dali_trace.specs.declared.happening.Reply.TheVariants as replies
 use Rattle.dali_trace.specs.declared.happening.Happening.{Happening}
@@ -43,13 +44,13 @@ use Rattle.dali_trace.specs.Legal.{Legal, MaySay, EndsAs, HasNumber}
 use Rattle.dali_trace.specs.Grounds.{EndsIn}
 use Rattle.dali_trace.specs.ByPlan.{told_in, Asks, ByPlan}
 use Rattle.dali_laws.proofs.Comings.{ClosedBy, CheckedBy, OpenedBy, EndedBy, NewestEndedBy, HasCome}
-use Rattle.dali_trace.specs.Work.{stood_at, kept_since, work_limit, look_frames, frames_from, FindsAnother, IsEarned}
+use Rattle.dali_trace.specs.Work.{stood_at, kept_since, work_limit, look_frames, frames_from, FailsForGood, FindsAnother, IsEarned}
 use Rattle.dali_trace.specs.Work.{order_at, IsWithinLimit, IsSaidSo, IsWorked}
 use Rattle.dali_laws.proofs.OnPlanLemmas.{on_plan, idle_next}
 use Rattle.dali_laws.proofs.TakenLemmas.{none_waits_ended, no_opened}
 use Rattle.dali_laws.proofs.SafeLemmas.{may_keep}
 use Rattle.dali_write.specs.declared.pace.Pace.{Pace}
-use Rattle.dali_write.specs.Plans.{rows_of, most_of, read_backs}
+use Rattle.dali_write.specs.Plans.{rows_of, most_of, read_backs, all_rows}
 use Rattle.dali_write.specs.Frames.{format_frames}
 use Rattle.dali_write.specs.declared.pace.Pace.TheVariants.{Checked, Short}
 
@@ -185,15 +186,16 @@ within_limit start past legal planned =
 
 -- exact counts
 
-joined_long : (pace : Pace) (unit frames before all : ℕ) (sent told older : List Exchange) (verdict : Verdict)
-    (plan : Plan)
-    → sent ≡ told ++ older → Took pace unit plan told verdict frames → IsLong pace before older
-    → frames + before ≡ all → IsLong pace all sent
-joined_long pace unit frames before all sent told older verdict plan parts took long sum =
-    rw (parts, ← sum) (took_long pace unit plan told older verdict frames before took long)
+joined_long : (pace : Pace) (wanted : List (ℕ × ℕ)) (unit frames others before all : ℕ)
+    (sent told older : List Exchange) (verdict : Verdict) (plan : Plan)
+    → sent ≡ told ++ older → IsInTurn None plan → Took pace unit plan told verdict frames others
+    → HasOthers wanted told older others → IsLong pace wanted before older → frames + before ≡ all
+    → IsLong pace wanted all sent
+joined_long pace wanted unit frames others before all sent told older verdict plan parts turn took more long sum =
+    rw (parts, ← sum) (took_long pace unit plan wanted told older verdict frames others before took more turn long)
 
-none_long : (pace : Pace) (sent : List Exchange) → sent ≡ [] → IsLong pace 0 sent
-none_long pace sent none = rw none (omega arith, omega arith)
+none_long : (pace : Pace) (wanted : List (ℕ × ℕ)) (sent : List Exchange) → sent ≡ [] → IsLong pace wanted 0 sent
+none_long pace wanted sent none = rw none (omega arith, omega arith)
 
 abbrev closed_frames : Standing → ℕ
 closed_frames (standings.Left unit) = write_frames + read_frames
@@ -201,7 +203,7 @@ closed_frames other = 0
 
 -- a closing session is the same by both plans
 took_too : (pace : Pace) (unit frames : ℕ) (plan : Plan) (told : List Exchange) (verdict : Verdict)
-    → Took Checked unit plan told verdict frames → Took pace unit plan told verdict frames
+    → Took Checked unit plan told verdict frames 0 → Took pace unit plan told verdict frames 0
 took_too Checked unit frames plan told verdict took = took
 took_too Short unit frames plan told verdict took =
     record {
@@ -212,60 +214,67 @@ took_too Short unit frames plan told verdict took =
       few = omega (arith, took.few);
     }
 
-closed_long : (pace : Pace) (first : Standing) (sent : List Exchange) → ClosedBy first sent
-    → IsLong pace (closed_frames first) sent
-closed_long pace standings.Idle sent closed = none_long pace sent closed
-closed_long pace (standings.Began order) sent closed = none_long pace sent closed
-closed_long pace (standings.Opened order) sent closed = absurd closed
-closed_long pace (standings.Left unit) sent closed =
-    joined_long pace unit (write_frames + read_frames) 0 (write_frames + read_frames) sent sent [] verdicts.Closed
-    (close verdicts.Closed verdicts.NotClosed) (sym (append-nil sent))
-    (took_too pace unit _ _ sent verdicts.Closed (closed_took sent unit closed)) (none_long pace [] refl) (omega arith)
+closed_long : (pace : Pace) (wanted : List (ℕ × ℕ)) (first : Standing) (sent : List Exchange) → ClosedBy first sent
+    → IsLong pace wanted (closed_frames first) sent
+closed_long pace wanted standings.Idle sent closed = none_long pace wanted sent closed
+closed_long pace wanted (standings.Began order) sent closed = none_long pace wanted sent closed
+closed_long pace wanted (standings.Opened order) sent closed = absurd closed
+closed_long pace wanted (standings.Left unit) sent closed =
+    joined_long pace wanted unit (write_frames + read_frames) 0 0 (write_frames + read_frames) sent sent []
+    verdicts.Closed (close verdicts.Closed verdicts.NotClosed) (sym (append-nil sent))
+    (close_turn None verdicts.Closed verdicts.NotClosed)
+    (took_too pace unit _ _ sent verdicts.Closed (closed_took sent unit closed)) (none_other wanted sent [])
+    (none_long pace wanted [] refl) (omega arith)
 
-checked_long : (pace : Pace) (first : Standing) (order : Contents) (sent : List Exchange)
+checked_long : (pace : Pace) (wanted : List (ℕ × ℕ)) (first : Standing) (order : Contents) (sent : List Exchange)
     → CheckedBy pace first order sent
-    → IsLong pace (look_frames pace order.updates + closed_frames first) sent
-checked_long pace first order sent (told, older, parts, wants, closed) = by (nat_lt (greatest order.updates) 0x13) refl
+    → IsLong pace wanted (look_frames pace order.updates + closed_frames first) sent
+checked_long pace wanted first order sent (told, older, parts, wants, closed) =
+    by (nat_lt (greatest order.updates) 0x13) refl
   where
     by : (low : Bool) → nat_lt (greatest order.updates) 0x13 ≡ low
-        → IsLong pace ((if low then read_frames else read_frames + format_frames pace) + closed_frames first) sent
+        → IsLong pace wanted ((if low then read_frames else read_frames + format_frames pace) + closed_frames first)
+        sent
     by true e =
-        joined_long pace order.unit read_frames (closed_frames first) (read_frames + closed_frames first) sent told
-        older verdicts.MayOpen (read_length pace order.updates) parts
+        joined_long pace wanted order.unit read_frames 0 (closed_frames first) (read_frames + closed_frames first) sent
+        told older verdicts.MayOpen (read_length pace order.updates) parts
+        (length_turn pace order.updates)
         (low_took told order.unit pace order.updates (ltb-true (greatest order.updates) 0x13 e) wants)
-        (closed_long pace first older closed) refl
+        (none_other wanted told older) (closed_long pace wanted first older closed) refl
     by false e =
-        joined_long pace order.unit (read_frames + format_frames pace) (closed_frames first)
-        (read_frames + format_frames pace + closed_frames first) sent told
-        older verdicts.MayOpen (read_length pace order.updates) parts
+        joined_long pace wanted order.unit (read_frames + format_frames pace) 0 (closed_frames first)
+        (read_frames + format_frames pace + closed_frames first) sent
+        told older verdicts.MayOpen (read_length pace order.updates) parts
+        (length_turn pace order.updates)
         (high_took told order.unit pace order.updates (ltb-false (greatest order.updates) 0x13 e) wants)
-        (closed_long pace first older closed) refl
+        (none_other wanted told older) (closed_long pace wanted first older closed) refl
+
+-- a session that carries the order out
+opened_long : (pace : Pace) (order : Contents) (sent told older : List Exchange) (before all : ℕ) → sent ≡ told ++ older
+    → Wants order.unit (unlock pace order.updates) told (asks.Ended verdicts.Done)
+    → IsLong pace (read_backs order.updates) before older → done_frames pace order.updates + before ≡ all
+    → IsLong pace (read_backs order.updates) all sent
+opened_long pace order sent told older before all parts wants long sum =
+    let (others, among, took) = done_took_on told older order.unit pace order.updates wants in
+    joined_long pace (read_backs order.updates) order.unit (done_frames pace order.updates) others before all sent told
+    older verdicts.Done (unlock pace order.updates) parts (unlock_turn pace order.updates) took among long sum
 
 done_long : (pace : Pace) (first : Standing) (order : Contents) (sent told older : List Exchange) → sent ≡ told ++ older
     → Wants order.unit (unlock pace order.updates) told (asks.Ended verdicts.Done)
-    → OpenedBy pace first order older → IsLong pace (frames_from pace first order.updates) sent
+    → OpenedBy pace first order older
+    → IsLong pace (read_backs order.updates) (frames_from pace first order.updates) sent
 done_long pace standings.Idle order sent told older parts wants opened =
-    joined_long pace order.unit (done_frames pace order.updates) (look_frames pace order.updates + 0)
-    (frames_from pace standings.Idle order.updates) sent told older verdicts.Done (unlock pace order.updates) parts
-    (done_took told order.unit pace order.updates wants) (checked_long pace standings.Idle order older opened)
-    (omega arith)
+    opened_long pace order sent told older (look_frames pace order.updates + 0) _ parts wants
+    (checked_long pace (read_backs order.updates) standings.Idle order older opened) (omega arith)
 done_long pace (standings.Began begun) order sent told older parts wants opened =
-    joined_long pace order.unit (done_frames pace order.updates) (look_frames pace order.updates + 0)
-    (frames_from pace (standings.Began begun) order.updates) sent told older verdicts.Done (unlock pace order.updates)
-    parts
-    (done_took told order.unit pace order.updates wants) (checked_long pace (standings.Began begun) order older opened)
-    (omega arith)
+    opened_long pace order sent told older (look_frames pace order.updates + 0) _ parts wants
+    (checked_long pace (read_backs order.updates) (standings.Began begun) order older opened) (omega arith)
 done_long pace (standings.Left unit) order sent told older parts wants opened =
-    joined_long pace order.unit (done_frames pace order.updates)
-    (look_frames pace order.updates + (write_frames + read_frames))
-    (frames_from pace (standings.Left unit) order.updates) sent
-    told older verdicts.Done
-    (unlock pace order.updates) parts (done_took told order.unit pace order.updates wants)
-    (checked_long pace (standings.Left unit) order older opened) (omega arith)
+    opened_long pace order sent told older (look_frames pace order.updates + (write_frames + read_frames)) _ parts wants
+    (checked_long pace (read_backs order.updates) (standings.Left unit) order older opened) (omega arith)
 done_long pace (standings.Opened other) order sent told older parts wants opened =
-    joined_long pace order.unit (done_frames pace order.updates) 0 (done_frames pace order.updates) sent told older
-    verdicts.Done (unlock pace order.updates) parts
-    (done_took told order.unit pace order.updates wants) (none_long pace older opened.1) (omega arith)
+    opened_long pace order sent told older 0 _ parts wants (none_long pace (read_backs order.updates) older opened.1)
+    (omega arith)
 
 -- what a session's end earns
 
@@ -298,10 +307,11 @@ opened_earned pace first order codes.Doubt sent told older verdict parts ends wa
     let same : verdict ≡ verdicts.Doubt = cc in
     by (doubt_cause told order.unit pace order.updates (rw same at wants))
   where
-    by : HasFailed order.unit told
-        ⊎ FoundAnother order.unit (unlock pace order.updates) (rows_of (most_of pace) (read_backs order.updates)) told
-        → HasFailed order.unit sent ⊎ FindsAnother pace order sent
-    by (inl failed) = inl (failed_joined order.unit sent told older parts failed)
+    by : FailedForGood order.unit (unlock pace order.updates) told
+        ⊎ FoundAnother order.unit (unlock pace order.updates)
+        (all_rows (rows_of (most_of pace) (read_backs order.updates))) told
+        → FailsForGood pace order sent ⊎ FindsAnother pace order sent
+    by (inl failed) = inl (told, older, parts, failed)
     by (inr found) = inr (told, older, parts, found)
 opened_earned pace first order codes.DoubtOpen sent told older verdict parts ends wants opened =
     let is = ends.1 in

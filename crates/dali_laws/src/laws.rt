@@ -6,6 +6,7 @@ ghost use Rattle.dali_bus.specs.Chain.{IsChain};
 ghost use Rattle.dali_journal.specs.declared.standing.Standing.TheVariants as standings;
 ghost use Rattle.dali_write.specs.declared.pace.Pace.{Pace};
 ghost use Rattle.dali_write.specs.Plans.{rows_of, read_backs, greatest};
+ghost use Rattle.dali_write.specs.Counts.{jumps};
 ghost use Rattle.dali_trace.specs.Work.{work_limit, frames_from};
 ghost use Rattle.dali_trace.specs.declared.happening.Happening.{Happening};
 ghost use Rattle.dali_trace.specs.Trace.{Start};
@@ -105,13 +106,14 @@ pub fn limits_are_these()
         → frames_from Pace.Checked standings.Idle updates ≡ 14 * length updates + 28 }
     ensures high { (updates : List (ℕ × ℕ)) → 0x13 ≤ greatest updates
         → frames_from Pace.Checked standings.Idle updates ≡ 14 * length updates + 42 }
-    // By the short plan, with a row for each sixteen neighbours that are read back:
+    // By the short plan, with a frame more for each write that isn't just behind the one before, and a row for each
+    // sixteen neighbours that are read back:
     ensures low_short { (updates : List (ℕ × ℕ)) → greatest updates < 0x13
         → frames_from Pace.Short standings.Idle updates
-        ≡ 6 * length updates + 6 * length (rows_of 16 (read_backs updates)) + 20 }
+        ≡ 4 * length updates + jumps 2 updates + 6 * length (rows_of 16 (read_backs updates)) + 18 }
     ensures high_short { (updates : List (ℕ × ℕ)) → 0x13 ≤ greatest updates
         → frames_from Pace.Short standings.Idle updates
-        ≡ 6 * length updates + 6 * length (rows_of 16 (read_backs updates)) + 28 }
+        ≡ 4 * length updates + jumps 2 updates + 6 * length (rows_of 16 (read_backs updates)) + 26 }
     ensures left { (pace : Pace) (unit : ℕ) (updates : List (ℕ × ℕ))
         → frames_from pace (standings.Left unit) updates ≡ frames_from pace standings.Idle updates + 14 }
 {}

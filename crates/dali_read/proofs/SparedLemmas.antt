@@ -81,7 +81,7 @@ went loses at course place unit (newest ∷ done) first last run keeps_power alo
     block_few loses at newest.block w.now (Some newest.bytes) newest.told two.mid last two.after keeps_power w.alone
     can kinds.1 (inl turn.3) in
     let misses =
-    access_ends at (read_block newest.block) (Some newest.bytes) newest.told (told_in done) (inl turn.3) in
+    access_ends at (read_block newest.block) (Some newest.bytes) newest.told (told_in done) (inl turn.3) tt in
     let older = w.few in
     let sum = two.sum in
     record {

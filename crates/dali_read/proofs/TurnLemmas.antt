@@ -28,7 +28,7 @@ turn_frames unit course (newest ∷ done) turn =
       success_frames unit newest.block newest.bytes newest.told
           turn.1 turn.3,
       access_ends unit (read_block newest.block) (Some newest.bytes) newest.told (told_in done) (inl
-          turn.3),
+          turn.3) tt,
       length-append newest.told (told_in done),
     )
 

@@ -180,7 +180,7 @@ not_silent_after_seven silent =
       arith,
       all_of_last 5 silent.done silent.block silent.missed (missed_tries 7) silent.in_turn silent.next
           silent.told_are,
-      access_ends 5 (read_block silent.block) None silent.missed [] (inr (refl, silent.fails)),
+      access_ends 5 (read_block silent.block) None silent.missed [] (inr (refl, silent.fails)) tt,
       append-nil silent.missed,
     )
 

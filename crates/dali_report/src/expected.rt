@@ -19,12 +19,13 @@ pub(crate) const CLOSING: u64 = 14;
 pub(crate) fn drive_frames(order: &Order, pace: Pace) -> u64 {
     let updates = order.updates();
     let count = updates.len() as u64;
-    let rows = rows_from(Some(LOCK), updates);
+    let rows = rows_from(Some(LOCK), updates, MOST_IN_ROW);
+    let runs = rows_from(Some(LOCK), updates, u64::MAX);
     match (pace, has_format(updates)) {
         (Pace::Checked, false) => frames(14, count, 0, 28),
         (Pace::Checked, true) => frames(14, count, 0, 42),
-        (Pace::Short, false) => frames(6, count, rows, 20),
-        (Pace::Short, true) => frames(6, count, rows, 28),
+        (Pace::Short, false) => frames(4, count, rows, runs.saturating_add(18)),
+        (Pace::Short, true) => frames(4, count, rows, runs.saturating_add(26)),
     }
 }
 
@@ -32,7 +33,7 @@ pub(crate) fn drive_frames(order: &Order, pace: Pace) -> u64 {
 pub(crate) fn verify_frames(order: &Order) -> u64 {
     let updates = order.updates();
     let count = updates.len() as u64;
-    let rows = rows_from(None, updates);
+    let rows = rows_from(None, updates, MOST_IN_ROW);
     if has_format(updates) {
         frames(1, count, rows, 15)
     } else {
@@ -55,13 +56,14 @@ fn has_format(updates: &[(u8, u8)]) -> bool {
     }
 }
 
-// How many rows of neighbours there are, the first of which begins before the updates where a location is named.
-fn rows_from(first: Option<u8>, updates: &[(u8, u8)]) -> u64 {
+// How many rows of at most so many neighbours there are, the first of which begins before the updates where a location
+// is named.
+fn rows_from(first: Option<u8>, updates: &[(u8, u8)], most: u64) -> u64 {
     let mut before = first;
     let mut rows = u64::from(first.is_some());
     let mut length = rows;
     for &(location, _) in updates {
-        if before == location.checked_sub(1) && length > 0 && length < MOST_IN_ROW {
+        if before == location.checked_sub(1) && length > 0 && length < most {
             length = length.saturating_add(1);
         } else {
             rows = rows.saturating_add(1);

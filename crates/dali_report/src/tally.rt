@@ -12,8 +12,8 @@ use dali_write::Wish;
 pub(crate) struct Tally {
     pub(crate) frames: u64,
     pub(crate) misses: u64,
-    // Where DTR0 should stand.
-    location: u8,
+    /// Where DTR0 should stand.
+    pub(crate) location: u8,
 }
 
 impl Tally {
@@ -47,7 +47,7 @@ fn next_location(frame: &Frame, location: u8) -> u8
 {
     match *frame {
         Frame::Dtr0(set) => set,
-        Frame::Read(_) => location.saturating_add(1),
+        Frame::Read(_) | Frame::Write(_) => location.saturating_add(1),
         _ => location,
     }
 }

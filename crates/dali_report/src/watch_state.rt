@@ -73,9 +73,11 @@ impl AtHand {
 
     // One more frame of it, with this answer or none.
     fn add(&mut self, frame: &Frame, answer: Option<u8>) {
-        let misses = self.tally.misses;
+        let before = self.tally;
         self.tally.add(frame, answer);
-        let more = self.attempt.add(frame, self.tally.misses > misses);
+        let more = self
+            .attempt
+            .add(frame, self.tally.misses > before.misses, before.location);
         if let Some(expected) = self.expected {
             self.expected = Some(expected.saturating_add(more).max(self.tally.frames));
         }

@@ -3,6 +3,7 @@ pub mod WorkedCutLemmas
 pub mod WorkedLemmas
 pub mod WorkedPlanLemmas
 pub mod WorkedWorkLemmas
+pub mod WorkedShortLemmas
 pub mod WorkedStepLemmas
 pub mod NewUnitLemmas
 pub mod WorkedLossLemmas

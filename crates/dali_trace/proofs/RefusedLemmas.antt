@@ -1,10 +1,10 @@
 -- What may not happen on the way of the worked traces.
-use Rattle.std.proofs.Common.{◌≡◌, inl, inr, refl, sym, ap, ◌∙◌, subst, ℕ, Bool, true, false, ◌&&◌, not, List, [], ◌∷◌}
+use Rattle.std.proofs.Common.{◌≡◌, ◌⊎◌, inl, inr, refl, sym, ap, ◌∙◌, subst, ℕ, Bool, true, false, ◌&&◌, not, List, [], ◌∷◌}
 use Rattle.std.proofs.Common.{Option, Some, None, arith}
 use Rattle.std.specs.Prelude.{◌≢◌}
 use Rattle.std.proofs.lemmas.Bool.{and_parts}
 use Rattle.dali_frame.specs.declared.forward.Frame.{Frame}
-use Rattle.dali_frame.specs.declared.forward.Frame.TheVariants.{Dtr1, Write, Enable, AskDtr0, AskDtr1, Read}
+use Rattle.dali_frame.specs.declared.forward.Frame.TheVariants.{Dtr0, Dtr1, Write, Enable, AskDtr0, AskDtr1, Read}
 use Rattle.dali_bank.specs.Order.{update_at}
 use Rattle.dali_journal.specs.declared.record.Code.TheVariants as codes
 use Rattle.dali_journal.specs.declared.record.Record.TheVariants.{Began}
@@ -12,6 +12,8 @@ use Rattle.dali_journal.specs.declared.standing.Standing.TheVariants as standing
 use Rattle.dali_write.specs.Exchanges.{Exchange}
 use Rattle.dali_write.specs.Worlds.{Selects}
 use Rattle.dali_write.specs.Reads.{EndsInRead, StillRead, HasRead}
+use Rattle.dali_write.proofs.ShapeLemmas.{Got}
+use Rattle.dali_write.specs.declared.request.Wish.TheVariants.{Nothing, Exactly}
 use Rattle.dali_write.proofs.EndLemmas.{reads_by, ends_selecting, ends_reading, one_location}
 use Rattle.dali_trace.specs.declared.happening.Reply.TheVariants as replies
 use Rattle.dali_trace.specs.declared.happening.Happening.{Happening}
@@ -20,7 +22,7 @@ use Rattle.dali_trace.specs.Trace.{sent_of, sent_since_taken, waiting, powered_o
 use Rattle.dali_trace.specs.Replies.{IsReply}
 use Rattle.dali_trace.specs.Legal.{MayPut, MayKeep, Legal}
 use Rattle.dali_trace.specs.Worked.{read_at, write_at, taken, said, second_taken, empty, left_open, first_order, locked, unguarded}
-use Rattle.dali_trace.specs.Worked.{bank_not_asked, written_twice, another_byte, idle_frame, frame_to_another_unit}
+use Rattle.dali_trace.specs.Worked.{enabled_between, bank_not_asked, written_twice, another_byte, idle_frame, frame_to_another_unit}
 use Rattle.dali_trace.specs.Worked.{enabled_before_opened, opened_unread, done_unread, done_with_the_lock_unread}
 use Rattle.dali_trace.specs.Worked.{begun_twice, busy_at_once, reply_to_another, said_before_ended, begun_while_left}
 use Rattle.dali_trace.specs.Worked.{closed_unread, blocked_after_a_read, left_unit_unlocked, begun_after_a_stop}
@@ -37,16 +39,30 @@ newest_is : (unit location : ℕ) (x : Exchange) (told : List Exchange) → Sele
 newest_is unit location x told selects =
     let ends = ends_selecting unit location (x ∷ told) selects in
     let is = ends.is in
-    let same : x ≡ ends.x4 = cc in
-    (ap (λ (e : Exchange). e.frame) same ∙ ends.got4.frame_is, ap (λ (e : Exchange). e.answer) same ∙ ends.got4.meets)
+    let same : x ≡ ends.x = cc in
+    (ap (λ (e : Exchange). e.frame) same ∙ ends.got.frame_is, ap (λ (e : Exchange). e.answer) same ∙ ends.got.meets)
 
-third_is : (unit location : ℕ) (x y z : Exchange) (told : List Exchange) → Selects unit location (x ∷ y ∷ z ∷ told)
-    → z.frame ≡ AskDtr1 unit
-third_is unit location x y z told selects =
+-- the next one asks DTR1, or it sets DTR0 and the one behind it asks
+next_is : (unit location : ℕ) (x y z : Exchange) (told : List Exchange) → Selects unit location (x ∷ y ∷ z ∷ told)
+    → (y.frame ≡ AskDtr1 unit) ⊎ ((y.frame ≡ Dtr0 location) × (z.frame ≡ AskDtr1 unit))
+next_is unit location x y z told selects =
     let ends = ends_selecting unit location (x ∷ y ∷ z ∷ told) selects in
-    let is = ends.is in
-    let same : z ≡ ends.x2 = cc in
-    ap (λ (e : Exchange). e.frame) same ∙ ends.got2.frame_is
+    by ends.next ends.older ends.is ends.asks
+  where
+    by : {first : Exchange} (next : Exchange) (older : List Exchange) → x ∷ y ∷ z ∷ told ≡ first ∷ next ∷ older
+        → Got next (AskDtr1 unit) (Exactly 1)
+        ⊎ (Got next (Dtr0 location) Nothing × ((third : Exchange) × (before : List Exchange) × (older ≡ third ∷ before)
+        × Got third (AskDtr1 unit) (Exactly 1)))
+        → (y.frame ≡ AskDtr1 unit) ⊎ ((y.frame ≡ Dtr0 location) × (z.frame ≡ AskDtr1 unit))
+    by next older is (inl asks) =
+        let same : y ≡ next = cc in inl (ap (λ (e : Exchange). e.frame) same ∙ asks.frame_is)
+    by next older is (inr (sets, (third, before, older_is, asks))) =
+        let same : y ≡ next = cc in
+        let behind : z ≡ third = cc in
+        inr (
+          ap (λ (e : Exchange). e.frame) same ∙ sets.frame_is,
+          ap (λ (e : Exchange). e.frame) behind ∙ asks.frame_is,
+        )
 
 -- the two newest frames of a checked read, and the answer before its read
 read_is : (unit location byte : ℕ) (x y : Exchange) (told : List Exchange)
@@ -79,6 +95,9 @@ write_or_ask byte unit e = cc
 
 enable_or_ask : (to unit : ℕ) → Enable to ≡ AskDtr0 unit → ⊥
 enable_or_ask to unit e = cc
+
+enable_or_bank : (to unit : ℕ) → Enable to ≡ AskDtr1 unit → ⊥
+enable_or_bank to unit e = cc
 
 set_or_ask : (byte unit : ℕ) → Dtr1 byte ≡ AskDtr1 unit → ⊥
 set_or_ask byte unit e = cc
@@ -161,8 +180,16 @@ pub not_unguarded : Legal empty unguarded → ⊥
 not_unguarded legal = enable_or_ask 5 legal.1.unit (newest_is legal.1.unit legal.1.location _ _ legal.1.selected).0
 
 pub not_with_the_bank_not_asked : Legal empty bank_not_asked → ⊥
-not_with_the_bank_not_asked legal =
-    set_or_ask 1 legal.1.unit (third_is legal.1.unit legal.1.location _ _ _ _ legal.1.selected)
+not_with_the_bank_not_asked legal = elim (next_is legal.1.unit legal.1.location _ _ _ _ legal.1.selected) [
+  | inl asks ↦ cc
+  | inr sets ↦ set_or_ask 1 legal.1.unit sets.1
+]
+
+pub not_enabled_between : Legal empty enabled_between → ⊥
+not_enabled_between legal = elim (next_is legal.1.unit legal.1.location _ _ _ _ legal.1.selected) [
+  | inl asks ↦ enable_or_bank 5 legal.1.unit asks
+  | inr sets ↦ cc
+]
 
 pub not_written_twice : Legal empty written_twice → ⊥
 not_written_twice legal =

@@ -10,7 +10,7 @@ use Rattle.dali_journal.specs.declared.standing.Standing.{Standing}
 use Rattle.dali_journal.specs.declared.standing.Standing.TheVariants as standings
 use Rattle.dali_journal.specs.Sentence.{named_unit}
 use Rattle.dali_write.specs.Reads.{StillRead}
-use Rattle.dali_write.proofs.EndLemmas.{selects_by, reads_by}
+use Rattle.dali_write.proofs.EndLemmas.{selects_by, moved_by, reads_by}
 use Rattle.dali_trace.specs.declared.happening.Happening.{Happening}
 use Rattle.dali_trace.specs.declared.happening.Happening.TheVariants.{Sent}
 use Rattle.dali_trace.specs.Trace.{Start, standing_at, sent_of}
@@ -18,7 +18,7 @@ use Rattle.dali_trace.specs.Legal.{Serves, MayPut, MaySend, MayFollow, Legal}
 use Rattle.dali_trace.specs.Worked.{select_at, read_at, enable_twice, write_at, reads_of, write_all, first_order, empty}
 use Rattle.dali_trace.specs.Worked.{taken, begun, measured, opened, unlocked, all_written, locked, lock_read}
 use Rattle.dali_trace.specs.Worked.{all_read_back, ended, said, first_carried_out, first_elsewhere, busy_while_at_work}
-use Rattle.dali_trace.specs.Worked.{number_used_again, one_of_one, full}
+use Rattle.dali_trace.specs.Worked.{number_used_again, one_of_one, full, written_on}
 
 -- a unit that is served is so after one frame more
 pub next : (past : List Happening) (frame : Frame) (answer : Option ℕ) (stands : Standing) (unit : ℕ)
@@ -167,6 +167,20 @@ opened_legal = (
 
 pub unlocked_legal : Legal empty unlocked
 unlocked_legal = write_legal empty opened 5 0x02 0x55 opened_legal (refl, refl) refl refl (inr (refl, inl refl))
+
+-- and a write behind it, of three frames
+pub written_on_legal : Legal empty written_on
+written_on_legal = (
+  ((unlocked_legal, refl), refl),
+  record {
+    unit = 5;
+    location = 3;
+    serves = refl;
+    is_named = refl;
+    may = inl refl;
+    selected = moved_by 5 3 (sent_of unlocked);
+  },
+)
 
 written_legal : Legal empty all_written
 written_legal =

@@ -12,19 +12,22 @@ use Rattle.dali_write.specs.Exchanges.{Exchange}
 use Rattle.dali_write.specs.Plans.{Plan, unlock}
 use Rattle.dali_write.specs.Reads.{IsPassive, EndsInRead, HasRead}
 use Rattle.dali_write.specs.Tries.{Succeeds, Wants}
-use Rattle.dali_write.specs.Doubts.{EndsUnlooked, FoundAnother}
+use Rattle.dali_write.specs.Doubts.{EndsUnlooked, HasFailed, FoundAnother}
 use Rattle.dali_write.specs.Misses.{misses_in, IsLong}
 use Rattle.dali_write.specs.declared.ask.Ask.{Ask}
 use Rattle.dali_write.specs.declared.ask.Ask.TheVariants as asks
 use Rattle.dali_write.specs.declared.ask.Verdict.TheVariants as verdicts
 use Rattle.dali_write.proofs.MissLemmas.{failure_misses, failed_misses}
+use Rattle.dali_write.proofs.DoubtLemmas.{failed_good}
+use Rattle.dali_write.proofs.GiveUpLemmas.{failed_joined}
+use Rattle.dali_write.proofs.TurnLemmas.{unlock_turn}
 use Rattle.dali_write.proofs.DeterminedLemmas.{ask_is, frame_wanted}
 use Rattle.dali_write.proofs.WorkedAccessLemmas.{found_doubts}
 use Rattle.dali_trace.specs.declared.happening.Reply.TheVariants as replies
 use Rattle.dali_trace.specs.declared.happening.Happening.{Happening}
 use Rattle.dali_trace.specs.declared.happening.Happening.TheVariants.{Answered, Kept, Stopped}
 use Rattle.dali_trace.specs.Trace.{pace_at, Start, sent_since_taken}
-use Rattle.dali_trace.specs.Work.{stood_at, kept_since, frames_from, order_at_hand, IsWithinLimit, IsSaidSo, IsWorked}
+use Rattle.dali_trace.specs.Work.{stood_at, kept_since, frames_from, order_at_hand, FailsForGood, IsWithinLimit, IsSaidSo, IsWorked}
 use Rattle.dali_trace.specs.Worked.{empty, left_open, first_order, second_order, taken, begun, opened, unlocked}
 use Rattle.dali_trace.specs.Worked.{short_ended, ended, said, left_said, second_taken, unreached, taken_again}
 use Rattle.dali_trace.specs.WorkedPlans.{first_frame, begun_anew, said_again, second_taken_behind, frames_more}
@@ -33,11 +36,11 @@ use Rattle.dali_write.proofs.EndLemmas.{ends_reading}
 use Rattle.dali_trace.proofs.RefusedLemmas.{none_read, has_none}
 use Rattle.dali_write.specs.declared.pace.Pace.{Pace}
 use Rattle.dali_write.specs.declared.pace.Pace.TheVariants.{Checked, Short as ShortPace}
-use Rattle.dali_write.specs.Plans.{rows_of, read_backs}
+use Rattle.dali_write.specs.Plans.{rows_of, read_backs, all_rows}
 use Rattle.dali_write.specs.Requests.{block_requests, each_try, block}
 use Rattle.dali_write.specs.Blocks.{IsBlockRead}
 use Rattle.dali_write.proofs.BlockOneLemmas.{access_count}
-use Rattle.dali_write.proofs.RowLemmas.{rows_some}
+use Rattle.dali_write.proofs.RowLemmas.{all_rows_some}
 use Rattle.std.proofs.Common.{slice_get, get_or}
 
 -- so many frames were sent, and one record kept
@@ -115,10 +118,11 @@ done_after n (order, number, hand, earned) =
     let both : Some first_order ≡ Some order = sym (frames_done n) ∙ hand in
     let same : order ≡ first_order = cc in
     let sent = sent_since_taken (frames_more n begun) in
-    let long : IsLong (pace_at empty (frames_more n begun))
+    let long : IsLong (pace_at empty (frames_more n begun)) (read_backs order.updates)
     (frames_from (pace_at empty (frames_more n begun)) (stood_at empty (frames_more n begun)) order.updates) sent =
     earned in
-    let idle : IsLong Checked (frames_from Checked standings.Idle first_order.updates) sent =
+    let idle : IsLong Checked (read_backs first_order.updates)
+    (frames_from Checked standings.Idle first_order.updates) sent =
     rw (frames_pace n, frames_stood n, same) at long in
     let least = idle.0 in
     let most = idle.1 in
@@ -129,16 +133,18 @@ done_after n (order, number, hand, earned) =
 done_after_112 : IsSaidSo empty (opened_said codes.Done (frames_more 112 begun))
 done_after_112 =
     let past = frames_more 112 begun in
-    let long : IsLong Checked 112 (sent_since_taken past) =
+    let long : IsLong Checked (read_backs first_order.updates) 112 (sent_since_taken past) =
     let count = frames_length 112 in (omega arith, omega arith) in (
       first_order,
       refl,
       frames_done 112,
       subst (λ (pace : Pace).
-          IsLong pace (frames_from pace (stood_at empty past) first_order.updates) (sent_since_taken past))
+          IsLong pace (read_backs first_order.updates) (frames_from pace (stood_at empty past) first_order.updates)
+          (sent_since_taken past))
           (sym (frames_pace 112))
           (subst (λ (stands : Standing).
-          IsLong Checked (frames_from Checked stands first_order.updates) (sent_since_taken past))
+          IsLong Checked (read_backs first_order.updates) (frames_from Checked stands first_order.updates)
+          (sent_since_taken past))
           (sym (frames_stood 112)) long),
     )
 
@@ -208,7 +214,7 @@ has_earlier unit (x ∷ newer) older (inl (location, byte, (tried, rest, same, r
 has_earlier unit (x ∷ newer) older (inr has) = inr (has_earlier unit newer older has)
 
 found_read : (unit most : ℕ) (plan : Plan) (updates : List (ℕ × ℕ)) (told : List Exchange)
-    → FoundAnother unit plan (rows_of most updates) told → HasRead unit told
+    → FoundAnother unit plan (all_rows (rows_of most updates)) told → HasRead unit told
 found_read unit most plan updates told found = by found.answered
   where
     first : (bytes : List ℕ) → 1 ≤ length bytes → slice_get bytes 0 ≡ Some (get_or bytes 0 0)
@@ -223,7 +229,7 @@ found_read unit most plan updates told found = by found.answered
         let (tried, missed, misses, same, try, outcome, few, are) = done in
         let parts : found.read ++ found.older ≡ tried ++ (missed ++ found.older) =
         ap (λ (t : List Exchange). t ++ found.older) same ∙ append_assoc tried missed found.older in
-        let some = rows_some most updates (found.location, found.bytes) found.is_expected in
+        let some = all_rows_some most updates (found.location, found.bytes) found.is_expected in
         let count = access_count unit this found.found found.read (inl done) in
         let read : IsBlockRead unit this found.found tried = (try, let is = outcome in cc) in
         let here = ends_has unit found.location (get_or found.found 0 0) (found.read ++ found.older) (
@@ -246,9 +252,18 @@ tries_unread : (n : ℕ) → none_read (sent_since_taken (tries_more n begun)) �
 tries_unread zero = refl
 tries_unread (suc n) = tries_unread n
 
+-- an access of the session failed
+failed_at : (pace : Pace) (order : Contents) (sent : List Exchange) → FailsForGood pace order sent
+    → HasFailed order.unit sent
+failed_at pace order sent (told, older, parts, failed) =
+    failed_joined order.unit sent told older parts
+    (failed_good order.unit (unlock pace order.updates) told (unlock_turn pace order.updates) failed)
+
 pub doubt_after : (n : ℕ) → IsSaidSo empty (opened_said codes.Doubt (tries_more n begun)) → 8 ≤ n
 doubt_after n (order, number, hand, inl failed) =
-    let many = failed_misses order.unit (sent_since_taken (tries_more n begun)) failed in
+    let many =
+    failed_misses order.unit (sent_since_taken (tries_more n begun))
+    (failed_at _ order (sent_since_taken (tries_more n begun)) failed) in
     let count = tries_missed n in omega arith
 doubt_after n (order, number, hand, inr (told, older, parts, found)) =
     absurd (by (found_read order.unit _ _ (read_backs order.updates) told found))
@@ -305,7 +320,9 @@ enables_first unit pace updates (x ∷ y ∷ told) ask wants passive =
 
 pub not_doubt_after_reads : (n : ℕ) → IsSaidSo empty (opened_said codes.Doubt (reads_more n begun)) → ⊥
 not_doubt_after_reads n (order, number, hand, inl failed) =
-    let many = failed_misses order.unit (sent_since_taken (reads_more n begun)) failed in
+    let many =
+    failed_misses order.unit (sent_since_taken (reads_more n begun))
+    (failed_at _ order (sent_since_taken (reads_more n begun)) failed) in
     let count = reads_met n in omega arith
 not_doubt_after_reads n (order, number, hand, inr (told, older, parts, found)) =
     let pace = pace_at empty (reads_more n begun) in
@@ -351,10 +368,10 @@ frames_of_begun = refl
 pub frames_of_opened : frames_from Checked (standings.Opened first_order) first_order.updates ≡ 105
 frames_of_opened = refl
 
-pub few_frames_of_begun : frames_from ShortPace (standings.Began first_order) first_order.updates ≡ 62
+pub few_frames_of_begun : frames_from ShortPace (standings.Began first_order) first_order.updates ≡ 49
 few_frames_of_begun = refl
 
-pub few_frames_of_opened : frames_from ShortPace (standings.Opened first_order) first_order.updates ≡ 55
+pub few_frames_of_opened : frames_from ShortPace (standings.Opened first_order) first_order.updates ≡ 42
 few_frames_of_opened = refl
 
 -- the order at hand

@@ -13,14 +13,14 @@ use Rattle.dali_write.specs.Plans.{greatest, unlock}
 use Rattle.dali_write.specs.Frames.{read_frames, write_frames}
 use Rattle.dali_write.specs.Counts.{done_frames, closing_limit, fresh_limit, opened_limit}
 use Rattle.dali_write.specs.Misses.{IsLong}
-use Rattle.dali_write.specs.Doubts.{HasFailed, EndsUnread, EndsUnlooked, FoundAnother}
+use Rattle.dali_write.specs.Doubts.{EndsUnread, EndsUnlooked, FailedForGood, FoundAnother}
 use Rattle.dali_trace.specs.declared.happening.Reply.TheVariants as replies
 use Rattle.dali_trace.specs.declared.happening.Happening.{Happening}
 use Rattle.dali_trace.specs.declared.happening.Happening.TheVariants.{Asked, Answered}
 use Rattle.dali_trace.specs.Cut.{since, up_to, is_start, kept_in}
 use Rattle.dali_trace.specs.Trace.{pace_at, Start, records_of, standing_at, sent_since_taken, waiting, has_ended}
 use Rattle.dali_write.specs.declared.pace.Pace.{Pace}
-use Rattle.dali_write.specs.Plans.{rows_of, most_of, read_backs}
+use Rattle.dali_write.specs.Plans.{rows_of, most_of, read_backs, all_rows}
 use Rattle.dali_write.specs.Frames.{format_frames}
 
 -- where the records stood at the last start
@@ -47,20 +47,28 @@ frames_from pace (standings.Left unit) updates =
 frames_from pace (standings.Opened order) updates = done_frames pace updates
 frames_from pace other updates = done_frames pace updates + look_frames pace updates
 
+-- among these frames are those of a session that carries the order out, of which an access failed that isn't made good
+abbrev pub FailsForGood : Pace → Contents → List Exchange → Type 0
+FailsForGood pace order sent =
+    (told : List Exchange) × (older : List Exchange) × (sent ≡ told ++ older)
+    × FailedForGood order.unit (unlock pace order.updates) told
+
 -- a read of the lock byte or of updates' locations, of a row of them, found other bytes than must be there
 abbrev pub FindsAnother : Pace → Contents → List Exchange → Type 0
 FindsAnother pace order sent =
     (told : List Exchange) × (older : List Exchange) × (sent ≡ told ++ older)
-    × FoundAnother order.unit (unlock pace order.updates) (rows_of (most_of pace) (read_backs order.updates)) told
+    × FoundAnother order.unit (unlock pace order.updates)
+    (all_rows (rows_of (most_of pace) (read_backs order.updates))) told
 
--- What earns an order its code, among the frames from its start on. Done: exactly so many, and for each miss at most
--- those of a try more. Silent: the last access, which read the length or the content format, failed. DoubtOpen: the
--- last access, which read the lock byte, failed. Doubt: an access failed, or another byte was found.
--- (What Done, Short, Format and Doubt besides rest on, checked reads, is a rule of legal traces.)
+-- What earns an order its code, among the frames from its start on. Done: exactly so many, and for each miss and each
+-- other byte at most what it may take. Silent: the last access, which read the length or the content format, failed.
+-- DoubtOpen: the last access, which read the lock byte, failed. Doubt: an access failed, or another byte was found, and
+-- wasn't read again. (What Done, Short, Format and Doubt besides rest on, checked reads, is a rule of legal traces.)
 abbrev pub IsEarned : Pace → Standing → Contents → Code → List Exchange → Type 0
-IsEarned pace first order codes.Done sent = IsLong pace (frames_from pace first order.updates) sent
+IsEarned pace first order codes.Done sent =
+    IsLong pace (read_backs order.updates) (frames_from pace first order.updates) sent
 IsEarned pace first order codes.Silent sent = EndsUnlooked pace order.unit sent
-IsEarned pace first order codes.Doubt sent = HasFailed order.unit sent ⊎ FindsAnother pace order sent
+IsEarned pace first order codes.Doubt sent = FailsForGood pace order sent ⊎ FindsAnother pace order sent
 IsEarned pace first order codes.DoubtOpen sent = EndsUnread order.unit 0x02 sent
 IsEarned pace first order other sent = ⊤
 

@@ -144,6 +144,19 @@ bank_not_asked =
     Sent (Write 0x55) (Some 0x55) ∷ Sent (AskDtr0 5) (Some 2) ∷ Sent (Dtr0 2) None ∷ Sent (Dtr1 1) None
     ∷ enable_twice 5 opened
 
+-- the first update written where DTR0 has moved behind the write of the lock byte, and both were asked back
+abbrev pub moved_on : List Happening
+moved_on = Sent (AskDtr0 5) (Some 3) ∷ Sent (AskDtr1 5) (Some 1) ∷ unlocked
+
+abbrev pub written_on : List Happening
+written_on = Sent (Write 0x03) (Some 0x03) ∷ moved_on
+
+-- the unit enabled between the two questions: it may have lost its power before, and then have bank 0 selected
+abbrev pub enabled_between : List Happening
+enabled_between =
+    Sent (Write 0x55) (Some 0x55) ∷ Sent (AskDtr0 5) (Some 2)
+    ∷ enable_twice 5 (Sent (AskDtr1 5) (Some 1) ∷ Sent (Dtr1 1) None ∷ opened)
+
 -- a write once more after its answer was lost, with DTR0 not asked back
 abbrev pub written_twice : List Happening
 written_twice =

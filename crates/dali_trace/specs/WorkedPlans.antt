@@ -1,7 +1,7 @@
 -- Worked traces near the edges of what is promised besides legality: by plan and not, at the limits of the work, and
 -- with as much lost as may be.
 use Rattle.std.specs.Prelude.{ℕ, zero, suc, List, [], ◌∷◌, Some, None}
-use Rattle.dali_frame.specs.declared.forward.Frame.TheVariants.{Dtr0, Dtr1, Enable, AskDtr1}
+use Rattle.dali_frame.specs.declared.forward.Frame.TheVariants.{Dtr0, Dtr1, Enable, AskDtr1, Read}
 use Rattle.dali_journal.specs.declared.record.Code.{Code}
 use Rattle.dali_journal.specs.declared.record.Code.TheVariants.{Done, Silent, DoubtOpen}
 use Rattle.dali_journal.specs.declared.record.Record.TheVariants.{Began, Opened, Ended}
@@ -85,6 +85,11 @@ closed_anew = Sent (Enable 5) None ∷ taken_again
 abbrev pub frames_more : ℕ → List Happening → List Happening
 frames_more zero past = past
 frames_more (suc frames) past = Sent (Dtr1 1) None ∷ frames_more frames past
+
+-- reads of the first order's unit from a location on, which told these bytes, the newest first
+abbrev pub row_told : ℕ → List ℕ → List Happening
+row_told location [] = Sent (Dtr0 location) None ∷ begun
+row_told location (byte ∷ bytes) = Sent (Read 5) (Some byte) ∷ row_told location bytes
 
 abbrev pub tries_more : ℕ → List Happening → List Happening
 tries_more zero past = past

@@ -23,16 +23,51 @@ use Rattle.dali_write.specs.Requests.{block, access_requests}
 use Rattle.dali_write.specs.Plans.{Plan, Finish, Make, next_plan, plan_after, either_way, give_up, expect, read_back, rows_of}
 use Rattle.dali_write.specs.Plans.{most_of, read_backs, write_next, write_on, read_all_back, unlock, read_format_low, greatest}
 use Rattle.dali_write.specs.Plans.{read_format, read_length}
-use Rattle.dali_write.specs.Stages.{plan_of, plan_at, updates_for}
+use Rattle.dali_write.specs.Stages.{plan_of, plan_at, updates_for, access_of}
+use Rattle.std.proofs.Common.{Err, Ok}
 use Rattle.dali_write.specs.Tries.{AccessEnds, AccessesEnd, IsGoing, Misses, Succeeds, bytes_of, most_tries, plan_requests}
 use Rattle.dali_write.specs.Doubts.{HasFailed}
-use Rattle.dali_write.specs.Causes.{another, cause_by, cause_after, failure, first_of, is_write, IsShown}
+use Rattle.dali_write.specs.Causes.{another, cause_by, cause_after, failure, first_of, is_read, is_write, IsShown}
 use Rattle.dali_write.specs.Found.{StandsWith, IsCause}
 use Rattle.dali_write.specs.Told.{Told, IsFresh, IsOpened, aim_of, cause_of}
 use Rattle.dali_write.proofs.AskLemmas.{shown_ask, ask_shown}
 use Rattle.dali_write.proofs.BlockBytesLemmas.{block_count}
 use Rattle.dali_write.proofs.OtherByteLemmas.{EachBeforeWrite, TellsOther, after_each, task_each}
 use Rattle.dali_write.proofs.PlanLemmas.{if_all}
+use Rattle.dali_write.proofs.MissLemmas.{Behind, apt_then, turn_after}
+use Rattle.dali_write.proofs.TurnLemmas.{task_turn}
+use Rattle.dali_write.specs.Misses.{IsApt}
+use Rattle.dali_write.specs.Plans.{IsInTurn}
+use Rattle.std.specs.Prelude.{⊤}
+use Rattle.dali_write.specs.Plans.{most_once, pieces_of, expect_all, read_again}
+use Rattle.std.proofs.Common.{◌⊎◌}
+
+-- behind an access that failed, a cause where the plan goes on by no read
+pub fails_without : (updates : List (ℕ × ℕ)) (plan : Plan) (access : Access) → access_of plan ≡ Ok access
+    → ((block : Block) → access_of (next_plan plan None) ≡ Ok (ReadFrom block) → ⊥)
+    → cause_by updates plan None ≡ Some (failure access)
+fails_without updates (Finish end) access is never = cc
+fails_without updates (Make (WriteTo location byte) after) access is never = cc
+fails_without updates (Make (WriteOn before location byte) after) access is never = cc
+fails_without updates (Make (ReadFrom block) after) access is never = by (after None) never where
+  by : (now : Plan) → ((block : Block) → access_of now ≡ Ok (ReadFrom block) → ⊥)
+      → (if is_read now then None else Some (failure (ReadFrom block))) ≡ Some (failure access)
+  by (Finish end) never = cc
+  by (Make (ReadFrom some) after) never = absurd (never some refl)
+  by (Make (WriteTo location byte) after) never = cc
+  by (Make (WriteOn before location byte) after) never = cc
+
+-- behind an access that read, no cause where the plan ends
+pub ends_without : (updates : List (ℕ × ℕ)) (plan : Plan) (bytes : List ℕ) (verdict : Verdict)
+    → access_of (next_plan plan (Some bytes)) ≡ Err verdict → cause_by updates plan (Some bytes) ≡ None
+ends_without updates (Finish end) bytes verdict ends = refl
+ends_without updates (Make (WriteTo location byte) after) bytes verdict ends = refl
+ends_without updates (Make (WriteOn before location byte) after) bytes verdict ends = refl
+ends_without updates (Make (ReadFrom block) after) bytes verdict ends = by (after (Some bytes)) ends where
+  by : (now : Plan) → access_of now ≡ Err verdict
+      → (if is_write now then Some (another (read_backs updates) block.location bytes) else None) ≡ None
+  by (Finish end) ends = refl
+  by (Make access next) ends = cc
 
 -- wherever the plan ends with no cause, it ends so
 abbrev EndsWell : List (ℕ × ℕ) → (Verdict → Type 0) → Plan → Type 0
@@ -80,34 +115,73 @@ IsDone verdict = verdict ≡ Done
 
 write_well : (updates : List (ℕ × ℕ)) (access : Access) (after : Plan) → EndsWell updates IsDone after
     → EndsWell updates IsDone (Make access (either_way give_up (λ bytes. after)))
-write_well updates access after rest None none = cc
+write_well updates (ReadFrom block) after rest None none = cc
+write_well updates (WriteTo location byte) after rest None none = cc
+write_well updates (WriteOn before location byte) after rest None none = cc
 write_well updates access after rest (Some bytes) none = rest
 
-expect_well : (updates : List (ℕ × ℕ)) (location : ℕ) (bytes : List ℕ) (after : Plan)
-    → EndsWell updates IsDone after → EndsWell updates IsDone (expect location bytes after)
-expect_well updates location bytes after rest None none = cc
-expect_well updates location bytes after rest (Some read) none = by (bytes_eq read bytes) none where
-  by : (same : Bool)
-      → (if is_write (if same then after else give_up) then Some (another (read_backs updates) location read) else None)
-      ≡ None
-      → EndsWell updates IsDone (if same then after else give_up)
+-- behind a read that failed the plan ends well, or it gives up
+abbrev AgainWell : List (ℕ × ℕ) → Plan → Type 0
+AgainWell updates failed = EndsWell updates IsDone failed ⊎ ((is_read failed ≡ false) × (is_write failed ≡ true))
+
+expect_well : (updates : List (ℕ × ℕ)) (failed : Plan) (location : ℕ) (bytes : List ℕ) (after : Plan)
+    → AgainWell updates failed
+    → EndsWell updates IsDone after → EndsWell updates IsDone (expect failed location bytes after)
+expect_well updates failed location bytes after (inl well) rest None none = well
+expect_well updates failed location bytes after (inr gives) rest None none = by (is_read failed) gives.0 none where
+  by : (again : Bool) → again ≡ false
+      → (if again then None else Some (failure (ReadFrom (block location (length bytes))))) ≡ None
+      → EndsWell updates IsDone failed
+  by true other none = cc
+  by false other none = cc
+expect_well updates failed location bytes after again rest (Some read) none = by (bytes_eq read bytes) none where
+  told : Bool → Option Cause
+  told writes = if writes then Some (another (read_backs updates) location read) else None
+
+  gave : (writes : Bool) → writes ≡ true → told writes ≡ None → EndsWell updates IsDone failed
+  gave true is none = cc
+  gave false is none = cc
+
+  otherwise : AgainWell updates failed → told (is_write failed) ≡ None → EndsWell updates IsDone failed
+  otherwise (inl well) none = well
+  otherwise (inr gives) none = gave (is_write failed) gives.1 none
+
+  by : (same : Bool) → told (is_write (if same then after else failed)) ≡ None
+      → EndsWell updates IsDone (if same then after else failed)
   by true none = rest
-  by false none = cc
+  by false none = otherwise again none
+
+all_well : (updates : List (ℕ × ℕ)) (rows : List (ℕ × List ℕ)) (after : Plan) → EndsWell updates IsDone after
+    → EndsWell updates IsDone (expect_all rows after)
+all_well updates [] after rest = rest
+all_well updates (row ∷ rows) after rest =
+    expect_well updates give_up row.0 row.1 (expect_all rows after) (inr (refl, refl))
+    (all_well updates rows after rest)
+
+again_well : (updates : List (ℕ × ℕ)) (pieces : List (ℕ × List ℕ)) (after : Plan) (again : Bool)
+    → EndsWell updates IsDone after → AgainWell updates (if again then expect_all pieces after else give_up)
+again_well updates pieces after true rest = inl (all_well updates pieces after rest)
+again_well updates pieces after false rest = inr (refl, refl)
 
 back_well : (updates : List (ℕ × ℕ)) (rows : List (ℕ × List ℕ)) → EndsWell updates IsDone (read_back rows)
 back_well updates [] = refl
-back_well updates (row ∷ rows) = expect_well updates row.0 row.1 (read_back rows) (back_well updates rows)
+back_well updates (row ∷ rows) =
+    let rest = back_well updates rows in
+    expect_well updates (read_again row.0 row.1 (read_back rows)) row.0 row.1 (read_back rows)
+    (again_well updates (pieces_of row.0 row.1) (read_back rows) (nat_lt most_once (length row.1)) rest) rest
 
-on_well : (pace : Pace) (updates left : List (ℕ × ℕ)) → EndsWell updates IsDone (write_on pace updates left)
-on_well pace updates [] =
-    write_well updates (write_next pace 2 0xFF) (read_all_back pace updates)
+on_well : (pace : Pace) (updates : List (ℕ × ℕ)) (before : ℕ) (left : List (ℕ × ℕ))
+    → EndsWell updates IsDone (write_on pace updates before left)
+on_well pace updates before [] =
+    write_well updates (write_next pace before 2 0xFF) (read_all_back pace updates)
     (back_well updates (rows_of (most_of pace) (read_backs updates)))
-on_well pace updates (update ∷ left) =
-    write_well updates (write_next pace update.0 update.1) (write_on pace updates left) (on_well pace updates left)
+on_well pace updates before (update ∷ left) =
+    write_well updates (write_next pace before update.0 update.1) (write_on pace updates update.0 left)
+    (on_well pace updates update.0 left)
 
 unlock_well : (pace : Pace) (updates : List (ℕ × ℕ)) → EndsWell updates IsDone (unlock pace updates)
 unlock_well pace updates =
-    write_well updates (WriteTo 2 0x55) (write_on pace updates updates) (on_well pace updates updates)
+    write_well updates (WriteTo 2 0x55) (write_on pace updates 2 updates) (on_well pace updates 2 updates)
 
 -- ---- a fresh one
 
@@ -196,6 +270,7 @@ shown_later unit updates newer older (Another location byte) read = record {
   parts = ap (λ (t : List Exchange). newer ++ t) read.parts
       ∙ sym (append_assoc newer read.newer (read.read ++ read.older));
   block = read.block;
+  few = read.few;
   bytes = read.bytes;
   answered = read.answered;
   first = read.first;
@@ -203,24 +278,25 @@ shown_later unit updates newer older (Another location byte) read = record {
 
 -- an access that failed is its own cause
 failed_now : (unit : ℕ) (updates : List (ℕ × ℕ)) (access : Access) (newer older : List Exchange)
-    → Misses (access_requests unit access) most_tries newer
+    → IsApt older access → Misses (access_requests unit access) most_tries newer
     → IsShown unit updates (newer ++ older) (failure access)
-failed_now unit updates access newer older missed = by access missed
+failed_now unit updates access newer older apt missed = by access apt missed
   where
-    failed : (access : Access) → Misses (access_requests unit access) most_tries newer → HasFailed unit (newer ++ older)
-    failed access missed = record {
+    failed : (access : Access) → IsApt older access → Misses (access_requests unit access) most_tries newer
+        → HasFailed unit (newer ++ older)
+    failed access apt missed = record {
       newer = [];
       before = newer ++ older;
       parts = refl;
       access = access;
-      failure = record { tries = newer; older = older; parts = refl; missed = missed };
+      failure = record { tries = newer; older = older; parts = refl; place = apt; missed = missed };
     }
 
-    by : (access : Access) → Misses (access_requests unit access) most_tries newer
+    by : (access : Access) → IsApt older access → Misses (access_requests unit access) most_tries newer
         → IsShown unit updates (newer ++ older) (failure access)
-    by (ReadFrom block) missed = (failed (ReadFrom block) missed, refl)
-    by (WriteTo location byte) missed = (failed (WriteTo location byte) missed, refl)
-    by (WriteOn location byte) missed = (failed (WriteOn location byte) missed, refl)
+    by (ReadFrom block) apt missed = (failed (ReadFrom block) apt missed, refl)
+    by (WriteTo location byte) apt missed = (failed (WriteTo location byte) apt missed, refl)
+    by (WriteOn before location byte) apt missed = (failed (WriteOn before location byte) apt missed, refl)
 
 -- a read that came to its end told as many bytes as its block has locations
 read_long : (unit : ℕ) (block : Block) (bytes : List ℕ) (told : List Exchange)
@@ -228,24 +304,50 @@ read_long : (unit : ℕ) (block : Block) (bytes : List ℕ) (told : List Exchang
 read_long unit block bytes told (newer, older, count, parts, try, is, few, missed) =
     let same : bytes_of newer ≡ bytes = cc in block_count unit block bytes newer (try, same)
 
+-- the plan goes on by an access in its place
+abbrev AptPlan : List Exchange → Plan → Type 0
+AptPlan older (Finish verdict) = ⊤
+AptPlan older (Make access after) = IsApt older access
+
 -- an access that ended is its own cause
 shown_now : (unit : ℕ) (updates : List (ℕ × ℕ)) (plan : Plan) (outcome : Option (List ℕ)) (newer older : List Exchange)
     (cause : Cause)
-    → EachBeforeWrite (TellsOther updates) plan → AccessEnds unit plan outcome newer
+    → EachBeforeWrite (TellsOther updates) plan → AptPlan older plan → AccessEnds unit plan outcome newer
     → cause_by updates plan outcome ≡ Some cause → IsShown unit updates (newer ++ older) cause
-shown_now unit updates (Finish verdict) outcome newer older cause each ends is = absurd ends
-shown_now unit updates (Make access after) None newer older cause each (inl done) is = let never = done in cc
-shown_now unit updates (Make access after) None newer older cause each (inr failed) is =
-    let same : failure access ≡ cause = cc in
-    subst (IsShown unit updates (newer ++ older)) same (failed_now unit updates access newer older failed.1)
-shown_now unit updates (Make (ReadFrom block) after) (Some bytes) newer older cause each (inl done) is =
+shown_now unit updates (Finish verdict) outcome newer older cause each apt ends is = absurd ends
+shown_now unit updates (Make (ReadFrom block) after) None newer older cause each apt (inl done) is =
+    let never = done.5 in cc
+shown_now unit updates (Make (ReadFrom block) after) None newer older cause each apt (inr failed) is =
+    by (is_read (after None)) is
+  where
+    by : (again : Bool) → (if again then None else Some (failure (ReadFrom block))) ≡ Some cause
+        → IsShown unit updates (newer ++ older) cause
+    by true is = cc
+    by false is =
+        let same : failure (ReadFrom block) ≡ cause = cc in
+        subst (IsShown unit updates (newer ++ older)) same
+        (failed_now unit updates (ReadFrom block) newer older apt failed.1)
+shown_now unit updates (Make (WriteTo location byte) after) None newer older cause each apt (inl done) is =
+    let never = done.5 in cc
+shown_now unit updates (Make (WriteTo location byte) after) None newer older cause each apt (inr failed) is =
+    let same : failure (WriteTo location byte) ≡ cause = cc in
+    subst (IsShown unit updates (newer ++ older)) same
+    (failed_now unit updates (WriteTo location byte) newer older apt failed.1)
+shown_now unit updates (Make (WriteOn before location byte) after) None newer older cause each apt (inl done) is =
+    let never = done.5 in cc
+shown_now unit updates (Make (WriteOn before location byte) after) None newer older cause each apt (inr failed) is =
+    let same : failure (WriteOn before location byte) ≡ cause = cc in
+    subst (IsShown unit updates (newer ++ older)) same
+    (failed_now unit updates (WriteOn before location byte) newer older apt failed.1)
+shown_now unit updates (Make (ReadFrom block) after) (Some bytes) newer older cause each apt (inl done) is =
     by (is_write (after (Some bytes))) refl is
   where
     by : (gives_up : Bool) → is_write (after (Some bytes)) ≡ gives_up
         → (if gives_up then Some (another (read_backs updates) block.location bytes) else None) ≡ Some cause
         → IsShown unit updates (newer ++ older) cause
     by true writes same =
-        let told = (each (Some bytes)).0 writes (read_long unit block bytes newer done) in
+        let (few, tells) = (each (Some bytes)).0 writes in
+        let told = tells (read_long unit block bytes newer done) in
         let is_that : Another told.0 told.1 ≡ cause = cc in
         subst (IsShown unit updates (newer ++ older)) is_that record {
           newer = [];
@@ -253,36 +355,45 @@ shown_now unit updates (Make (ReadFrom block) after) (Some bytes) newer older ca
           older = older;
           parts = refl;
           block = block;
+          few = few;
           bytes = bytes;
           answered = done;
           first = told.3;
         }
     by false writes same = cc
-shown_now unit updates (Make (ReadFrom block) after) (Some bytes) newer older cause each (inr failed) is =
+shown_now unit updates (Make (ReadFrom block) after) (Some bytes) newer older cause each apt (inr failed) is =
     let never = failed.0 in cc
-shown_now unit updates (Make (WriteTo location byte) after) (Some bytes) newer older cause each ends is = cc
-shown_now unit updates (Make (WriteOn location byte) after) (Some bytes) newer older cause each ends is = cc
+shown_now unit updates (Make (WriteTo location byte) after) (Some bytes) newer older cause each apt ends is = cc
+shown_now unit updates (Make (WriteOn before location byte) after) (Some bytes) newer older cause each apt ends is = cc
 
 -- the first of them is the cause, or else the newest access is
 shown_first : (unit : ℕ) (updates : List (ℕ × ℕ)) (plan : Plan) (outcome : Option (List ℕ))
     (newer older : List Exchange) (first : Option Cause) (cause : Cause)
     → EachBeforeWrite (TellsOther updates) plan → (first ≡ Some cause → IsShown unit updates older cause)
-    → AccessEnds unit plan outcome newer → first_of first (cause_by updates plan outcome) ≡ Some cause
+    → AptPlan older plan → AccessEnds unit plan outcome newer
+    → first_of first (cause_by updates plan outcome) ≡ Some cause
     → IsShown unit updates (newer ++ older) cause
-shown_first unit updates plan outcome newer older (Some one) cause each before ends is =
+shown_first unit updates plan outcome newer older (Some one) cause each before apt ends is =
     shown_later unit updates newer older cause (before is)
-shown_first unit updates plan outcome newer older None cause each before ends is =
-    shown_now unit updates plan outcome newer older cause each ends is
+shown_first unit updates plan outcome newer older None cause each before apt ends is =
+    shown_now unit updates plan outcome newer older cause each apt ends is
 
 shown_by : (unit : ℕ) (updates : List (ℕ × ℕ)) (plan : Plan) (outcomes : List (Option (List ℕ)))
     (told : List Exchange) (cause : Cause)
-    → EachBeforeWrite (TellsOther updates) plan → AccessesEnd unit plan outcomes told
+    → EachBeforeWrite (TellsOther updates) plan → IsInTurn None plan → AccessesEnd unit plan outcomes told
     → cause_after updates plan outcomes ≡ Some cause → IsShown unit updates told cause
-shown_by unit updates plan [] told cause each ends is = cc
-shown_by unit updates plan (outcome ∷ outcomes) told cause each ends is =
+shown_by unit updates plan [] told cause each turn ends is = cc
+shown_by unit updates plan (outcome ∷ outcomes) told cause each turn ends is =
+    let here = turn_after unit plan outcomes ends.1 turn ends.4 in
     rw ends.2 (shown_first unit updates (plan_after plan outcomes) outcome ends.0 ends.1
     (cause_after updates plan outcomes) cause (after_each (TellsOther updates) plan outcomes each)
-    (shown_by unit updates plan outcomes ends.1 cause each ends.4) ends.3 is)
+    (shown_by unit updates plan outcomes ends.1 cause each turn ends.4)
+    (apt_plan (plan_after plan outcomes) ends.1 here.0 here.1 here.2) ends.3 is)
+  where
+    apt_plan : (now : Plan) (older : List Exchange) (last : Option ℕ) → IsInTurn last now → Behind last older
+        → AptPlan older now
+    apt_plan (Finish verdict) older last is behind = tt
+    apt_plan (Make access after) older last is behind = apt_then last access older is.0 behind
 
 pub cause_shown : (task : Task) (unit : ℕ) (told : List Exchange) (cause : Cause) → RisesAbove 2 (updates_for task)
     → IsCause task unit told (Some cause) → IsShown unit (updates_for task) told cause
@@ -290,5 +401,6 @@ cause_shown task unit told cause rises (now, misses, left, tried, bytes, w) =
     let s = w.stands in
     rw s.parts (shown_later unit (updates_for task) s.tried (s.missed ++ s.ended) cause
     (shown_later unit (updates_for task) s.missed s.ended cause
-    (shown_by unit (updates_for task) (plan_of task) w.outcomes s.ended cause (task_each task rises) s.accesses
+    (shown_by unit (updates_for task) (plan_of task) w.outcomes s.ended cause (task_each task rises)
+    (task_turn task) s.accesses
     (sym w.cause_is))))

@@ -11,15 +11,18 @@ use Rattle.dali_write.specs.declared.stage.Task.{Task}
 use Rattle.dali_write.specs.declared.stage.Task.TheVariants.{Fresh, Opened, Closing, Reading, ReadingBlock}
 use Rattle.dali_write.specs.declared.session.Session.{Session}
 use Rattle.dali_write.specs.declared.block.Block.{Block}
-use Rattle.dali_write.specs.Requests.{block_requests, access_requests}
+use Rattle.dali_write.specs.Requests.{block_requests, put_requests, write_requests, access_requests}
 use Rattle.dali_write.specs.Frames.{read_frames, write_frames}
 use Rattle.dali_write.specs.Plans.{Plan, Finish, Make, next_plan, plan_after, read_format}
 use Rattle.dali_write.specs.Plans.{read_length, close, give_up, expect, read_back, write_on, unlock, read_on}
-use Rattle.dali_write.specs.Plans.{read_backs, read_all_back, row_before, rows_of, most_of, write_next}
+use Rattle.dali_write.specs.Plans.{read_backs, read_all_back, rows_of, most_of, write_next}
 use Rattle.dali_bus.specs.Hears.{up}
+use Rattle.std.proofs.lemmas.Bool.{ltb-true}
+use Rattle.dali_write.specs.Plans.{most_once, pieces_of, expect_all, read_again}
+use Rattle.dali_write.proofs.RowLemmas.{Full, bytes_count, rows_full, rows_count, pieces_few, pieces_bytes}
 use Rattle.std.specs.Str.{bytes_eq}
 use Rattle.dali_write.specs.Requests.{block}
-use Rattle.std.proofs.Common.{Bool, true, false, ◌==◌, ◌&&◌}
+use Rattle.std.proofs.Common.{Bool, true, false, ◌==◌}
 use Rattle.std.specs.Prelude.{nat_lt, if◌then◌else◌}
 use Rattle.dali_write.specs.Plans.{read_block}
 use Rattle.dali_write.specs.Tries.{most_tries, Trying, Missed, Misses, Succeeds, Fails, AccessEnds, AccessesEnd}
@@ -67,15 +70,20 @@ limit_requests : (unit : ℕ) (access : Access)
     → access_limit access ≡ most_tries * length (access_requests unit access 1)
 limit_requests unit (ReadFrom block) = omega (arith, block_frames_are 0 block, block_frames_are unit block)
 limit_requests unit (WriteTo location byte) = refl
-limit_requests unit (WriteOn location byte) = refl
+limit_requests unit (WriteOn before location byte) = refl
+
+put_few : (moved : Bool) (unit location byte : ℕ)
+    → length (put_requests moved unit location byte) ≤ length (write_requests unit location byte)
+put_few true unit location byte = omega arith
+put_few false unit location byte = omega arith
 
 -- no try has more frames than one behind a miss
 pub longest : (unit : ℕ) (access : Access) (misses : ℕ)
     → length (access_requests unit access misses) ≤ length (access_requests unit access 1)
 longest unit (ReadFrom block) misses = omega arith
 longest unit (WriteTo location byte) misses = omega arith
-longest unit (WriteOn location byte) zero = omega arith
-longest unit (WriteOn location byte) (suc misses) = omega arith
+longest unit (WriteOn before location byte) zero = put_few (up before == location) unit location byte
+longest unit (WriteOn before location byte) (suc misses) = omega arith
 
 access_length : (unit : ℕ) (access : Access) (outcome : Option (List ℕ)) (told : List Exchange)
     → Succeeds (access_requests unit access) outcome told ⊎ Fails (access_requests unit access) outcome told
@@ -157,9 +165,9 @@ most_write = most_tries * write_frames
 abbrev most_close : ℕ
 most_close = most_write + most_read
 
-next_limit : (pace : Pace) (location byte : ℕ) → access_limit (write_next pace location byte) ≡ most_write
-next_limit Checked location byte = refl
-next_limit Short location byte = refl
+next_limit : (pace : Pace) (before location byte : ℕ) → access_limit (write_next pace before location byte) ≡ most_write
+next_limit Checked before location byte = refl
+next_limit Short before location byte = refl
 
 pub close_takes : (limit : ℕ) (answered unanswered : Verdict) → most_close ≤ limit
     → TakesAtMost limit (close answered unanswered)
@@ -169,18 +177,16 @@ close_takes limit answered unanswered le = grind (arith, either_all)
 abbrev most_row : List ℕ → ℕ
 most_row bytes = most_tries * (length bytes + 6)
 
-expect_takes : (limit location : ℕ) (bytes : List ℕ) (after : Plan) → most_row bytes + most_close ≤ limit
-    → TakesAtMost (limit - most_row bytes) after
-    → TakesAtMost limit (expect location bytes after)
-expect_takes limit location bytes after le takes =
+expect_takes : (limit location : ℕ) (bytes : List ℕ) (failed after : Plan) → most_row bytes + most_close ≤ limit
+    → TakesAtMost (limit - most_row bytes) failed → TakesAtMost (limit - most_row bytes) after
+    → TakesAtMost limit (expect failed location bytes after)
+expect_takes limit location bytes failed after le again takes =
     let frames = block_frames_are 0 (block location (length bytes)) in
     let same : access_limit (ReadFrom (block location (length bytes))) ≡ most_row bytes = omega arith in (
       omega arith,
       rw same
-          (either_all (TakesAtMost (limit - most_row bytes)) give_up _
-          (close_takes (limit - most_row bytes) _ _ (omega arith))
-          (λ read. if_all (TakesAtMost (limit - most_row bytes)) (bytes_eq read bytes) after give_up takes
-          (close_takes (limit - most_row bytes) _ _ (omega arith)))),
+          (either_all (TakesAtMost (limit - most_row bytes)) failed _ again
+          (λ read. if_all (TakesAtMost (limit - most_row bytes)) (bytes_eq read bytes) after failed takes again)),
     )
 
 -- all tries of reading these rows
@@ -188,46 +194,90 @@ abbrev most_rows : List (ℕ × List ℕ) → ℕ
 most_rows [] = 0
 most_rows (row ∷ rows) = most_row row.1 + most_rows rows
 
-read_back_takes : (limit : ℕ) (rows : List (ℕ × List ℕ)) → most_rows rows + most_close ≤ limit
-    → TakesAtMost limit (read_back rows)
-read_back_takes limit [] le = tt
-read_back_takes limit (row ∷ rows) le =
-    expect_takes limit row.0 row.1 (read_back rows) (omega arith)
-    (read_back_takes (limit - most_row row.1) rows (omega arith))
+most_rows_are : (rows : List (ℕ × List ℕ)) → most_rows rows ≡ 8 * bytes_count rows + 48 * length rows
+most_rows_are [] = refl
+most_rows_are (row ∷ rows) = omega (arith, most_rows_are rows)
 
-row_before_few : (most : ℕ) (update : ℕ × ℕ) (some : List (ℕ × List ℕ))
-    → most_rows (row_before most update some) ≤ most_read + most_rows some
-row_before_few most update [] = omega arith
-row_before_few most update (row ∷ more) = by ((row.0 == up update.0) && nat_lt (length row.1) most)
-  where
-    by : (b : Bool)
-        → most_rows (if b then (update.0, update.1 ∷ row.1) ∷ more else (update.0, update.1 ∷ []) ∷ row ∷ more)
-        ≤ most_read + most_rows (row ∷ more)
-    by true = omega arith
-    by false = omega arith
+-- each limit from this number on
+abbrev TakesFrom : ℕ → Plan → Type 0
+TakesFrom need plan = (limit : ℕ) → need ≤ limit → TakesAtMost limit plan
 
-rows_few : (most : ℕ) (updates : List (ℕ × ℕ)) → most_rows (rows_of most updates) ≤ length updates * most_read
-rows_few most [] = omega arith
-rows_few most (update ∷ updates) =
-    omega (arith, rows_few most updates, row_before_few most update (rows_of most updates))
+expect_all_takes : (need : ℕ) (rows : List (ℕ × List ℕ)) (after : Plan) → most_close ≤ need → TakesFrom need after
+    → TakesFrom (most_rows rows + need) (expect_all rows after)
+expect_all_takes need [] after closes takes limit le = takes limit (omega arith)
+expect_all_takes need (row ∷ rows) after closes takes limit le =
+    expect_takes limit row.0 row.1 give_up (expect_all rows after) (omega arith)
+    (close_takes (limit - most_row row.1) _ _ (omega arith))
+    (expect_all_takes need rows after closes takes (limit - most_row row.1) (omega arith))
 
-write_on_takes : (limit : ℕ) (pace : Pace) (updates left : List (ℕ × ℕ))
+-- all tries of reading a row again
+abbrev most_pieces : Bool → List (ℕ × List ℕ) → ℕ
+most_pieces again pieces = if again then most_rows pieces else 0
+
+again_takes : (need : ℕ) (again : Bool) (pieces : List (ℕ × List ℕ)) (after : Plan) → most_close ≤ need
+    → TakesFrom need after
+    → TakesFrom (most_pieces again pieces + need) (if again then expect_all pieces after else give_up)
+again_takes need true pieces after closes takes limit le = expect_all_takes need pieces after closes takes limit le
+again_takes need false pieces after closes takes limit le = close_takes limit _ _ (omega arith)
+
+-- all tries of reading these rows, each of them again where it fails
+abbrev most_back : List (ℕ × List ℕ) → ℕ
+most_back [] = 0
+most_back (row ∷ rows) =
+    most_row row.1 + most_pieces (nat_lt most_once (length row.1)) (pieces_of row.0 row.1) + most_back rows
+
+read_back_takes : (rows : List (ℕ × List ℕ)) → TakesFrom (most_back rows + most_close) (read_back rows)
+read_back_takes [] limit le = tt
+read_back_takes (row ∷ rows) limit le =
+    let again = most_pieces (nat_lt most_once (length row.1)) (pieces_of row.0 row.1) in
+    expect_takes limit row.0 row.1 (read_again row.0 row.1 (read_back rows)) (read_back rows) (omega arith)
+    (again_takes (most_back rows + most_close) (nat_lt most_once (length row.1)) (pieces_of row.0 row.1)
+    (read_back rows) (omega arith) (read_back_takes rows) (limit - most_row row.1) (omega arith))
+    (read_back_takes rows (limit - most_row row.1) (omega arith))
+
+-- a row takes no more than the reads one by one, also where it is read again
+row_few : (location : ℕ) (bytes : List ℕ) (again : Bool) → 1 ≤ length bytes → nat_lt most_once (length bytes) ≡ again
+    → most_row bytes + most_pieces again (pieces_of location bytes) ≤ length bytes * most_read
+row_few location bytes true some is =
+    let below = ltb-true most_once (length bytes) is in
+    omega (
+      arith,
+      most_rows_are (pieces_of location bytes),
+      pieces_bytes location bytes,
+      pieces_few location bytes,
+    )
+row_few location bytes false some is = omega arith
+
+back_few : (rows : List (ℕ × List ℕ)) → Full rows → most_back rows ≤ bytes_count rows * most_read
+back_few [] full = omega arith
+back_few (row ∷ rows) full =
+    omega (
+      arith,
+      row_few row.0 row.1 (nat_lt most_once (length row.1)) full.0 refl,
+      back_few rows full.1,
+    )
+
+rows_few : (most : ℕ) (updates : List (ℕ × ℕ)) → most_back (rows_of most updates) ≤ length updates * most_read
+rows_few most updates =
+    omega (arith, back_few (rows_of most updates) (rows_full most updates), rows_count most updates)
+
+write_on_takes : (limit : ℕ) (pace : Pace) (updates : List (ℕ × ℕ)) (before : ℕ) (left : List (ℕ × ℕ))
     → (length left + 1) * most_write + (length updates + 1) * most_read + most_close ≤ limit
-    → TakesAtMost limit (write_on pace updates left)
-write_on_takes limit pace updates [] le =
-    rw (next_limit pace 2 0xFF) (
+    → TakesAtMost limit (write_on pace updates before left)
+write_on_takes limit pace updates before [] le =
+    rw (next_limit pace before 2 0xFF) (
       omega arith,
       either_all (TakesAtMost (limit - most_write)) give_up (λ bytes. read_all_back pace updates)
           (close_takes (limit - most_write) _ _ (omega arith))
-          (λ bytes. read_back_takes (limit - most_write) (rows_of (most_of pace) (read_backs updates))
+          (λ bytes. read_back_takes (rows_of (most_of pace) (read_backs updates)) (limit - most_write)
           (omega (arith, rows_few (most_of pace) (read_backs updates)))),
     )
-write_on_takes limit pace updates (update ∷ left) le =
-    rw (next_limit pace update.0 update.1) (
+write_on_takes limit pace updates before (update ∷ left) le =
+    rw (next_limit pace before update.0 update.1) (
       omega arith,
-      either_all (TakesAtMost (limit - most_write)) give_up (λ bytes. write_on pace updates left)
+      either_all (TakesAtMost (limit - most_write)) give_up (λ bytes. write_on pace updates update.0 left)
           (close_takes (limit - most_write) _ _ (omega arith))
-          (λ bytes. write_on_takes (limit - most_write) pace updates left (omega arith)),
+          (λ bytes. write_on_takes (limit - most_write) pace updates update.0 left (omega arith)),
     )
 
 pub unlock_takes : (limit : ℕ) (pace : Pace) (updates : List (ℕ × ℕ))

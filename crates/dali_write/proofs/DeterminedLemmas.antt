@@ -78,8 +78,8 @@ misses_is Anything (Some other) misses = absurd (misses refl)
 some_requests : (unit : ℕ) (access : Access) (misses : ℕ) → [] ≡ access_requests unit access misses → ⊥
 some_requests unit (ReadFrom location) misses none = cc
 some_requests unit (WriteTo location byte) misses none = cc
-some_requests unit (WriteOn location byte) zero none = cc
-some_requests unit (WriteOn location byte) (suc misses) none = cc
+some_requests unit (WriteOn before location byte) zero none = cc
+some_requests unit (WriteOn before location byte) (suc misses) none = cc
 
 -- The newest exchange was of the frame that was wanted, and it led from where the session stood.
 record Peeled (unit : ℕ) (plan : Plan) (told : List Exchange) (state : PlanState) : Type 0 where

@@ -1,5 +1,5 @@
 -- Exchanges that end in the four that select a location, or in a checked read.
-use Rattle.std.proofs.Common.{◌≡◌, refl, sym, ap, subst, slice_get, ◌∙◌, ℕ, zero, suc, List, [], ◌∷◌, ◌++◌, Option, Some, None}
+use Rattle.std.proofs.Common.{true, false, ◌⊎◌, inl, inr, ◌≡◌, refl, sym, ap, subst, slice_get, ◌∙◌, ℕ, zero, suc, List, [], ◌∷◌, ◌++◌, Option, Some, None}
 use Rattle.std.specs.Option.{option_to_list}
 use Rattle.dali_frame.specs.declared.forward.Frame.{Frame}
 use Rattle.dali_frame.specs.declared.forward.Frame.TheVariants.{Dtr0, Dtr1, AskDtr0, AskDtr1, Read}
@@ -12,7 +12,7 @@ use Rattle.dali_write.specs.Requests.{block, moved_on}
 use Rattle.dali_write.specs.Requests.{read_answer}
 use Rattle.dali_write.specs.Tries.{bytes_of}
 use Rattle.dali_write.specs.Blocks.{Tells}
-use Rattle.dali_write.proofs.ShapeLemmas.{Got, selected}
+use Rattle.dali_write.proofs.ShapeLemmas.{Got, asked_moved, asked_set}
 use Rattle.dali_write.proofs.BlockShapeLemmas.{AllReads, WasBlock}
 use Rattle.dali_write.proofs.BlockBytesLemmas.{ToldBlock, told_block}
 
@@ -24,8 +24,18 @@ exchange frame answer = record { frame = frame; answer = answer }
 pub selects_by : (unit location : ℕ) (one three : Option ℕ) (older : List Exchange)
     → Selects unit location (exchange (AskDtr0 unit) (Some location) ∷ exchange (Dtr0 location) three
     ∷ exchange (AskDtr1 unit) (Some 1) ∷ exchange (Dtr1 1) one ∷ older)
-selects_by unit location one three older =
-    (_ ∷ _ ∷ _ ∷ _ ∷ [], older, refl, (Exactly location, refl, (Nothing, tt, (Exactly 1, refl, (Nothing, tt, refl)))))
+selects_by unit location one three older = (
+  _ ∷ _ ∷ _ ∷ [],
+  exchange (Dtr1 1) one ∷ older,
+  refl,
+  (false, (Exactly location, refl, (Nothing, tt, (Exactly 1, refl, refl)))),
+)
+
+-- two that do
+pub moved_by : (unit location : ℕ) (older : List Exchange)
+    → Selects unit location (exchange (AskDtr0 unit) (Some location) ∷ exchange (AskDtr1 unit) (Some 1) ∷ older)
+moved_by unit location older =
+    (_ ∷ _ ∷ [], older, refl, (true, (Exactly location, refl, (Exactly 1, refl, refl))))
 
 -- seven that are a checked read
 pub reads_by : (unit location byte : ℕ) (one three : Option ℕ) (older : List Exchange) → EndsInRead unit location byte
@@ -57,34 +67,38 @@ reads_by unit location byte one three older = (
   },
 )
 
--- and the other way round
+-- and the other way round: the newest asks DTR0, and the next one DTR1 or sets DTR0 behind one that asks DTR1
 pub record EndsSelecting (unit location : ℕ) (told : List Exchange) : Type 0 where
-  pub x1 : Exchange
-  pub x2 : Exchange
-  pub x3 : Exchange
-  pub x4 : Exchange
+  pub x : Exchange
+  pub next : Exchange
   pub older : List Exchange
-  pub is : told ≡ x4 ∷ x3 ∷ x2 ∷ x1 ∷ older
-  pub got1 : Got x1 (Dtr1 1) Nothing
-  pub got2 : Got x2 (AskDtr1 unit) (Exactly 1)
-  pub got3 : Got x3 (Dtr0 location) Nothing
-  pub got4 : Got x4 (AskDtr0 unit) (Exactly location)
+  pub is : told ≡ x ∷ next ∷ older
+  pub got : Got x (AskDtr0 unit) (Exactly location)
+  pub asks : Got next (AskDtr1 unit) (Exactly 1)
+      ⊎ (Got next (Dtr0 location) Nothing × ((y : Exchange) × (before : List Exchange) × (older ≡ y ∷ before)
+      × Got y (AskDtr1 unit) (Exactly 1)))
 
 pub ends_selecting : (unit location : ℕ) (told : List Exchange) → Selects unit location told
     → EndsSelecting unit location told
-ends_selecting unit location told selects =
-    let s = selected unit location selects.0 selects.3 in
+ends_selecting unit location told (newer, older, parts, (true, try)) =
+    let s = asked_moved unit location newer try in
     record {
-      x1 = s.x1;
-      x2 = s.x2;
-      x3 = s.x3;
-      x4 = s.x4;
-      older = selects.1;
-      is = selects.2 ∙ ap (λ (newer : List Exchange). newer ++ selects.1) s.is;
-      got1 = s.got1;
-      got2 = s.got2;
-      got3 = s.got3;
-      got4 = s.got4;
+      x = s.x2;
+      next = s.x1;
+      older = older;
+      is = parts ∙ ap (λ (newer : List Exchange). newer ++ older) s.is;
+      got = s.got2;
+      asks = inl s.got1;
+    }
+ends_selecting unit location told (newer, older, parts, (false, try)) =
+    let s = asked_set unit location newer try in
+    record {
+      x = s.x3;
+      next = s.x2;
+      older = s.x1 ∷ older;
+      is = parts ∙ ap (λ (newer : List Exchange). newer ++ older) s.is;
+      got = s.got3;
+      asks = inr (s.got2, (s.x1, older, refl, s.got1));
     }
 
 -- the three newest exchanges of a read that told a byte

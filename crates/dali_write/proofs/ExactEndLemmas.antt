@@ -11,7 +11,7 @@ use Rattle.dali_write.specs.declared.ask.Verdict.{Verdict}
 use Rattle.dali_write.specs.declared.ask.Verdict.TheVariants.{MayOpen, Short, Format, Silent, Closed, NotClosed, Read}
 use Rattle.dali_write.specs.declared.ask.Ask.TheVariants.{Ended}
 use Rattle.dali_write.specs.Requests.{block, access_requests}
-use Rattle.dali_write.specs.Frames.{read_frames, write_frames, try_frames}
+use Rattle.dali_write.specs.Frames.{read_frames, write_frames, miss_frames}
 use Rattle.dali_write.specs.Counts.{read_all_frames}
 use Rattle.dali_write.specs.Plans.{Plan, Finish, Make, either_way, greatest, read_at, read_format_low, read_format}
 use Rattle.dali_write.specs.Plans.{read_length, read_closed, close, read_on, read_all}
@@ -34,7 +34,7 @@ use Rattle.dali_write.specs.Plans.{judge_length}
 abbrev Takes : Pace → ℕ → Plan → Verdict → ℕ → Type 0
 Takes pace unit plan verdict frames =
     (outcomes : List (Option (List ℕ))) (told : List Exchange) (walk : Walk unit plan outcomes told (Finish verdict))
-    → Frames pace unit plan outcomes told (Finish verdict) walk frames
+    → Frames pace unit plan outcomes told (Finish verdict) walk frames 0
 
 -- no walk of the plan leads to the verdict
 abbrev Never : ℕ → Plan → Verdict → Type 0
@@ -65,7 +65,7 @@ block_takes pace unit location count found failed verdict frames few differs res
     grind (arith, ends_not)
 block_takes pace unit location count found failed verdict frames few differs rest (Some bytes ∷ outcomes) told walk =
     access_first pace unit (ReadFrom (block location count)) _ bytes outcomes told (Finish verdict) walk frames
-    (row_frames count + frames) (short_row pace location count few)
+    (row_frames count + frames) 0 (short_row pace location count few)
     (omega (arith, block_frames_are unit (block location count), block_frames_are 0 (block 0 count)))
     (rest bytes outcomes walk.0 walk.4)
 
@@ -154,7 +154,7 @@ length_takes pace unit updates verdict frames differs rest =
 
 took : (pace : Pace) (unit : ℕ) (plan : Plan) (told : List Exchange) (verdict : Verdict) (frames : ℕ)
     → Takes pace unit plan verdict frames → Wants unit plan told (Ended verdict)
-    → Took pace unit plan told verdict frames
+    → Took pace unit plan told verdict frames 0
 took pace unit plan told verdict frames takes wants =
     let walk = ended_walk unit plan told verdict wants in
     let all = takes walk.0 told walk.1 in
@@ -162,14 +162,14 @@ took pace unit plan told verdict frames takes wants =
 
 pub short_took : (told : List Exchange) (unit : ℕ) (pace : Pace) (updates : List (ℕ × ℕ))
     → Wants unit (read_length pace updates) told (Ended Short)
-    → Took pace unit (read_length pace updates) told Short read_frames
+    → Took pace unit (read_length pace updates) told Short read_frames 0
 short_took told unit pace updates wants =
     took pace unit (read_length pace updates) told Short read_frames
     (length_takes pace unit updates Short 0 (λ e. cc) (λ short. judged_short pace unit short _)) wants
 
 pub low_took : (told : List Exchange) (unit : ℕ) (pace : Pace) (updates : List (ℕ × ℕ)) → greatest updates < 0x13
     → Wants unit (read_length pace updates) told (Ended MayOpen)
-    → Took pace unit (read_length pace updates) told MayOpen read_frames
+    → Took pace unit (read_length pace updates) told MayOpen read_frames 0
 low_took told unit pace updates below wants =
     let is = lt-ltb (greatest updates) 0x13 below in
     took pace unit (read_length pace updates) told MayOpen read_frames
@@ -177,7 +177,7 @@ low_took told unit pace updates below wants =
 
 pub high_took : (told : List Exchange) (unit : ℕ) (pace : Pace) (updates : List (ℕ × ℕ)) → 0x13 ≤ greatest updates
     → Wants unit (read_length pace updates) told (Ended MayOpen)
-    → Took pace unit (read_length pace updates) told MayOpen (read_frames + format_frames pace)
+    → Took pace unit (read_length pace updates) told MayOpen (read_frames + format_frames pace) 0
 high_took told unit pace updates high wants =
     let is = le-ltb (greatest updates) 0x13 high in
     took pace unit (read_length pace updates) told MayOpen (read_frames + format_frames pace)
@@ -187,7 +187,7 @@ high_took told unit pace updates high wants =
 
 pub format_took : (told : List Exchange) (unit : ℕ) (pace : Pace) (updates : List (ℕ × ℕ))
     → Wants unit (read_length pace updates) told (Ended Format)
-    → Took pace unit (read_length pace updates) told Format (read_frames + format_frames pace)
+    → Took pace unit (read_length pace updates) told Format (read_frames + format_frames pace) 0
 format_took told unit pace updates wants =
     took pace unit (read_length pace updates) told Format (read_frames + format_frames pace)
     (length_takes pace unit updates Format (format_frames pace) (λ e. cc)
@@ -204,10 +204,10 @@ misses_take requests (suc misses) told is =
 
 -- an access that failed took no fewer frames than a write that succeeds, and no more than its misses allow
 failed_frames : (unit : ℕ) (access : Access) (after : Option (List ℕ) → Plan) (told : List Exchange)
-    → length (access_requests unit access 1) ≤ try_frames Checked
+    → length (access_requests unit access 1) ≤ miss_frames Checked
     → (ends : AccessEnds unit (Make access after) None told)
     → (more : ℕ) × (length told ≡ write_frames + more)
-    × (more ≤ try_frames Checked * access_misses unit (Make access after) None told ends)
+    × (more ≤ miss_frames Checked * access_misses unit (Make access after) None told ends)
 failed_frames unit access after told short (inl done) = let never = done.5 in cc
 failed_frames unit access after told short (inr failed) =
     let least = misses_take (access_requests unit access) most_tries told failed.1 in
@@ -223,15 +223,15 @@ close_takes : (unit : ℕ) → Takes Checked unit (close Closed NotClosed) Close
 close_takes unit [] told walk = let no = walk.1 in cc
 close_takes unit (None ∷ outcomes) told walk =
     and_rest Checked unit (WriteTo 2 0xFF) _ None outcomes told (Finish Closed) walk write_frames read_frames
-    (write_frames + read_frames)
+    (write_frames + read_frames) 0
     (failed_frames unit (WriteTo 2 0xFF) (λ outcome. read_closed Closed NotClosed) walk.1 (omega arith) walk.3)
     refl (read_closed_takes unit outcomes walk.0 walk.4)
 close_takes unit (Some byte ∷ outcomes) told walk =
     access_first Checked unit (WriteTo 2 0xFF) _ byte outcomes told (Finish Closed) walk read_frames
-    (write_frames + read_frames) (short_to Checked 2 0xFF) refl (read_closed_takes unit outcomes walk.0 walk.4)
+    (write_frames + read_frames) 0 (short_to Checked 2 0xFF) refl (read_closed_takes unit outcomes walk.0 walk.4)
 
 pub closed_took : (told : List Exchange) (unit : ℕ) → Wants unit (close Closed NotClosed) told (Ended Closed)
-    → Took Checked unit (close Closed NotClosed) told Closed (write_frames + read_frames)
+    → Took Checked unit (close Closed NotClosed) told Closed (write_frames + read_frames) 0
 closed_took told unit wants = grind (arith, took, close_takes)
 
 -- a reading session
@@ -257,7 +257,7 @@ read_took told unit wants = let walk = ended_walk unit read_all told Read wants 
         let reads = either_way (Finish Silent) (λ l. read_on 1 (min (get_or l 0 0) 0xFE)) in
         let all =
         access_first Checked unit (ReadFrom (block 0 1)) reads bytes outcomes told (Finish Read) walk
-        (min last 0xFE * read_frames) (read_all_frames last) (short_row Checked 0 1 (omega arith)) (omega arith) on in
+        (min last 0xFE * read_frames) (read_all_frames last) 0 (short_row Checked 0 1 (omega arith)) (omega arith) on in
         record {
           last = last;
           rest = outcomes;

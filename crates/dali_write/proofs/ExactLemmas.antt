@@ -1,38 +1,49 @@
 -- How many frames a session takes that ends Done.
-use Rattle.std.proofs.Common.{◌∙◌, suc, zero, ◌-◌, subst, ◌≡◌, inl, inr, refl, ap, ℕ, ◌+◌, ◌*◌, ◌≤◌, Bool, true, false, if◌then◌else◌, List}
-use Rattle.std.proofs.Common.{[], ◌∷◌, length, length-append, Option, Some, None, arith}
+use Rattle.std.proofs.Common.{◌∙◌, suc, zero, ◌-◌, subst, ◌≡◌, ◌⊎◌, inl, inr, refl, ap, ℕ, ◌+◌, ◌*◌, ◌≤◌, Bool, true, false, if◌then◌else◌, List}
+use Rattle.std.proofs.Common.{[], ◌∷◌, ◌++◌, append_assoc, append-nil, length, length-append, Option, Some, None, arith}
 use Rattle.std.proofs.lemmas.Nat.{mul-le}
 use Rattle.dali_write.specs.Exchanges.{Exchange}
 use Rattle.dali_write.specs.declared.access.Access.{Access}
 use Rattle.dali_write.specs.declared.access.Access.TheVariants.{ReadFrom, WriteTo}
 use Rattle.dali_write.specs.declared.ask.Verdict.TheVariants.{Done}
 use Rattle.dali_write.specs.declared.ask.Ask.TheVariants.{Ended}
-use Rattle.dali_write.specs.Requests.{block, access_requests}
-use Rattle.dali_write.specs.Frames.{try_frames}
-use Rattle.dali_write.specs.Counts.{done_frames}
+use Rattle.dali_write.specs.Requests.{block, put_requests, write_requests, access_requests}
+use Rattle.dali_write.specs.Frames.{miss_frames, other_frames}
+use Rattle.dali_write.specs.Counts.{done_frames, writes_frames, jumps}
+use Rattle.dali_bus.specs.Hears.{up}
+use Rattle.std.specs.Prelude.{◌==◌}
 use Rattle.dali_write.specs.Plans.{Plan, Finish, Make, give_up, expect, read_back, write_on}
 use Rattle.dali_write.specs.Plans.{unlock}
 use Rattle.dali_write.specs.Tries.{AccessEnds, Wants}
 use Rattle.dali_write.specs.Walks.{Walk, access_misses, misses_of, Took}
 use Rattle.dali_write.proofs.ShapeLemmas.{trying_length}
 use Rattle.dali_write.proofs.CountLemmas.{misses_length}
-use Rattle.dali_write.proofs.WalkLemmas.{ended_walk}
+use Rattle.dali_write.proofs.WalkLemmas.{ended_walk, was_answered}
+use Rattle.dali_write.specs.Misses.{others_in}
+use Rattle.dali_write.specs.Touches.{Has}
+use Rattle.dali_write.specs.declared.ask.Verdict.{Verdict}
+use Rattle.dali_write.proofs.OtherLemmas.{more_others, told_other}
 use Rattle.dali_write.specs.declared.pace.Pace.{Pace}
 use Rattle.dali_write.specs.declared.pace.Pace.TheVariants.{Checked, Short}
 use Rattle.dali_write.specs.Frames.{row_frames, next_frames}
 use Rattle.dali_write.specs.Counts.{rows_frames}
 use Rattle.dali_write.specs.Plans.{Make, rows_of, most_of, read_backs, read_all_back, write_next, either_way}
-use Rattle.dali_write.proofs.RowLemmas.{Small, rows_small}
+use Rattle.dali_write.proofs.RowLemmas.{Small, rows_small, AllInRow, AllInRows, rows_hold, row_pieces}
 use Rattle.dali_write.proofs.CountLemmas.{longest}
 use Rattle.dali_write.proofs.BlockShapeLemmas.{block_frames_are}
 use Rattle.std.specs.Str.{bytes_eq}
+use Rattle.dali_write.specs.Plans.{most_once, pieces_of, expect_all, read_again}
+use Rattle.dali_write.proofs.RowLemmas.{pieces_bytes, pieces_few, pieces_some, pieces_small, rows_frames_are}
+use Rattle.std.specs.Prelude.{nat_lt, ◌<◌}
+use Rattle.std.proofs.lemmas.Bool.{ltb-true}
+use Rattle.dali_write.specs.declared.block.Block.{Block}
 
 -- the frames of a walk: these, and so many more
 pub record Frames (pace : Pace) (unit : ℕ) (plan : Plan) (outcomes : List (Option (List ℕ))) (told : List Exchange)
-    (end : Plan) (walk : Walk unit plan outcomes told end) (frames : ℕ) : Type 0 where
+    (end : Plan) (walk : Walk unit plan outcomes told end) (frames others : ℕ) : Type 0 where
   pub more : ℕ
   pub took : length told ≡ frames + more
-  pub few : more ≤ try_frames pace * misses_of unit plan outcomes told end walk
+  pub few : more ≤ miss_frames pace * misses_of unit plan outcomes told end walk + other_frames pace * others
 
 -- The first try is the shortest, and one behind a miss the longest; what the latter has more than the former, and its
 -- frames, are no more than what a miss may take.
@@ -40,16 +51,28 @@ abbrev pub IsShort : Pace → Access → Type 0
 IsShort pace access =
     (unit misses : ℕ)
     → (length (access_requests unit access 0) ≤ length (access_requests unit access misses))
-    × (2 * length (access_requests unit access 1) ≤ try_frames pace + length (access_requests unit access 0))
+    × (2 * length (access_requests unit access 1) ≤ miss_frames pace + length (access_requests unit access 0))
 
 pub short_to : (pace : Pace) (location byte : ℕ) → IsShort pace (WriteTo location byte)
 short_to Checked location byte unit misses = (omega arith, omega arith)
 short_to Short location byte unit misses = (omega arith, omega arith)
 
-pub short_next : (pace : Pace) (location byte : ℕ) → IsShort pace (write_next pace location byte)
-short_next Checked location byte unit misses = (omega arith, omega arith)
-short_next Short location byte unit zero = (omega arith, omega arith)
-short_next Short location byte unit (suc misses) = (omega arith, omega arith)
+pub short_next : (pace : Pace) (before location byte : ℕ) → IsShort pace (write_next pace before location byte)
+short_next Checked before location byte unit misses = (omega arith, omega arith)
+short_next Short before location byte unit zero = by (up before == location) where
+  by : (moved : Bool)
+      → (length (put_requests moved unit location byte) ≤ length (put_requests moved unit location byte))
+      × (2 * length (write_requests unit location byte)
+      ≤ miss_frames Short + length (put_requests moved unit location byte))
+  by true = (omega arith, omega arith)
+  by false = (omega arith, omega arith)
+short_next Short before location byte unit (suc misses) = by (up before == location) where
+  by : (moved : Bool)
+      → (length (put_requests moved unit location byte) ≤ length (write_requests unit location byte))
+      × (2 * length (write_requests unit location byte)
+      ≤ miss_frames Short + length (put_requests moved unit location byte))
+  by true = (omega arith, omega arith)
+  by false = (omega arith, omega arith)
 
 pub short_row : (pace : Pace) (location count : ℕ) → count ≤ most_of pace
     → IsShort pace (ReadFrom (block location count))
@@ -64,7 +87,7 @@ access_frames : (pace : Pace) (unit : ℕ) (access : Access) (after : Option (Li
     → IsShort pace access
     → (ends : AccessEnds unit (Make access after) (Some bytes) told)
     → (more : ℕ) × (length told ≡ length (access_requests unit access 0) + more)
-    × (more ≤ try_frames pace * access_misses unit (Make access after) (Some bytes) told ends)
+    × (more ≤ miss_frames pace * access_misses unit (Make access after) (Some bytes) told ends)
 access_frames pace unit access after bytes told short (inl done) =
     let whole = trying_length (access_requests unit access done.2) done.0 [] done.4 in
     let older = misses_length (access_requests unit access) done.2 done.1 (longest unit access) done.7 in
@@ -83,13 +106,13 @@ access_frames pace unit access after bytes told short (inl done) =
     long = length (access_requests unit access 1)
 
     by : (misses newer older : ℕ) → newer ≡ length (access_requests unit access misses) → older ≤ misses * long
-        → newer + older - first ≤ try_frames pace * misses
+        → newer + older - first ≤ miss_frames pace * misses
     by zero newer older is few = omega arith
     by (suc misses) newer older is few =
         let most = (short unit 0).1 in
         let longer = longest unit access (suc misses) in
-        let each : misses * long ≤ misses * try_frames pace =
-        mul-le misses long misses (try_frames pace) (omega arith) (omega (arith, longest unit access 0)) in
+        let each : misses * long ≤ misses * miss_frames pace =
+        mul-le misses long misses (miss_frames pace) (omega arith) (omega (arith, longest unit access 0)) in
         omega arith
 access_frames pace unit access after bytes told short (inr failed) = let never = failed.0 in cc
 
@@ -97,17 +120,17 @@ access_frames pace unit access after bytes told short (inr failed) = let never =
 pub and_rest : (pace : Pace) (unit : ℕ) (access : Access) (after : Option (List ℕ) → Plan) (outcome : Option (List ℕ))
     (outcomes : List (Option (List ℕ)))
     (told : List Exchange) (end : Plan)
-    (walk : Walk unit (Make access after) (outcome ∷ outcomes) told end) (here frames all : ℕ)
+    (walk : Walk unit (Make access after) (outcome ∷ outcomes) told end) (here frames all others : ℕ)
     → (more : ℕ) × (length walk.1 ≡ here + more)
-    × (more ≤ try_frames pace * access_misses unit (Make access after) outcome walk.1 walk.3)
+    × (more ≤ miss_frames pace * access_misses unit (Make access after) outcome walk.1 walk.3)
     → here + frames ≡ all
-    → Frames pace unit (after outcome) outcomes walk.0 end walk.4 frames
-    → Frames pace unit (Make access after) (outcome ∷ outcomes) told end walk all
-and_rest Checked unit access after outcome outcomes told end walk length_here frames all here sum rest =
+    → Frames pace unit (after outcome) outcomes walk.0 end walk.4 frames others
+    → Frames pace unit (Make access after) (outcome ∷ outcomes) told end walk all others
+and_rest Checked unit access after outcome outcomes told end walk length_here frames all others here sum rest =
     let both = ap (λ (t : List Exchange). length t) walk.2 in
     let joined = length-append walk.0 walk.1 in
     record { more = here.0 + rest.more; took = omega (arith, here.1, rest.took); few = omega (arith, here.2, rest.few) }
-and_rest Short unit access after outcome outcomes told end walk length_here frames all here sum rest =
+and_rest Short unit access after outcome outcomes told end walk length_here frames all others here sum rest =
     let both = ap (λ (t : List Exchange). length t) walk.2 in
     let joined = length-append walk.0 walk.1 in
     record { more = here.0 + rest.more; took = omega (arith, here.1, rest.took); few = omega (arith, here.2, rest.few) }
@@ -115,13 +138,13 @@ and_rest Short unit access after outcome outcomes told end walk length_here fram
 -- an access that succeeded, and the accesses after it
 pub access_first : (pace : Pace) (unit : ℕ) (access : Access) (after : Option (List ℕ) → Plan) (bytes : List ℕ)
     (outcomes : List (Option (List ℕ))) (told : List Exchange) (end : Plan)
-    (walk : Walk unit (Make access after) (Some bytes ∷ outcomes) told end) (frames all : ℕ)
+    (walk : Walk unit (Make access after) (Some bytes ∷ outcomes) told end) (frames all others : ℕ)
     → IsShort pace access → length (access_requests unit access 0) + frames ≡ all
-    → Frames pace unit (after (Some bytes)) outcomes walk.0 end walk.4 frames
-    → Frames pace unit (Make access after) (Some bytes ∷ outcomes) told end walk all
-access_first pace unit access after bytes outcomes told end walk frames all short sum rest =
+    → Frames pace unit (after (Some bytes)) outcomes walk.0 end walk.4 frames others
+    → Frames pace unit (Make access after) (Some bytes ∷ outcomes) told end walk all others
+access_first pace unit access after bytes outcomes told end walk frames all others short sum rest =
     and_rest pace unit access after (Some bytes) outcomes told end walk (length (access_requests unit access 0)) frames
-    all (access_frames pace unit access after bytes walk.1 short walk.3) sum rest
+    all others (access_frames pace unit access after bytes walk.1 short walk.3) sum rest
 
 -- no plan that gives up ends Done
 never_done : (unit : ℕ) (outcomes : List (Option (List ℕ))) (told : List Exchange)
@@ -133,59 +156,285 @@ never_done unit (o ∷ Some byte ∷ []) told walk = let differs = walk.4.4.1 in
 never_done unit (o ∷ None ∷ p ∷ outcomes) told walk = walk.4.4.3
 never_done unit (o ∷ Some byte ∷ p ∷ outcomes) told walk = walk.4.4.3
 
--- each walk of the plan that ends Done takes so many frames, and more only for misses
-abbrev TakesDone : Pace → ℕ → Plan → ℕ → Type 0
-TakesDone pace unit plan frames =
-    (outcomes : List (Option (List ℕ))) (told : List Exchange) (walk : Walk unit plan outcomes told (Finish Done))
-    → Frames pace unit plan outcomes told (Finish Done) walk frames
+-- so many other bytes are among the exchanges of a walk, besides those of older ones
+abbrev pub HasOthers : List (ℕ × ℕ) → List Exchange → List Exchange → ℕ → Type 0
+HasOthers wanted told older others = others + others_in wanted older ≤ others_in wanted (told ++ older)
 
-expect_took : (pace : Pace) (unit location : ℕ) (bytes : List ℕ) (after : Plan) (frames : ℕ)
-    → length bytes ≤ most_of pace → TakesDone pace unit after frames
-    → TakesDone pace unit (expect location bytes after) (row_frames (length bytes) + frames)
-expect_took pace unit location bytes after frames few rest [] told walk = let differs = walk.1 in cc
-expect_took pace unit location bytes after frames few rest (None ∷ outcomes) told walk = grind (arith, never_done)
-expect_took pace unit location bytes after frames few rest (Some read ∷ outcomes) told walk =
-    let here = block_frames_are unit (block location (length bytes)) in
-    let zero_at = block_frames_are 0 (block 0 (length bytes)) in
-    access_first pace unit (ReadFrom (block location (length bytes))) _ read outcomes told (Finish Done) walk frames
-    (row_frames (length bytes) + frames) (short_row pace location (length bytes) few) (omega arith)
-    (by (bytes_eq read bytes) walk.0 walk.4)
-  where
-    by : (t : Bool) (newer : List Exchange) (on : Walk unit (if t then after else give_up) outcomes newer (Finish Done))
-        → Frames pace unit (if t then after else give_up) outcomes newer (Finish Done) on frames
-    by true newer on = rest outcomes newer on
-    by false newer on = absurd (never_done unit outcomes newer on)
+pub none_other : (wanted : List (ℕ × ℕ)) (told older : List Exchange) → HasOthers wanted told older 0
+none_other wanted told older = omega (arith, more_others wanted told older)
 
-read_back_took : (pace : Pace) (unit : ℕ) (some : List (ℕ × List ℕ)) → Small (most_of pace) some
-    → TakesDone pace unit (read_back some) (rows_frames some)
-read_back_took pace unit [] small [] told walk =
-    let none = ap (λ (t : List Exchange). length t) walk.0 in record { more = 0; took = omega arith; few = omega arith }
-read_back_took pace unit [] small (o ∷ outcomes) told walk = absurd walk.3
-read_back_took pace unit (row ∷ some) small outcomes told walk =
-    expect_took pace unit row.0 row.1 (read_back some) (rows_frames some) small.0
-    (read_back_took pace unit some small.1) outcomes told walk
+-- those of an access, and of the exchanges behind it
+joined_others : (wanted : List (ℕ × ℕ)) (told newer mid older : List Exchange) (here others : ℕ) → told ≡ newer ++ mid
+    → HasOthers wanted mid older here → HasOthers wanted newer (mid ++ older) others
+    → HasOthers wanted told older (here + others)
+joined_others wanted told newer mid older here others parts one two =
+    rw (parts, append_assoc newer mid older) (omega (arith, one, two))
 
--- a write, after which the session goes on or gives up
-write_took : (pace : Pace) (unit : ℕ) (access : Access) (after : Plan) (frames : ℕ) → IsShort pace access
-    → TakesDone pace unit after frames
-    → TakesDone pace unit (Make access (either_way give_up (λ bytes. after)))
-    (length (access_requests unit access 0) + frames)
-write_took pace unit access after frames short rest [] told walk = let differs = walk.1 in cc
-write_took pace unit access after frames short rest (None ∷ outcomes) told walk =
-    absurd (never_done unit outcomes walk.0 walk.4)
-write_took pace unit access after frames short rest (Some bytes ∷ outcomes) told walk =
-    access_first pace unit access _ bytes outcomes told (Finish Done) walk frames
-    (length (access_requests unit access 0) + frames) short refl (rest outcomes walk.0 walk.4)
+-- A walk of the plan that ends Done takes so many frames, and more only for misses and for other bytes.
+record DoneIn (pace : Pace) (wanted : List (ℕ × ℕ)) (unit : ℕ) (plan : Plan) (outcomes : List (Option (List ℕ)))
+    (told older : List Exchange) (walk : Walk unit plan outcomes told (Finish Done)) (frames : ℕ) : Type 0 where
+  others : ℕ
+  among : HasOthers wanted told older others
+  frames_are : Frames pace unit plan outcomes told (Finish Done) walk frames others
+
+-- each of the plan does
+abbrev TakesDone : Pace → List (ℕ × ℕ) → ℕ → Plan → ℕ → Type 0
+TakesDone pace wanted unit plan frames =
+    (outcomes : List (Option (List ℕ))) (told older : List Exchange) (walk : Walk unit plan outcomes told (Finish Done))
+    → DoneIn pace wanted unit plan outcomes told older walk frames
+
+-- the tries of a row that failed, and then so many frames
+failed_frames : (unit : ℕ) (block : Block) (after : Option (List ℕ) → Plan) (told : List Exchange)
+    → (ends : AccessEnds unit (Make (ReadFrom block) after) None told)
+    → (length told ≤ 8 * (block.count + 6)) × (access_misses unit (Make (ReadFrom block) after) None told ends ≡ 8)
+failed_frames unit block after told (inl done) = let never = done.5 in cc
+failed_frames unit block after told (inr failed) =
+    let few = misses_length (access_requests unit (ReadFrom block)) 8 told (longest unit (ReadFrom block)) failed.1 in
+    (omega (arith, block_frames_are unit block), refl)
+
+again_first : (unit : ℕ) (block : Block) (after : Option (List ℕ) → Plan) (outcomes : List (Option (List ℕ)))
+    (told : List Exchange) (walk : Walk unit (Make (ReadFrom block) after) (None ∷ outcomes) told (Finish Done))
+    (frames again others : ℕ)
+    → block.count ≤ 16 → block.count + 6 ≤ again → again ≤ 4 * block.count + 3
+    → Frames Short unit (after None) outcomes walk.0 (Finish Done) walk.4 (again + frames) others
+    → Frames Short unit (Make (ReadFrom block) after) (None ∷ outcomes) told (Finish Done) walk
+    (block.count + 6 + frames) others
+again_first unit block after outcomes told walk frames again others small least most rest =
+    let here = failed_frames unit block after walk.1 walk.3 in
+    let both = ap (λ (t : List Exchange). length t) walk.2 in
+    let joined = length-append walk.0 walk.1 in
+    record {
+      more = length walk.1 + again + rest.more - (block.count + 6);
+      took = omega (arith, rest.took);
+      few = omega (arith, rest.few, here.0, here.1);
+    }
 
 -- so many frames are as many by another sum
-as_many : (pace : Pace) (unit : ℕ) (plan : Plan) (frames all : ℕ) → frames ≡ all → TakesDone pace unit plan frames
-    → TakesDone pace unit plan all
-as_many pace unit plan frames all same takes = subst (TakesDone pace unit plan) same takes
+same_frames : (pace : Pace) (unit : ℕ) (plan : Plan) (outcomes : List (Option (List ℕ))) (told : List Exchange)
+    (walk : Walk unit plan outcomes told (Finish Done)) (all frames others : ℕ) → all ≡ frames
+    → Frames pace unit plan outcomes told (Finish Done) walk all others
+    → Frames pace unit plan outcomes told (Finish Done) walk frames others
+same_frames pace unit plan outcomes told walk all frames others sum rest =
+    record { more = rest.more; took = omega (arith, rest.took); few = rest.few }
 
-next_is : (pace : Pace) (unit location byte : ℕ)
-    → length (access_requests unit (write_next pace location byte) 0) ≡ next_frames pace
-next_is Checked unit location byte = refl
-next_is Short unit location byte = refl
+as_many : (pace : Pace) (wanted : List (ℕ × ℕ)) (unit : ℕ) (plan : Plan) (frames all : ℕ) → frames ≡ all
+    → TakesDone pace wanted unit plan frames → TakesDone pace wanted unit plan all
+as_many pace wanted unit plan frames all same takes = subst (TakesDone pace wanted unit plan) same takes
+
+-- and they are fewer by what one other byte allows
+one_other : (pace : Pace) (unit : ℕ) (plan : Plan) (outcomes : List (Option (List ℕ))) (told : List Exchange)
+    (walk : Walk unit plan outcomes told (Finish Done)) (again all frames others : ℕ)
+    → pace ≡ Short → again ≤ other_frames Short → all ≡ again + frames
+    → Frames pace unit plan outcomes told (Finish Done) walk all others
+    → Frames pace unit plan outcomes told (Finish Done) walk frames (1 + others)
+one_other Checked unit plan outcomes told walk again all frames others short within sum rest = cc
+one_other Short unit plan outcomes told walk again all frames others short within sum rest =
+    record { more = again + rest.more; took = omega (arith, rest.took); few = omega (arith, rest.few) }
+
+-- A walk of the plan behind a row that failed or told other bytes takes so many frames to read it again, which eight
+-- misses allow, or one other byte.
+record DoneAgain (pace : Pace) (wanted : List (ℕ × ℕ)) (unit : ℕ) (failed : Plan) (outcomes : List (Option (List ℕ)))
+    (told older : List Exchange) (walk : Walk unit failed outcomes told (Finish Done)) (count frames : ℕ) : Type 0 where
+  short : pace ≡ Short
+  many : most_once < count
+  again : ℕ
+  least : count + 6 ≤ again
+  most : again ≤ 4 * count + 3
+  within : again ≤ other_frames Short
+  done : DoneIn pace wanted unit failed outcomes told older walk (again + frames)
+
+abbrev TakesAgain : Pace → List (ℕ × ℕ) → ℕ → Plan → ℕ → ℕ → Type 0
+TakesAgain pace wanted unit failed count frames =
+    (outcomes : List (Option (List ℕ))) (told older : List Exchange)
+    (walk : Walk unit failed outcomes told (Finish Done))
+    → DoneAgain pace wanted unit failed outcomes told older walk count frames
+
+-- a walk behind a row that was read, where it told its bytes or not
+record DoneBehind (count : ℕ) (pace : Pace) (wanted : List (ℕ × ℕ)) (unit : ℕ) (plan : Plan)
+    (outcomes : List (Option (List ℕ)))
+    (told older : List Exchange) (walk : Walk unit plan outcomes told (Finish Done)) (held : Bool) (frames : ℕ) : Type 0
+  where
+    again : ℕ
+    done : DoneIn pace wanted unit plan outcomes told older walk (again + frames)
+    cost : (again ≡ 0) ⊎ ((held ≡ false) × (pace ≡ Short) × (again ≤ other_frames Short) × (most_once < count))
+
+row_is : (count : ℕ) → row_frames count ≡ count + 6
+row_is count = block_frames_are 0 (block 0 count)
+
+expect_took : (pace : Pace) (wanted : List (ℕ × ℕ)) (unit : ℕ) (failed : Plan) (location : ℕ) (bytes : List ℕ)
+    (after : Plan) (frames : ℕ)
+    → length bytes ≤ most_of pace → AllInRow (Has wanted) location bytes
+    → TakesAgain pace wanted unit failed (length bytes) frames → TakesDone pace wanted unit after frames
+    → TakesDone pace wanted unit (expect failed location bytes after) (row_frames (length bytes) + frames)
+expect_took pace wanted unit failed location bytes after frames few all again rest [] told older walk =
+    let differs = walk.1 in cc
+expect_took Checked wanted unit failed location bytes after frames few all again rest (None ∷ outcomes) told older
+    walk =
+    let never = (again outcomes walk.0 (walk.1 ++ older) walk.4).short in cc
+expect_took Short wanted unit failed location bytes after frames few all again rest (None ∷ outcomes) told older walk =
+    let one = again outcomes walk.0 (walk.1 ++ older) walk.4 in
+    let whole =
+    again_first unit (block location (length bytes)) _ outcomes told walk frames one.again one.done.others few one.least
+    one.most one.done.frames_are in
+    record {
+      others = one.done.others;
+      among = omega (
+        arith,
+        joined_others wanted told walk.0 walk.1 older 0 one.done.others walk.2
+            (none_other wanted walk.1 older) one.done.among,
+      );
+      frames_are = same_frames Short unit _ (None ∷ outcomes) told walk (length bytes + 6 + frames) _
+          one.done.others (omega (arith, row_is (length bytes))) whole;
+    }
+expect_took pace wanted unit failed location bytes after frames few all again rest (Some read ∷ outcomes) told older
+    walk =
+    finish (by (bytes_eq read bytes) walk.0 walk.4)
+  where
+    base : List Exchange
+    base = walk.1 ++ older
+
+    -- behind the row
+    by : (held : Bool) (newer : List Exchange)
+        (on : Walk unit (if held then after else failed) outcomes newer (Finish Done))
+        → DoneBehind (length bytes) pace wanted unit (if held then after else failed) outcomes newer base on held frames
+    by true newer on =
+        let r = rest outcomes newer base on in
+        record {
+          again = 0;
+          done = record {
+            others = r.others;
+            among = r.among;
+            frames_are =
+                same_frames pace unit after outcomes newer on frames (0 + frames) r.others (omega arith) r.frames_are;
+          };
+          cost = inl refl;
+        }
+    by false newer on =
+        let r = again outcomes newer base on in
+        record { again = r.again; done = r.done; cost = inr (refl, r.short, r.within, r.many) }
+
+    finish : DoneBehind (length bytes) pace wanted unit (if bytes_eq read bytes then after else failed) outcomes
+        walk.0 base walk.4
+        (bytes_eq read bytes) frames
+        → DoneIn pace wanted unit (expect failed location bytes after) (Some read ∷ outcomes) told older walk
+        (row_frames (length bytes) + frames)
+    finish b =
+        let here = block_frames_are unit (block location (length bytes)) in
+        let left = b.again + frames in
+        let whole =
+        access_first pace unit (ReadFrom (block location (length bytes))) _ read outcomes told (Finish Done) walk left
+        (row_frames (length bytes) + left) b.done.others (short_row pace location (length bytes) few)
+        (omega (arith, row_is (length bytes))) b.done.frames_are in
+        elim b.cost [
+          | inl none ↦ record {
+            others = b.done.others;
+            among = omega (
+              arith,
+              joined_others wanted told walk.0 walk.1 older 0 b.done.others walk.2
+                  (none_other wanted walk.1 older) b.done.among,
+            );
+            frames_are = same_frames pace unit _ (Some read ∷ outcomes) told walk (row_frames (length bytes) + left) _
+                b.done.others (omega (arith, none)) whole;
+          }
+          | inr (differs, short, within, many) ↦ record {
+            others = 1 + b.done.others;
+            among = joined_others wanted told walk.0 walk.1 older 1 b.done.others walk.2
+                (told_other wanted unit location bytes read walk.1 older (was_answered _ read walk.1 walk.3) all
+                differs many) b.done.among;
+            frames_are = one_other pace unit _ (Some read ∷ outcomes) told walk b.again
+                (row_frames (length bytes) + left) _ b.done.others short within (omega arith) whole;
+          }
+        ]
+
+-- a plan that gives up never ends so
+give_up_took : (pace : Pace) (wanted : List (ℕ × ℕ)) (unit count frames : ℕ)
+    → TakesAgain pace wanted unit give_up count frames
+give_up_took pace wanted unit count frames outcomes told older walk = absurd (never_done unit outcomes told walk)
+
+all_took : (wanted : List (ℕ × ℕ)) (unit : ℕ) (some : List (ℕ × List ℕ)) (after : Plan) (frames : ℕ) → Small 2 some
+    → AllInRows (Has wanted) some → TakesDone Short wanted unit after frames
+    → TakesDone Short wanted unit (expect_all some after) (rows_frames some + frames)
+all_took wanted unit [] after frames small all rest =
+    as_many Short wanted unit after frames (0 + frames) (omega arith) rest
+all_took wanted unit (row ∷ some) after frames small all rest =
+    as_many Short wanted unit (expect_all (row ∷ some) after)
+    (row_frames (length row.1) + (rows_frames some + frames)) _ (omega arith)
+    (expect_took Short wanted unit give_up row.0 row.1 (expect_all some after) (rows_frames some + frames)
+    (omega (arith, small.0)) all.0 (give_up_took Short wanted unit (length row.1) (rows_frames some + frames))
+    (all_took wanted unit some after frames small.1 all.1 rest))
+
+again_took : (pace : Pace) (wanted : List (ℕ × ℕ)) (unit location : ℕ) (bytes : List ℕ) (after : Plan) (frames : ℕ)
+    (again : Bool)
+    → nat_lt most_once (length bytes) ≡ again → length bytes ≤ most_of pace → AllInRow (Has wanted) location bytes
+    → TakesDone pace wanted unit after frames
+    → TakesAgain pace wanted unit (if again then expect_all (pieces_of location bytes) after else give_up)
+    (length bytes) frames
+again_took pace wanted unit location bytes after frames false is few all rest outcomes told older walk =
+    give_up_took pace wanted unit (length bytes) frames outcomes told older walk
+again_took Checked wanted unit location bytes after frames true is few all rest outcomes told older walk =
+    absurd (omega (arith, ltb-true most_once (length bytes) is))
+again_took Short wanted unit location bytes after frames true is few all rest outcomes told older walk =
+    let below = ltb-true most_once (length bytes) is in
+    let count = pieces_bytes location bytes in
+    let rows = rows_frames_are (pieces_of location bytes) in
+    let some = pieces_some location bytes (omega arith) in
+    let most = pieces_few location bytes in
+    record {
+      short = refl;
+      many = below;
+      again = rows_frames (pieces_of location bytes);
+      least = omega arith;
+      most = omega arith;
+      within = omega arith;
+      done = all_took wanted unit (pieces_of location bytes) after frames (pieces_small location bytes)
+          (row_pieces (Has wanted) location bytes all) rest outcomes told older walk;
+    }
+
+read_back_took : (pace : Pace) (wanted : List (ℕ × ℕ)) (unit : ℕ) (some : List (ℕ × List ℕ)) → Small (most_of pace) some
+    → AllInRows (Has wanted) some → TakesDone pace wanted unit (read_back some) (rows_frames some)
+read_back_took pace wanted unit [] small all [] told older walk =
+    let none = ap (λ (t : List Exchange). length t) walk.0 in
+    record {
+      others = 0;
+      among = none_other wanted told older;
+      frames_are = record { more = 0; took = omega arith; few = omega arith };
+    }
+read_back_took pace wanted unit [] small all (o ∷ outcomes) told older walk = absurd walk.3
+read_back_took pace wanted unit (row ∷ some) small all outcomes told older walk =
+    let rest = read_back_took pace wanted unit some small.1 all.1 in
+    expect_took pace wanted unit (read_again row.0 row.1 (read_back some)) row.0 row.1 (read_back some)
+    (rows_frames some) small.0 all.0
+    (again_took pace wanted unit row.0 row.1 (read_back some) (rows_frames some) (nat_lt most_once (length row.1)) refl
+    small.0 all.0 rest) rest outcomes told older walk
+
+-- a write, after which the session goes on or gives up
+write_took : (pace : Pace) (wanted : List (ℕ × ℕ)) (unit : ℕ) (access : Access) (after : Plan) (frames : ℕ)
+    → IsShort pace access → TakesDone pace wanted unit after frames
+    → TakesDone pace wanted unit (Make access (either_way give_up (λ bytes. after)))
+    (length (access_requests unit access 0) + frames)
+write_took pace wanted unit access after frames short rest [] told older walk = let differs = walk.1 in cc
+write_took pace wanted unit access after frames short rest (None ∷ outcomes) told older walk =
+    absurd (never_done unit outcomes walk.0 walk.4)
+write_took pace wanted unit access after frames short rest (Some bytes ∷ outcomes) told older walk =
+    let r = rest outcomes walk.0 (walk.1 ++ older) walk.4 in
+    record {
+      others = r.others;
+      among = omega (
+        arith,
+        joined_others wanted told walk.0 walk.1 older 0 r.others walk.2
+            (none_other wanted walk.1 older) r.among,
+      );
+      frames_are = access_first pace unit access _ bytes outcomes told (Finish Done) walk frames
+          (length (access_requests unit access 0) + frames) r.others short refl r.frames_are;
+    }
+
+next_is : (pace : Pace) (unit before location byte : ℕ)
+    → length (access_requests unit (write_next pace before location byte) 0) ≡ next_frames pace before location
+next_is Checked unit before location byte = refl
+next_is Short unit before location byte = by (up before == location) where
+  by : (moved : Bool) → length (put_requests moved unit location byte) ≡ length (put_requests moved 0 0 0)
+  by true = refl
+  by false = refl
 
 -- all that is read back
 abbrev back_frames : Pace → List (ℕ × ℕ) → ℕ
@@ -195,32 +444,73 @@ pub least_most : (pace : Pace) → 1 ≤ most_of pace
 least_most Checked = omega arith
 least_most Short = omega arith
 
-write_on_took : (pace : Pace) (unit : ℕ) (updates left : List (ℕ × ℕ))
-    → TakesDone pace unit (write_on pace updates left)
-    (length left * next_frames pace + next_frames pace + back_frames pace updates)
-write_on_took pace unit updates [] =
-    as_many pace unit (write_on pace updates []) _ _ (omega (arith, next_is pace unit 2 0xFF))
-    (write_took pace unit (write_next pace 2 0xFF) (read_all_back pace updates) _ (short_next pace 2 0xFF)
-    (read_back_took pace unit (rows_of (most_of pace) (read_backs updates))
-    (rows_small (most_of pace) (read_backs updates) (least_most pace))))
-write_on_took pace unit updates (update ∷ left) =
-    as_many pace unit (write_on pace updates (update ∷ left)) _ _
-    (omega (arith, next_is pace unit update.0 update.1, one_times (length left) (next_frames pace)))
-    (write_took pace unit (write_next pace update.0 update.1) (write_on pace updates left) _
-    (short_next pace update.0 update.1)
-    (write_on_took pace unit updates left))
-  where
-    one_times : (n k : ℕ) → (suc n) * k ≡ k + n * k
-    one_times n k = omega arith
+write_on_took : (pace : Pace) (unit : ℕ) (updates : List (ℕ × ℕ)) (before : ℕ) (left : List (ℕ × ℕ))
+    → TakesDone pace (read_backs updates) unit (write_on pace updates before left)
+    (writes_frames pace before left + back_frames pace updates)
+write_on_took pace unit updates before [] =
+    as_many pace (read_backs updates) unit (write_on pace updates before []) _ _
+    (omega (arith, next_is pace unit before 2 0xFF))
+    (write_took pace (read_backs updates) unit (write_next pace before 2 0xFF) (read_all_back pace updates) _
+    (short_next pace before 2 0xFF)
+    (read_back_took pace (read_backs updates) unit (rows_of (most_of pace) (read_backs updates))
+    (rows_small (most_of pace) (read_backs updates) (least_most pace))
+    (rows_hold (Has (read_backs updates)) (most_of pace) (read_backs updates) (λ location byte has. has))))
+write_on_took pace unit updates before (update ∷ left) =
+    as_many pace (read_backs updates) unit (write_on pace updates before (update ∷ left)) _ _
+    (omega (arith, next_is pace unit before update.0 update.1))
+    (write_took pace (read_backs updates) unit (write_next pace before update.0 update.1)
+    (write_on pace updates update.0 left) _ (short_next pace before update.0 update.1)
+    (write_on_took pace unit updates update.0 left))
+
+-- behind older exchanges, of whose other bytes none is counted
+pub done_took_on : (told older : List Exchange) (unit : ℕ) (pace : Pace) (updates : List (ℕ × ℕ))
+    → Wants unit (unlock pace updates) told (Ended Done)
+    → (others : ℕ) × HasOthers (read_backs updates) told older others
+    × Took pace unit (unlock pace updates) told Done (done_frames pace updates) others
+done_took_on told older unit pace updates wants =
+    let walk = ended_walk unit (unlock pace updates) told Done wants in
+    let takes =
+    as_many pace (read_backs updates) unit (unlock pace updates) _ (done_frames pace updates) (omega arith)
+    (write_took pace (read_backs updates) unit (WriteTo 2 0x55) (write_on pace updates 2 updates) _
+    (short_to pace 2 0x55) (write_on_took pace unit updates 2 updates)) in
+    let done = takes walk.0 told older walk.1 in
+    let frames = done.frames_are in (
+      done.others,
+      done.among,
+      record { outcomes = walk.0; walk = walk.1; more = frames.more; took = frames.took; few = frames.few },
+    )
+
+-- as many as there are
+all_others : (pace : Pace) (unit : ℕ) (plan : Plan) (told : List Exchange) (verdict : Verdict) (frames some all : ℕ)
+    → some ≤ all → Took pace unit plan told verdict frames some → Took pace unit plan told verdict frames all
+all_others Checked unit plan told verdict frames some all le t =
+    record { outcomes = t.outcomes; walk = t.walk; more = t.more; took = t.took; few = omega (arith, t.few) }
+all_others Short unit plan told verdict frames some all le t =
+    record { outcomes = t.outcomes; walk = t.walk; more = t.more; took = t.took; few = omega (arith, t.few) }
 
 pub done_took : (told : List Exchange) (unit : ℕ) (pace : Pace) (updates : List (ℕ × ℕ))
     → Wants unit (unlock pace updates) told (Ended Done)
-    → Took pace unit (unlock pace updates) told Done (done_frames pace updates)
+    → Took pace unit (unlock pace updates) told Done (done_frames pace updates) (others_in (read_backs updates) told)
 done_took told unit pace updates wants =
-    let walk = ended_walk unit (unlock pace updates) told Done wants in
-    let takes =
-    as_many pace unit (unlock pace updates) _ (done_frames pace updates) (omega arith)
-    (write_took pace unit (WriteTo 2 0x55) (write_on pace updates updates) _ (short_to pace 2 0x55)
-    (write_on_took pace unit updates updates)) in
-    let frames = takes walk.0 told walk.1 in
-    record { outcomes = walk.0; walk = walk.1; more = frames.more; took = frames.took; few = frames.few }
+    let (some, among, took) = done_took_on told [] unit pace updates wants in
+    let all : some ≤ others_in (read_backs updates) told =
+    subst (λ (t : List Exchange). some ≤ others_in (read_backs updates) t) (append-nil told) (omega (arith, among)) in
+    all_others pace unit (unlock pace updates) told Done (done_frames pace updates) some
+    (others_in (read_backs updates) told) all took
+
+-- the frames of the writes, in numbers
+pub writes_checked : (before : ℕ) (left : List (ℕ × ℕ)) → writes_frames Checked before left ≡ 7 * length left + 7
+writes_checked before [] = refl
+writes_checked before (update ∷ left) = let rest = writes_checked update.0 left in omega arith
+
+one_more : (moved : Bool) → length (put_requests moved 0 0 0) ≡ 3 + (if moved then 0 else 1)
+one_more true = refl
+one_more false = refl
+
+pub writes_short : (before : ℕ) (left : List (ℕ × ℕ))
+    → writes_frames Short before left ≡ 3 * length left + 3 + jumps before left
+writes_short before [] = let here = one_more (up before == 2) in omega arith
+writes_short before (update ∷ left) =
+    let rest = writes_short update.0 left in
+    let here = one_more (up before == update.0) in
+    omega arith

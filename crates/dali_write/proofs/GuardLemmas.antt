@@ -1,6 +1,7 @@
 -- The frames that a session wants are guarded.
 use Rattle.std.proofs.Common.{zero, suc, ◌≡◌, refl, ap, ◌∙◌, inl, inr, ℕ, List, [], ◌∷◌, ◌++◌}
-use Rattle.std.proofs.Common.{append_assoc, Option, Some, arith}
+use Rattle.std.proofs.Common.{append_assoc, Option, Some, Bool, true, false, ◌==◌, arith}
+use Rattle.dali_bus.specs.Hears.{up}
 use Rattle.std.specs.Prelude.{⊤, slice_get}
 use Rattle.dali_frame.specs.declared.forward.Frame.{Frame}
 use Rattle.dali_frame.specs.declared.forward.Frame.TheVariants.{Dtr0, Dtr1, Dtr2, Write, WriteSilent, Enable, AskDtr0}
@@ -14,7 +15,7 @@ use Rattle.dali_write.specs.declared.ask.Ask.TheVariants.{Send}
 use Rattle.dali_write.specs.declared.ask.Verdict.{Verdict}
 use Rattle.dali_write.specs.declared.ask.Verdict.TheVariants.{Doubt, DoubtOpen, Closed, NotClosed}
 use Rattle.dali_write.specs.declared.block.Block.{Block}
-use Rattle.dali_write.specs.Requests.{request, select_requests, block_requests, write_requests}
+use Rattle.dali_write.specs.Requests.{request, asked_requests, block_requests, write_requests}
 use Rattle.dali_write.specs.Plans.{Plan, Finish, Make, next_plan, plan_after, close, give_up, read_back}
 use Rattle.dali_write.specs.Plans.{write_on, unlock}
 use Rattle.dali_write.specs.Tries.{Trying, Wants, plan_requests}
@@ -29,6 +30,8 @@ use Rattle.dali_write.specs.declared.pace.Pace.TheVariants.{Checked, Short}
 use Rattle.dali_write.specs.Plans.{rows_of, most_of, read_backs, read_all_back, write_next}
 use Rattle.dali_write.specs.Requests.{put_requests}
 use Rattle.std.specs.Str.{bytes_eq}
+use Rattle.dali_write.specs.Plans.{most_once, pieces_of, expect_all, read_again}
+use Rattle.std.proofs.Common.{nat_lt, length}
 
 -- the request at a number
 abbrev pub request_at : ℕ → List Request → Option Request
@@ -52,16 +55,21 @@ read_guarded : (writes : List (ℕ × ℕ)) (unit : ℕ) (block : Block)
 read_guarded writes unit block tried next left try =
     (next_asked (IsCalm unit) (block_requests unit block) tried next left (block_calm unit block) try).1 writes tried
 
--- the last four of six requests that were sent are the selecting ones
-pub four_of : (unit location byte : ℕ) (l1 l2 l3 l4 l5 l6 next : Request) (left : List Request)
+-- the last three of six requests that were sent are the asking ones
+pub three_of : (unit location byte : ℕ) (l1 l2 l3 l4 l5 l6 next : Request) (left : List Request)
     → l1 ∷ l2 ∷ l3 ∷ l4 ∷ l5 ∷ l6 ∷ next ∷ left ≡ write_requests unit location byte
-    → l3 ∷ l4 ∷ l5 ∷ l6 ∷ [] ≡ select_requests unit location
-four_of unit location byte l1 l2 l3 l4 l5 l6 next left is = grind arith
+    → l4 ∷ l5 ∷ l6 ∷ [] ≡ asked_requests false unit location
+three_of unit location byte l1 l2 l3 l4 l5 l6 next left is = grind arith
 
-first_four : (unit location byte : ℕ) (l1 l2 l3 l4 next : Request) (left : List Request)
-    → l1 ∷ l2 ∷ l3 ∷ l4 ∷ next ∷ left ≡ put_requests unit location byte
-    → l1 ∷ l2 ∷ l3 ∷ l4 ∷ [] ≡ select_requests unit location
-first_four unit location byte l1 l2 l3 l4 next left is = grind arith
+first_three : (unit location byte : ℕ) (l1 l2 l3 next : Request) (left : List Request)
+    → l1 ∷ l2 ∷ l3 ∷ next ∷ left ≡ put_requests false unit location byte
+    → l1 ∷ l2 ∷ l3 ∷ [] ≡ asked_requests false unit location
+first_three unit location byte l1 l2 l3 next left is = grind arith
+
+first_two : (unit location byte : ℕ) (l1 l2 next : Request) (left : List Request)
+    → l1 ∷ l2 ∷ next ∷ left ≡ put_requests true unit location byte
+    → l1 ∷ l2 ∷ [] ≡ asked_requests true unit location
+first_two unit location byte l1 l2 next left is = grind arith
 
 -- the frames of a checked write
 write_guarded : (writes : List (ℕ × ℕ)) (unit location byte : ℕ) → Has writes location byte
@@ -74,41 +82,41 @@ write_guarded writes unit location byte has (x4 ∷ x3 ∷ x2 ∷ x1 ∷ []) nex
 write_guarded writes unit location byte has (x5 ∷ x4 ∷ x3 ∷ x2 ∷ x1 ∷ []) next left try = grind (arith, guarded_as)
 write_guarded writes unit location byte has (x6 ∷ x5 ∷ x4 ∷ x3 ∷ x2 ∷ x1 ∷ []) next left try =
     let e = try.2.2.2.2.2.2 in
-    let four : Trying (select_requests unit location) (x6 ∷ x5 ∷ x4 ∷ x3 ∷ []) [] = (
+    let three : Trying (asked_requests false unit location) (x6 ∷ x5 ∷ x4 ∷ []) [] = (
       try.0,
       try.1,
-      (
-        try.2.0,
-        try.2.1,
-        (try.2.2.0, try.2.2.1, (try.2.2.2.0, try.2.2.2.1, four_of unit location byte _ _ _ _ _ _ next left e)),
-      ),
+      (try.2.0, try.2.1, (try.2.2.0, try.2.2.1, three_of unit location byte _ _ _ _ _ _ next left e)),
     ) in
     guarded_as writes unit (x6 ∷ x5 ∷ x4 ∷ x3 ∷ x2 ∷ x1 ∷ []) next (Write byte) (Exactly byte) (ap (request_at 6) e)
-    (location, has, (x6 ∷ x5 ∷ x4 ∷ x3 ∷ [], x2 ∷ x1 ∷ [], refl, four))
+    (location, has, (x6 ∷ x5 ∷ x4 ∷ [], x3 ∷ x2 ∷ x1 ∷ [], refl, (false, three)))
 write_guarded writes unit location byte has (x7 ∷ x6 ∷ x5 ∷ x4 ∷ x3 ∷ x2 ∷ x1 ∷ rest) next left try =
     grind (arith, trying_length)
 
 -- the frames of a write at a unit that is enabled
-put_guarded : (writes : List (ℕ × ℕ)) (unit location byte : ℕ) → Has writes location byte
-    → GuardedRequests writes unit (put_requests unit location byte)
-put_guarded writes unit location byte has [] next left try = grind (arith, guarded_as)
-put_guarded writes unit location byte has (x1 ∷ []) next left try = grind (arith, guarded_as)
-put_guarded writes unit location byte has (x2 ∷ x1 ∷ []) next left try = grind (arith, guarded_as)
-put_guarded writes unit location byte has (x3 ∷ x2 ∷ x1 ∷ []) next left try = grind (arith, guarded_as)
-put_guarded writes unit location byte has (x4 ∷ x3 ∷ x2 ∷ x1 ∷ []) next left try =
-    let e = try.2.2.2.2 in
-    let four : Trying (select_requests unit location) (x4 ∷ x3 ∷ x2 ∷ x1 ∷ []) [] = (
+put_guarded : (writes : List (ℕ × ℕ)) (moved : Bool) (unit location byte : ℕ) → Has writes location byte
+    → GuardedRequests writes unit (put_requests moved unit location byte)
+put_guarded writes true unit location byte has [] next left try = grind (arith, guarded_as)
+put_guarded writes true unit location byte has (x1 ∷ []) next left try = grind (arith, guarded_as)
+put_guarded writes true unit location byte has (x2 ∷ x1 ∷ []) next left try =
+    let e = try.2.2 in
+    let two : Trying (asked_requests true unit location) (x2 ∷ x1 ∷ []) [] =
+    (try.0, try.1, (try.2.0, try.2.1, first_two unit location byte _ _ next left e)) in
+    guarded_as writes unit (x2 ∷ x1 ∷ []) next (Write byte) (Exactly byte) (ap (request_at 2) e)
+    (location, has, (x2 ∷ x1 ∷ [], [], refl, (true, two)))
+put_guarded writes true unit location byte has (x3 ∷ x2 ∷ x1 ∷ rest) next left try = grind (arith, trying_length)
+put_guarded writes false unit location byte has [] next left try = grind (arith, guarded_as)
+put_guarded writes false unit location byte has (x1 ∷ []) next left try = grind (arith, guarded_as)
+put_guarded writes false unit location byte has (x2 ∷ x1 ∷ []) next left try = grind (arith, guarded_as)
+put_guarded writes false unit location byte has (x3 ∷ x2 ∷ x1 ∷ []) next left try =
+    let e = try.2.2.2 in
+    let three : Trying (asked_requests false unit location) (x3 ∷ x2 ∷ x1 ∷ []) [] = (
       try.0,
       try.1,
-      (
-        try.2.0,
-        try.2.1,
-        (try.2.2.0, try.2.2.1, (try.2.2.2.0, try.2.2.2.1, first_four unit location byte _ _ _ _ next left e)),
-      ),
+      (try.2.0, try.2.1, (try.2.2.0, try.2.2.1, first_three unit location byte _ _ _ next left e)),
     ) in
-    guarded_as writes unit (x4 ∷ x3 ∷ x2 ∷ x1 ∷ []) next (Write byte) (Exactly byte) (ap (request_at 4) e)
-    (location, has, (x4 ∷ x3 ∷ x2 ∷ x1 ∷ [], [], refl, four))
-put_guarded writes unit location byte has (x5 ∷ x4 ∷ x3 ∷ x2 ∷ x1 ∷ rest) next left try = grind (arith, trying_length)
+    guarded_as writes unit (x3 ∷ x2 ∷ x1 ∷ []) next (Write byte) (Exactly byte) (ap (request_at 3) e)
+    (location, has, (x3 ∷ x2 ∷ x1 ∷ [], [], refl, (false, three)))
+put_guarded writes false unit location byte has (x4 ∷ x3 ∷ x2 ∷ x1 ∷ rest) next left try = grind (arith, trying_length)
 
 -- each write of the plan is one of these
 abbrev pub OnlyWrites : List (ℕ × ℕ) → Plan → Type 0
@@ -116,14 +124,14 @@ OnlyWrites writes (Finish verdict) = ⊤
 OnlyWrites writes (Make (ReadFrom location) after) = (outcome : Option (List ℕ)) → OnlyWrites writes (after outcome)
 OnlyWrites writes (Make (WriteTo location byte) after) =
     Has writes location byte × ((outcome : Option (List ℕ)) → OnlyWrites writes (after outcome))
-OnlyWrites writes (Make (WriteOn location byte) after) =
+OnlyWrites writes (Make (WriteOn before location byte) after) =
     Has writes location byte × ((outcome : Option (List ℕ)) → OnlyWrites writes (after outcome))
 
-next_writes : (writes : List (ℕ × ℕ)) (pace : Pace) (location byte : ℕ) (after : Option (List ℕ) → Plan)
+next_writes : (writes : List (ℕ × ℕ)) (pace : Pace) (before location byte : ℕ) (after : Option (List ℕ) → Plan)
     → Has writes location byte → ((outcome : Option (List ℕ)) → OnlyWrites writes (after outcome))
-    → OnlyWrites writes (Make (write_next pace location byte) after)
-next_writes writes Checked location byte after has only = (has, only)
-next_writes writes Short location byte after has only = (has, only)
+    → OnlyWrites writes (Make (write_next pace before location byte) after)
+next_writes writes Checked before location byte after has only = (has, only)
+next_writes writes Short before location byte after has only = (has, only)
 
 -- after an outcome the plan makes only these writes, too
 pub goes_on_writes : (writes : List (ℕ × ℕ)) (plan : Plan) (outcome : Option (List ℕ)) → OnlyWrites writes plan
@@ -131,7 +139,7 @@ pub goes_on_writes : (writes : List (ℕ × ℕ)) (plan : Plan) (outcome : Optio
 goes_on_writes writes (Finish verdict) outcome only = tt
 goes_on_writes writes (Make (ReadFrom location) after) outcome only = only outcome
 goes_on_writes writes (Make (WriteTo location byte) after) outcome only = only.1 outcome
-goes_on_writes writes (Make (WriteOn location byte) after) outcome only = only.1 outcome
+goes_on_writes writes (Make (WriteOn before location byte) after) outcome only = only.1 outcome
 
 -- the frames of the access at hand
 pub plan_guarded : (writes : List (ℕ × ℕ)) (unit : ℕ) (plan : Plan) → OnlyWrites writes plan
@@ -141,8 +149,9 @@ plan_guarded writes unit (Finish verdict) only misses =
 plan_guarded writes unit (Make (ReadFrom block) after) only misses = read_guarded writes unit block
 plan_guarded writes unit (Make (WriteTo location byte) after) only misses =
     write_guarded writes unit location byte only.0
-plan_guarded writes unit (Make (WriteOn location byte) after) only zero = put_guarded writes unit location byte only.0
-plan_guarded writes unit (Make (WriteOn location byte) after) only (suc misses) =
+plan_guarded writes unit (Make (WriteOn before location byte) after) only zero =
+    put_guarded writes (up before == location) unit location byte only.0
+plan_guarded writes unit (Make (WriteOn before location byte) after) only (suc misses) =
     write_guarded writes unit location byte only.0
 
 -- older exchanges take no guard away
@@ -196,40 +205,56 @@ pub close_writes : (writes : List (ℕ × ℕ)) (answered unanswered : Verdict) 
     → OnlyWrites writes (close answered unanswered)
 close_writes writes answered unanswered has = grind (arith, either_all)
 
+all_writes : (writes : List (ℕ × ℕ)) (rows : List (ℕ × List ℕ)) (after : Plan) → Has writes 2 0xFF
+    → OnlyWrites writes after → OnlyWrites writes (expect_all rows after)
+all_writes writes [] after has rest = rest
+all_writes writes (row ∷ rows) after has rest =
+    either_all (OnlyWrites writes) give_up _ (close_writes writes Doubt DoubtOpen has)
+    (λ read. if_all (OnlyWrites writes) (bytes_eq read row.1) (expect_all rows after) give_up
+    (all_writes writes rows after has rest)
+    (close_writes writes Doubt DoubtOpen has))
+
 -- a plan that reads rows back
 read_back_writes : (writes : List (ℕ × ℕ)) (rows : List (ℕ × List ℕ)) → Has writes 2 0xFF
     → OnlyWrites writes (read_back rows)
 read_back_writes writes [] has = tt
 read_back_writes writes (row ∷ rows) has =
-    either_all (OnlyWrites writes) give_up _ (close_writes writes Doubt DoubtOpen has)
-    (λ read. if_all (OnlyWrites writes) (bytes_eq read row.1) (read_back rows) give_up
-    (read_back_writes writes rows has)
-    (close_writes writes Doubt DoubtOpen has))
+    let rest = read_back_writes writes rows has in
+    let again = read_again row.0 row.1 (read_back rows) in
+    let otherwise : OnlyWrites writes again =
+    if_all (OnlyWrites writes) (nat_lt most_once (length row.1)) (expect_all (pieces_of row.0 row.1) (read_back rows))
+    give_up (all_writes writes (pieces_of row.0 row.1) (read_back rows) has rest)
+    (close_writes writes Doubt DoubtOpen has) in
+    either_all (OnlyWrites writes) again _ otherwise
+    (λ read. if_all (OnlyWrites writes) (bytes_eq read row.1) (read_back rows) again rest otherwise)
 
 -- the updates that are left are among the writes
-write_on_writes : (writes : List (ℕ × ℕ)) (pace : Pace) (updates left : List (ℕ × ℕ)) → Has writes 2 0xFF
+write_on_writes : (writes : List (ℕ × ℕ)) (pace : Pace) (updates : List (ℕ × ℕ)) (before : ℕ) (left : List (ℕ × ℕ))
+    → Has writes 2 0xFF
     → ((location byte : ℕ) → Has left location byte → Has writes location byte)
-    → OnlyWrites writes (write_on pace updates left)
-write_on_writes writes pace updates [] has among =
-    next_writes writes pace 2 0xFF _ has
+    → OnlyWrites writes (write_on pace updates before left)
+write_on_writes writes pace updates before [] has among =
+    next_writes writes pace before 2 0xFF _ has
     (either_all (OnlyWrites writes) give_up (λ bytes. read_all_back pace updates)
     (close_writes writes Doubt DoubtOpen has)
     (λ bytes. read_back_writes writes (rows_of (most_of pace) (read_backs updates)) has))
-write_on_writes writes pace updates (update ∷ left) has among =
-    next_writes writes pace update.0 update.1 _ (among update.0 update.1 (inl (refl, refl)))
-    (either_all (OnlyWrites writes) give_up (λ bytes. write_on pace updates left)
+write_on_writes writes pace updates before (update ∷ left) has among =
+    next_writes writes pace before update.0 update.1 _ (among update.0 update.1 (inl (refl, refl)))
+    (either_all (OnlyWrites writes) give_up (λ bytes. write_on pace updates update.0 left)
     (close_writes writes Doubt DoubtOpen has)
-    (λ bytes. write_on_writes writes pace updates left has (λ location b in_left. among location b (inr in_left))))
+    (λ bytes. write_on_writes writes pace updates update.0 left has
+    (λ location b in_left. among location b (inr in_left))))
 
 -- the plan of an opened session
 pub unlock_writes : (pace : Pace) (updates : List (ℕ × ℕ)) → OnlyWrites (writes_of updates) (unlock pace updates)
 unlock_writes pace updates =
     let has : Has (writes_of updates) 2 0xFF = inr (inl (refl, refl)) in (
       inl (refl, refl),
-      either_all (OnlyWrites (writes_of updates)) give_up (λ bytes. write_on pace updates updates)
+      either_all (OnlyWrites (writes_of updates)) give_up (λ bytes. write_on pace updates 2 updates)
           (close_writes (writes_of updates) Doubt DoubtOpen has)
           (λ bytes.
-          write_on_writes (writes_of updates) pace updates updates has (λ location b in_updates. inr (inr in_updates))),
+          write_on_writes (writes_of updates) pace updates 2 updates has
+          (λ location b in_updates. inr (inr in_updates))),
     )
 
 pub opened_guarded : (told : List Exchange) (unit : ℕ) (pace : Pace) (updates : List (ℕ × ℕ)) (frame : Frame)

@@ -21,7 +21,7 @@ use Rattle.dali_write.specs.declared.access.Access.{Access}
 use Rattle.dali_write.specs.declared.access.Access.TheVariants.{ReadFrom, WriteTo, WriteOn}
 use Rattle.dali_write.specs.Requests.{Meets, request, block_requests, access_requests}
 use Rattle.dali_write.specs.Tries.{Trying, Missed, Misses, Succeeds}
-use Rattle.dali_write.specs.Losses.{IsAlone}
+use Rattle.dali_write.specs.Losses.{IsAlone, StandsBehind}
 use Rattle.dali_write.proofs.OneFrameLemmas.{own_answer, alone_then}
 use Rattle.dali_write.proofs.DriftLemmas.{drifts_alone}
 use Rattle.dali_write.proofs.AskedLemmas.{Asks, block_asks}
@@ -67,17 +67,17 @@ quiet_first keep end (next ∷ requests) left unit quiet kept rest = λ lost ref
 abbrev pub Keeps : (BankState → Type 0) → Access → Type 0
 Keeps keep (ReadFrom block) = ⊤
 Keeps keep (WriteTo location byte) = (bank : BankState) → keep bank → keep (with_byte bank location byte)
-Keeps keep (WriteOn location byte) = (bank : BankState) → keep bank → keep (with_byte bank location byte)
+Keeps keep (WriteOn before location byte) = (bank : BankState) → keep bank → keep (with_byte bank location byte)
 
--- the byte stands in bank 1, and the unit is enabled
+-- the byte stands in bank 1, and the unit is as the write leaves it
 abbrev pub HasPut : ℕ → ℕ → UnitState → Type 0
-HasPut location byte unit = (slice_get unit.bank1.bytes location ≡ Some byte) × (unit.enabled ≡ true)
+HasPut location byte unit = (slice_get unit.bank1.bytes location ≡ Some byte) × StandsBehind location unit
 
 -- what the unit has after the access: its byte, where it wrote one
 abbrev pub Ends : Access → UnitState → Type 0
 Ends (ReadFrom block) unit = ⊤
 Ends (WriteTo location byte) unit = HasPut location byte unit
-Ends (WriteOn location byte) unit = HasPut location byte unit
+Ends (WriteOn before location byte) unit = HasPut location byte unit
 
 -- a byte that was set
 get_set : (xs : List ℕ) (i x : ℕ) → i < length xs → slice_get (slice_set xs i x) i ≡ Some x
@@ -107,7 +107,8 @@ told_if false told byte e = cc
 has_written : (location byte : ℕ) (refuses : Bool) (unit : UnitState) → unit.dtr1 ≡ 1 → unit.dtr0 ≡ location
     → stores refuses unit ≡ true
     → HasPut location byte (after_write refuses unit byte)
-has_written location byte refuses unit bank here done = (grind (arith, get_set, ltb-true), grind (arith, and_parts))
+has_written location byte refuses unit bank here done =
+    (grind (arith, get_set, ltb-true), (grind (arith, and_parts), grind (arith, and_parts), grind (arith, and_parts)))
 
 -- the requests of a checked write, from the last one back
 safe_write : (keep : BankState → Type 0) (location byte : ℕ) → Keeps keep (WriteTo location byte)
@@ -157,30 +158,43 @@ safe_ask1 keep at location byte stored unit kept false refuses answer back = (
       (told_if (at == unit.address) unit.dtr1 1 (back 1 meets)).1 kept,
 )
 
-safe_put : (keep : BankState → Type 0) (at location byte : ℕ) (unit : UnitState)
-    → Keeps keep (WriteTo location byte) → keep unit.bank1
-    → Safe keep (HasPut location byte) (put_requests at location byte) unit
-safe_put keep at location byte unit keeps kept =
-    quiet_first keep (HasPut location byte) (request (Dtr1 1) Nothing ∷ [])
-    (request (AskDtr1 at) (Exactly 1) ∷ request (Dtr0 location) Nothing ∷ request (AskDtr0 at) (Exactly location)
+-- the same where DTR0 isn't set
+safe_moved : (keep : BankState → Type 0) (at location byte : ℕ) → Keeps keep (WriteTo location byte)
+    → (unit : UnitState) → keep unit.bank1
+    → Safe keep (HasPut location byte)
+    (request (AskDtr1 at) (Exactly 1) ∷ request (AskDtr0 at) (Exactly location)
     ∷ request (Write byte) (Exactly byte) ∷ [])
-    unit (tt, tt) kept (safe_ask1 keep at location byte keeps)
+    unit
+safe_moved keep at location byte stored unit kept true refuses answer back = grind arith
+safe_moved keep at location byte stored unit kept false refuses answer back = (
+  kept,
+  λ meets. safe_ask0 keep at location byte stored (record unit { half_pair = false })
+      (told_if (at == unit.address) unit.dtr1 1 (back 1 meets)).1 kept,
+)
+
+safe_put : (keep : BankState → Type 0) (moved : Bool) (at location byte : ℕ) (unit : UnitState)
+    → Keeps keep (WriteTo location byte) → keep unit.bank1
+    → Safe keep (HasPut location byte) (put_requests moved at location byte) unit
+safe_put keep true at location byte unit keeps kept = safe_moved keep at location byte keeps unit kept
+safe_put keep false at location byte unit keeps kept = safe_ask1 keep at location byte keeps unit kept
 
 safe_full : (keep : BankState → Type 0) (at location byte : ℕ) (unit : UnitState)
     → Keeps keep (WriteTo location byte) → keep unit.bank1
     → Safe keep (HasPut location byte) (write_requests at location byte) unit
 safe_full keep at location byte unit keeps kept =
-    quiet_first keep (HasPut location byte) (request (Enable at) Nothing ∷ request (Enable at) Nothing ∷ [])
-    (put_requests at location byte) unit (tt, (tt, tt)) kept
-    (λ new still. safe_put keep at location byte new keeps still)
+    quiet_first keep (HasPut location byte)
+    (request (Enable at) Nothing ∷ request (Enable at) Nothing ∷ request (Dtr1 1) Nothing ∷ [])
+    (put_requests false at location byte) unit (tt, (tt, (tt, tt))) kept
+    (λ new still. safe_put keep false at location byte new keeps still)
 
 safe_access : (keep : BankState → Type 0) (at : ℕ) (access : Access) (misses : ℕ) (unit : UnitState)
     → Keeps keep access → keep unit.bank1 → Safe keep (Ends access) (access_requests at access misses) unit
 safe_access keep at (ReadFrom block) misses unit keeps kept =
     grind (arith, append-nil (block_requests at block), quiet_first, block_asks IsQuiet)
 safe_access keep at (WriteTo location byte) misses unit keeps kept = safe_full keep at location byte unit keeps kept
-safe_access keep at (WriteOn location byte) zero unit keeps kept = safe_put keep at location byte unit keeps kept
-safe_access keep at (WriteOn location byte) (suc misses) unit keeps kept =
+safe_access keep at (WriteOn before location byte) zero unit keeps kept =
+    safe_put keep (up before == location) at location byte unit keeps kept
+safe_access keep at (WriteOn before location byte) (suc misses) unit keeps kept =
     safe_full keep at location byte unit keeps kept
 
 -- the unit after a part of a try

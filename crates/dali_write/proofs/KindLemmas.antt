@@ -19,6 +19,8 @@ use Rattle.dali_write.specs.declared.pace.Pace.{Pace}
 use Rattle.dali_write.specs.declared.pace.Pace.TheVariants.{Checked, Short as ShortPace}
 use Rattle.dali_write.specs.Plans.{rows_of, most_of, read_backs, read_all_back}
 use Rattle.std.specs.Str.{bytes_eq}
+use Rattle.std.proofs.Common.{length}
+use Rattle.dali_write.specs.Plans.{most_once, pieces_of, expect_all, read_again}
 
 -- wherever the plan ends, it ends so
 abbrev EndsSo : (Verdict → Type 0) → Plan → Type 0
@@ -54,27 +56,41 @@ close_ends : (P : Verdict → Type 0) (answered unanswered : Verdict) → P answ
 close_ends P answered unanswered a u =
     λ outcome. either_all (EndsSo P) (Finish unanswered) (λ byte. Finish answered) u (λ byte. a)
 
+all_ends : (rows : List (ℕ × List ℕ)) (after : Plan) → EndsSo EndsOpened after
+    → EndsSo EndsOpened (expect_all rows after)
+all_ends [] after rest = rest
+all_ends (row ∷ rows) after rest =
+    let gives = close_ends EndsOpened Doubt DoubtOpen tt tt in
+    either_all (EndsSo EndsOpened) give_up _ gives
+    (λ read. if_all (EndsSo EndsOpened) (bytes_eq read row.1) (expect_all rows after) give_up (all_ends rows after rest)
+    gives)
+
 read_back_ends : (rows : List (ℕ × List ℕ)) → EndsSo EndsOpened (read_back rows)
 read_back_ends [] = tt
 read_back_ends (row ∷ rows) =
-    let gives = close_ends EndsOpened Doubt DoubtOpen tt tt in
-    either_all (EndsSo EndsOpened) give_up _ gives
-    (λ read. if_all (EndsSo EndsOpened) (bytes_eq read row.1) (read_back rows) give_up (read_back_ends rows) gives)
+    let rest = read_back_ends rows in
+    let again = read_again row.0 row.1 (read_back rows) in
+    let otherwise : EndsSo EndsOpened again =
+    if_all (EndsSo EndsOpened) (nat_lt most_once (length row.1)) (expect_all (pieces_of row.0 row.1) (read_back rows))
+    give_up (all_ends (pieces_of row.0 row.1) (read_back rows) rest) (close_ends EndsOpened Doubt DoubtOpen tt tt) in
+    either_all (EndsSo EndsOpened) again _ otherwise
+    (λ read. if_all (EndsSo EndsOpened) (bytes_eq read row.1) (read_back rows) again rest otherwise)
 
-write_on_ends : (pace : Pace) (updates left : List (ℕ × ℕ)) → EndsSo EndsOpened (write_on pace updates left)
-write_on_ends pace updates [] =
+write_on_ends : (pace : Pace) (updates : List (ℕ × ℕ)) (before : ℕ) (left : List (ℕ × ℕ))
+    → EndsSo EndsOpened (write_on pace updates before left)
+write_on_ends pace updates before [] =
     either_all (EndsSo EndsOpened) give_up (λ bytes. read_all_back pace updates)
     (close_ends EndsOpened Doubt DoubtOpen tt tt)
     (λ bytes. read_back_ends (rows_of (most_of pace) (read_backs updates)))
-write_on_ends pace updates (update ∷ left) =
-    either_all (EndsSo EndsOpened) give_up (λ bytes. write_on pace updates left)
+write_on_ends pace updates before (update ∷ left) =
+    either_all (EndsSo EndsOpened) give_up (λ bytes. write_on pace updates update.0 left)
     (close_ends EndsOpened Doubt DoubtOpen tt tt)
-    (λ bytes. write_on_ends pace updates left)
+    (λ bytes. write_on_ends pace updates update.0 left)
 
 unlock_ends : (pace : Pace) (updates : List (ℕ × ℕ)) → EndsSo EndsOpened (unlock pace updates)
 unlock_ends pace updates =
-    either_all (EndsSo EndsOpened) give_up (λ bytes. write_on pace updates updates)
-    (close_ends EndsOpened Doubt DoubtOpen tt tt) (λ bytes. write_on_ends pace updates updates)
+    either_all (EndsSo EndsOpened) give_up (λ bytes. write_on pace updates 2 updates)
+    (close_ends EndsOpened Doubt DoubtOpen tt tt) (λ bytes. write_on_ends pace updates 2 updates)
 
 judged : (suits : Bool) → EndsFresh (if suits then MayOpen else Format)
 judged true = tt

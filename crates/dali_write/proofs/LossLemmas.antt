@@ -1,10 +1,10 @@
 -- A try without a loss comes to its end.
 use Rattle.std.proofs.Common.{◌≡◌, refl, sym, ap, subst, ◌∙◌, ℕ, zero, suc, ◌+◌, ◌≤◌, Bool, true, false, List, [], ◌∷◌, ◌++◌}
 use Rattle.std.proofs.Common.{Option, Some, None, IsTrue, arith}
-use Rattle.std.specs.Prelude.{if◌then◌else◌, ⊤}
-use Rattle.std.proofs.lemmas.Bool.{eq-eqb}
+use Rattle.std.specs.Prelude.{◌==◌, if◌then◌else◌, ⊤}
+use Rattle.std.proofs.lemmas.Bool.{eq-eqb, eqb-true}
 use Rattle.std.proofs.Math.Nat.{pos_of_ne-zero}
-use Rattle.dali_frame.specs.declared.forward.Frame.TheVariants.{Enable, AskDtr0, AskDtr1, Read}
+use Rattle.dali_frame.specs.declared.forward.Frame.TheVariants.{Dtr1, Enable, AskDtr0, AskDtr1, Read}
 use Rattle.dali_bus.specs.Hears.{up}
 use Rattle.dali_write.specs.Exchanges.{Exchange}
 use Rattle.dali_gear.specs.UnitState.{UnitState, after_frame, after_enable, answer_to, is_writable}
@@ -18,7 +18,7 @@ use Rattle.dali_write.specs.declared.block.Block.{Block}
 use Rattle.dali_write.specs.Requests.{Meets, request, moved_on, reads, block_requests, write_requests}
 use Rattle.dali_write.specs.Requests.{access_requests}
 use Rattle.dali_write.specs.Tries.{Trying, Missed}
-use Rattle.dali_write.specs.Losses.{is_loss, IsAlone, HasFrom, CanDo}
+use Rattle.dali_write.specs.Losses.{is_loss, IsAlone, HasFrom, StandsBehind, CanDo}
 use Rattle.dali_write.proofs.OneFrameLemmas.{IsFor, heard_whole, address_of}
 use Rattle.dali_write.proofs.AskedLemmas.{Asks, block_asks}
 use Rattle.dali_write.proofs.PlaceLemmas.{moved_next}
@@ -36,9 +36,13 @@ Suits (next ∷ left) unit =
 abbrev pub AllFor : ℕ → List Request → Type 0
 AllFor at requests = Asks (IsFor at) requests
 
+put_for : (at : ℕ) (moved : Bool) (location byte : ℕ) → AllFor at (put_requests moved at location byte)
+put_for at true location byte = (refl, (refl, (tt, tt)))
+put_for at false location byte = (refl, (tt, (refl, (tt, tt))))
+
 pub all_for : (at : ℕ) (access : Access) (misses : ℕ) → AllFor at (access_requests at access misses)
-all_for at (WriteOn location byte) zero = (tt, (refl, (tt, (refl, (tt, tt)))))
-all_for at (WriteOn location byte) (suc misses) = (refl, (refl, (tt, (refl, (tt, (refl, (tt, tt)))))))
+all_for at (WriteOn before location byte) zero = put_for at (up before == location) location byte
+all_for at (WriteOn before location byte) (suc misses) = (refl, (refl, (tt, (refl, (tt, (refl, (tt, tt)))))))
 all_for at (ReadFrom block) misses = block_asks (IsFor at) at block tt refl tt refl refl
 all_for at (WriteTo location byte) misses = (refl, (refl, (tt, (refl, (tt, (refl, (tt, tt)))))))
 
@@ -70,11 +74,20 @@ suits_read : (at : ℕ) (block : Block) (unit : UnitState) → unit.address ≡ 
     → Suits (block_requests at block) unit
 suits_read at block unit is some = grind (arith, eq-eqb, suits_reading, suits_asking)
 
--- where it is enabled
-suits_enabled : (at location byte : ℕ) (unit : UnitState) → unit.address ≡ at → unit.enabled ≡ true
+-- where it is enabled and has bank 1 selected
+suits_enabled : (at : ℕ) (moved : Bool) (location byte : ℕ) (unit : UnitState) → unit.address ≡ at
+    → unit.enabled ≡ true → unit.dtr1 ≡ 1 → (moved ≡ true → unit.dtr0 ≡ location)
     → IsTrue (is_writable unit.bank1 location)
-    → Suits (put_requests at location byte) unit
-suits_enabled at location byte unit is on can = grind (arith, eq-eqb)
+    → Suits (put_requests moved at location byte) unit
+suits_enabled at true location byte unit is on bank place can =
+    let here : unit.dtr0 ≡ location = place refl in grind (arith, eq-eqb)
+suits_enabled at false location byte unit is on bank place can = grind (arith, eq-eqb)
+
+-- where it is enabled
+suits_selecting : (at location byte : ℕ) (unit : UnitState) → unit.address ≡ at → unit.enabled ≡ true
+    → IsTrue (is_writable unit.bank1 location)
+    → Suits (request (Dtr1 1) Nothing ∷ put_requests false at location byte) unit
+suits_selecting at location byte unit is on can = grind (arith, eq-eqb)
 
 one_enable : (at : ℕ) (unit : UnitState) → unit.address ≡ at → after_frame false unit (Enable at) ≡ after_enable unit
 one_enable at unit is = rw (eq-eqb at unit.address (sym is)) refl
@@ -93,27 +106,37 @@ enabled_by_two at unit is = grind (arith, one_enable, enable_pair, enable_half)
 
 suits_write : (at location byte : ℕ) (unit : UnitState) → unit.address ≡ at → IsTrue (is_writable unit.bank1 location)
     → Suits (write_requests at location byte) unit
-suits_write at location byte unit is can = search (arith, enabled_by_two, suits_enabled)
+suits_write at location byte unit is can = (
+  tt,
+  (
+    tt,
+    subst (λ (u : UnitState). Suits (request (Dtr1 1) Nothing ∷ put_requests false at location byte) u)
+        (sym (enabled_by_two at unit is))
+        (suits_selecting at location byte (record unit { enabled = true }) is refl can),
+  ),
+)
 
 -- the unit can do a try of the access behind so many misses: behind one, a write enables it
 abbrev pub CanTry : Access → ℕ → UnitState → Type 0
 CanTry (ReadFrom block) misses unit = HasFrom unit.bank1 block.location block.count
 CanTry (WriteTo location byte) misses unit = IsTrue (is_writable unit.bank1 location)
-CanTry (WriteOn location byte) zero unit = IsTrue (is_writable unit.bank1 location) × (unit.enabled ≡ true)
-CanTry (WriteOn location byte) (suc misses) unit = IsTrue (is_writable unit.bank1 location)
+CanTry (WriteOn before location byte) zero unit = IsTrue (is_writable unit.bank1 location) × StandsBehind before unit
+CanTry (WriteOn before location byte) (suc misses) unit = IsTrue (is_writable unit.bank1 location)
 
 pub can_try : (access : Access) (misses : ℕ) (unit : UnitState) → CanDo access unit → CanTry access misses unit
 can_try (ReadFrom block) misses unit can = can
 can_try (WriteTo location byte) misses unit can = can
-can_try (WriteOn location byte) zero unit can = can
-can_try (WriteOn location byte) (suc misses) unit can = can.0
+can_try (WriteOn before location byte) zero unit can = can
+can_try (WriteOn before location byte) (suc misses) unit can = can.0
 
 pub suits_access : (at : ℕ) (access : Access) (misses : ℕ) (unit : UnitState) → unit.address ≡ at
     → CanTry access misses unit → Suits (access_requests at access misses) unit
 suits_access at (ReadFrom block) misses unit is can = suits_read at block unit is can
 suits_access at (WriteTo location byte) misses unit is can = suits_write at location byte unit is can
-suits_access at (WriteOn location byte) zero unit is can = suits_enabled at location byte unit is can.1 can.0
-suits_access at (WriteOn location byte) (suc misses) unit is can = suits_write at location byte unit is can
+suits_access at (WriteOn before location byte) zero unit is can =
+    suits_enabled at (up before == location) location byte unit is can.1.0 can.1.1
+    (λ moved. can.1.2 ∙ eqb-true (up before) location moved) can.0
+suits_access at (WriteOn before location byte) (suc misses) unit is can = suits_write at location byte unit is can
 
 meets_own : (wish : Wish) (own answer : Option ℕ) → Meets wish own → ((byte : ℕ) → own ≡ Some byte → answer ≡ Some byte)
     → Meets wish answer

@@ -176,15 +176,15 @@ sends_first unit (WriteTo location byte) after = (
     ask_is = refl;
   },
 )
-sends_first unit (WriteOn location byte) after = (
+sends_first unit (WriteOn before location byte) after = (
   _,
   record {
     outcomes = [];
-    now = Make (WriteOn location byte) after;
+    now = Make (WriteOn before location byte) after;
     misses = 0;
-    left = access_requests unit (WriteOn location byte) 0;
+    left = access_requests unit (WriteOn before location byte) 0;
     bytes = [];
-    stands = stands_at_first unit (Make (WriteOn location byte) after);
+    stands = stands_at_first unit (Make (WriteOn before location byte) after);
     ask_is = refl;
   },
 )

@@ -1,6 +1,6 @@
 -- Along the simulated bus an opened session that loses little is done.
 use Rattle.std.proofs.Common.{◌≡◌, ◌⊎◌, inl, inr, refl, sym, ap, subst, ◌∙◌, ℕ, zero, suc, ◌≤◌, ◌<◌, Bool}
-use Rattle.std.proofs.Common.{true, false, ◌==◌, List, [], ◌∷◌, length, Some}
+use Rattle.std.proofs.Common.{true, false, ◌==◌, List, [], ◌∷◌, length, Option, Some, None}
 use Rattle.std.proofs.Common.{arith}
 use Rattle.std.specs.Prelude.{slice_get, ⊤}
 use Rattle.std.proofs.lemmas.Bool.{ne_eqb, eqb-true, eqb-false, lt-ltb, le-leb}
@@ -8,6 +8,7 @@ use Rattle.std.proofs.lemmas.Option.{get_or_from_slice_get}
 use Rattle.dali_bank.specs.Order.{RisesAbove}
 use Rattle.dali_write.proofs.RisingLemmas.{one_byte}
 use Rattle.dali_write.proofs.RowLemmas.{rows_hold}
+use Rattle.dali_write.proofs.TurnLemmas.{unlock_turn}
 use Rattle.dali_write.proofs.SuccessLemmas.{Goes, lock_writable, read_goes, spared_bank, succeeds}
 use Rattle.dali_gear.specs.UnitState.{BankState, UnitState, is_writable}
 use Rattle.dali_gear.specs.SimState.{SimState}
@@ -32,7 +33,7 @@ use Rattle.std.proofs.lemmas.Slice.Eq.{bytes_eq-Decides}
 use Rattle.dali_bus.specs.Hears.{up}
 use Rattle.dali_write.specs.Plans.{either_way}
 use Rattle.dali_write.specs.Requests.{block}
-use Rattle.dali_write.specs.Plans.{give_up}
+use Rattle.dali_write.specs.Plans.{give_up, read_again}
 
 takes_of : (bank : BankState) (updates : List (ℕ × ℕ)) (location byte : ℕ) → TakesAll bank updates
     → Has updates location byte → MayStoreAt bank location
@@ -120,31 +121,34 @@ row_there bank location (byte ∷ bytes) holds zero below = rw holds.0 refl
 row_there bank location (byte ∷ bytes) holds (suc index) below =
     rw (← moved_next location index) (row_there bank (up location) bytes holds.1 index (omega arith))
 
-read_back_goes : (rows : List (ℕ × List ℕ)) (bank : BankState) (on : Bool) → HoldsRows bank rows
-    → Goes (λ now. ⊤) Done (read_back rows) bank on
-read_back_goes [] bank on holds = (refl, tt)
-read_back_goes (row ∷ rows) bank on holds =
-    read_goes (λ now. ⊤) Done (block row.0 (length row.1)) give_up _ bank on
+read_back_goes : (rows : List (ℕ × List ℕ)) (bank : BankState) (last : Option ℕ) → HoldsRows bank rows
+    → Goes (λ now. ⊤) Done (read_back rows) bank last
+read_back_goes [] bank last holds = (refl, tt)
+read_back_goes (row ∷ rows) bank last holds =
+    read_goes (λ now. ⊤) Done (block row.0 (length row.1)) (read_again row.0 row.1 (read_back rows)) _ bank last
     (row_there bank row.0 row.1 holds.0)
     (λ read has.
     rw ((bytes_eq-Decides read row.1).1 (row_held bank row.0 row.1 read holds.0 has.0 has.1))
-    (read_back_goes rows bank false holds.1))
+    (read_back_goes rows bank None holds.1))
 
--- a write where it may store, at a unit that is enabled
-write_goes : (pace : Pace) (location byte : ℕ) (after : Plan) (bank : BankState) → is_writable bank location ≡ true
+-- a write where it may store, just behind another one
+write_goes : (pace : Pace) (before location byte : ℕ) (after : Plan) (bank : BankState)
+    → is_writable bank location ≡ true
     → ((new : BankState) → OnlyDiffers bank location new → slice_get new.bytes location ≡ Some byte
-    → Goes (λ now. ⊤) Done after new true)
-    → Goes (λ now. ⊤) Done (Make (write_next pace location byte) (either_way give_up (λ bytes. after))) bank true
-write_goes Checked location byte after bank may rest = (may, λ new echo written. rest new written.0 written.1)
-write_goes ShortPace location byte after bank may rest =
+    → Goes (λ now. ⊤) Done after new (Some location))
+    → Goes (λ now. ⊤) Done (Make (write_next pace before location byte) (either_way give_up (λ bytes. after))) bank
+    (Some before)
+write_goes Checked before location byte after bank may rest = (may, λ new echo written. rest new written.0 written.1)
+write_goes ShortPace before location byte after bank may rest =
     ((may, refl), λ new echo written. rest new written.0 written.1)
 
-write_on_goes : (pace : Pace) (updates left : List (ℕ × ℕ)) (bank : BankState) → RisesAbove 0 updates
+write_on_goes : (pace : Pace) (updates : List (ℕ × ℕ)) (before : ℕ) (left : List (ℕ × ℕ)) (bank : BankState)
+    → RisesAbove 0 updates
     → Going updates left bank
-    → Goes (λ now. ⊤) Done (write_on pace updates left) bank true
-write_on_goes pace updates [] bank rises going =
-    write_goes pace 2 0xFF (read_all_back pace updates) bank (lock_writable bank going.long)
-    (λ new only stored. read_back_goes (rows_of (most_of pace) (read_backs updates)) new true
+    → Goes (λ now. ⊤) Done (write_on pace updates before left) bank (Some before)
+write_on_goes pace updates before [] bank rises going =
+    write_goes pace before 2 0xFF (read_all_back pace updates) bank (lock_writable bank going.long)
+    (λ new only stored. read_back_goes (rows_of (most_of pace) (read_backs updates)) new (Some 2)
     (rows_hold (λ location byte. slice_get new.bytes location ≡ Some byte) (most_of pace) (read_backs updates)
     (locked new only stored)))
   where
@@ -157,19 +161,20 @@ write_on_goes pace updates [] bank rises going =
           let past = (going.takes location byte has).0 in
           only.others location (λ same. absurd (omega arith)) ∙ was
     ]
-write_on_goes pace updates (update ∷ left) bank rises going =
-    write_goes pace update.0 update.1 (write_on pace updates left) bank
+write_on_goes pace updates before (update ∷ left) bank rises going =
+    write_goes pace before update.0 update.1 (write_on pace updates update.0 left) bank
     (one_writable bank update.0 going.lock
     (going.takes update.0 update.1 (going.part update.0 update.1 (inl (refl, refl)))))
     (λ new only stored.
-    write_on_goes pace updates left new rises (written_on updates left update bank new rises going only stored))
+    write_on_goes pace updates update.0 left new rises (written_on updates left update bank new rises going only
+    stored))
 
 pub unlock_goes : (pace : Pace) (updates : List (ℕ × ℕ)) (bank : BankState) → RisesAbove 0 updates
-    → 2 < length bank.bytes → TakesAll bank updates → Goes (λ now. ⊤) Done (unlock pace updates) bank false
+    → 2 < length bank.bytes → TakesAll bank updates → Goes (λ now. ⊤) Done (unlock pace updates) bank None
 unlock_goes pace updates bank rises long takes = (
   lock_writable bank long,
   λ new echo written.
-      write_on_goes pace updates updates new rises (record {
+      write_on_goes pace updates 2 updates new rises (record {
         lock = written.1;
         long = rw written.0.lengths long;
         takes = λ location byte has. takes_still bank 2 new location written.0 (takes_of bank updates location byte
@@ -187,4 +192,4 @@ pub opened_succeeds : (loses : ℕ → Type 0) (at : ℕ) (unit : UnitState) (pa
 opened_succeeds loses at unit pace updates verdict told first last spared rises takes wants =
     let least = (spared_bank loses at unit _ _ verdict told first last spared wants).least in
     succeeds loses (λ now. ⊤) Done verdict at (unlock pace updates) unit told first last spared
-    (unlock_goes pace updates unit.bank1 rises (omega arith) takes) wants
+    (unlock_goes pace updates unit.bank1 rises (omega arith) takes) (unlock_turn pace updates) wants

@@ -1,10 +1,10 @@
 -- A read behind which a session gives up has told another byte than has to be there, since the updates rise: each
 -- location has one byte.
-use Rattle.std.proofs.Common.{◌≡◌, ◌≢◌, ◌∙◌, inl, inr, refl, ap, subst, ℕ, zero, suc, Bool, true, false, ◌==◌}
+use Rattle.std.proofs.Common.{◌≡◌, ◌≢◌, ◌∙◌, ◌≤◌, inl, inr, refl, ap, subst, ℕ, zero, suc, Bool, true, false, ◌==◌}
 use Rattle.std.proofs.Common.{nat_lt, if◌then◌else◌, List, [], ◌∷◌, length, Option, Some, None, arith}
 use Rattle.std.specs.Prelude.{slice_get, ⊤, get_or, min}
 use Rattle.std.specs.Str.{bytes_eq}
-use Rattle.std.proofs.lemmas.Bool.{eqb-true, eqb-false}
+use Rattle.std.proofs.lemmas.Bool.{eqb-true, eqb-false, ltb-false}
 use Rattle.dali_bank.specs.Order.{RisesAbove}
 use Rattle.dali_bus.specs.Hears.{up}
 use Rattle.dali_write.specs.declared.access.Access.{Access}
@@ -29,7 +29,9 @@ use Rattle.dali_write.specs.Touches.{Has}
 use Rattle.dali_write.proofs.PlaceLemmas.{moved_next}
 use Rattle.dali_write.proofs.PlanLemmas.{if_all}
 use Rattle.dali_write.proofs.RisingLemmas.{has_above}
-use Rattle.dali_write.proofs.RowLemmas.{AllInRow, AllInRows, rows_hold}
+use Rattle.dali_write.proofs.RowLemmas.{AllInRow, AllInRows, Small, rows_hold, pieces_small}
+use Rattle.dali_write.specs.Plans.{most_once, pieces_of, expect_all, read_again}
+use Rattle.dali_write.proofs.RowLemmas.{row_pieces}
 
 -- ---- what has to be there
 
@@ -129,7 +131,8 @@ EachBeforeWrite P (Make access after) =
 
 -- what is told behind such a read
 abbrev pub TellsOther : List (ℕ × ℕ) → Block → List ℕ → Type 0
-TellsOther updates block bytes = length bytes ≡ block.count → Tells (read_backs updates) block bytes
+TellsOther updates block bytes =
+    (block.count ≤ most_once) × (length bytes ≡ block.count → Tells (read_backs updates) block bytes)
 
 next_each : (P : Block → List ℕ → Type 0) (plan : Plan) (outcome : Option (List ℕ)) → EachBeforeWrite P plan
     → EachBeforeWrite P (next_plan plan outcome)
@@ -150,13 +153,13 @@ read_each P location count failed found one two None = (tt, one)
 read_each P location count failed found one two (Some bytes) =
     (λ writes. let reads = (two bytes).0 in cc, (two bytes).1)
 
-write_each : (P : Block → List ℕ → Type 0) (pace : Pace) (location byte : ℕ) (after : Plan)
+write_each : (P : Block → List ℕ → Type 0) (pace : Pace) (before location byte : ℕ) (after : Plan)
     → EachBeforeWrite P give_up → EachBeforeWrite P after
-    → EachBeforeWrite P (Make (write_next pace location byte) (either_way give_up (λ bytes. after)))
-write_each P Checked location byte after one two None = (tt, one)
-write_each P Checked location byte after one two (Some bytes) = (tt, two)
-write_each P Short location byte after one two None = (tt, one)
-write_each P Short location byte after one two (Some bytes) = (tt, two)
+    → EachBeforeWrite P (Make (write_next pace before location byte) (either_way give_up (λ bytes. after)))
+write_each P Checked before location byte after one two None = (tt, one)
+write_each P Checked before location byte after one two (Some bytes) = (tt, two)
+write_each P Short before location byte after one two None = (tt, one)
+write_each P Short before location byte after one two (Some bytes) = (tt, two)
 
 close_each : (P : Block → List ℕ → Type 0) (answered unanswered : Verdict)
     → EachBeforeWrite P (close answered unanswered)
@@ -171,39 +174,72 @@ back_reads : (rows : List (ℕ × List ℕ)) → is_write (read_back rows) ≡ f
 back_reads [] = refl
 back_reads (row ∷ rows) = refl
 
-expect_each : (updates : List (ℕ × ℕ)) (row : ℕ × List ℕ) (rows : List (ℕ × List ℕ)) → RisesAbove 2 updates
-    → AllInRow (Has (read_backs updates)) row.0 row.1 → EachBeforeWrite (TellsOther updates) (read_back rows)
-    → EachBeforeWrite (TellsOther updates) (expect row.0 row.1 (read_back rows))
-expect_each updates row rows rises all rest None = (tt, close_each (TellsOther updates) Doubt DoubtOpen)
-expect_each updates row rows rises all rest (Some read) = by (bytes_eq read row.1) refl
+expect_each : (updates : List (ℕ × ℕ)) (failed : Plan) (row : ℕ × List ℕ) (after : Plan) → RisesAbove 2 updates
+    → AllInRow (Has (read_backs updates)) row.0 row.1 → (is_write failed ≡ true → length row.1 ≤ most_once)
+    → is_write after ≡ false
+    → EachBeforeWrite (TellsOther updates) failed → EachBeforeWrite (TellsOther updates) after
+    → EachBeforeWrite (TellsOther updates) (expect failed row.0 row.1 after)
+expect_each updates failed row after rises all few reads again rest None = (tt, again)
+expect_each updates failed row after rises all few reads again rest (Some read) = by (bytes_eq read row.1) refl
   where
     by : (b : Bool) → bytes_eq read row.1 ≡ b
-        → (is_write (if b then read_back rows else give_up) ≡ true
+        → (is_write (if b then after else failed) ≡ true
         → TellsOther updates (block row.0 (length row.1)) read)
-        × EachBeforeWrite (TellsOther updates) (if b then read_back rows else give_up)
-    by true same = (λ writes. let reads = back_reads rows in cc, rest)
+        × EachBeforeWrite (TellsOther updates) (if b then after else failed)
+    by true same = (λ writes. cc, rest)
     by false differs = (
-      λ writes long.
-          tells_other 1 (read_backs updates) row.0 (length row.1) row.1 read (omega arith, rises) all long differs,
-      close_each (TellsOther updates) Doubt DoubtOpen,
+      λ writes. (
+        few writes,
+        λ long.
+            tells_other 1 (read_backs updates) row.0 (length row.1) row.1 read (omega arith, rises) all long differs,
+      ),
+      again,
     )
+
+all_reads : (rows : List (ℕ × List ℕ)) (after : Plan) → is_write after ≡ false
+    → is_write (expect_all rows after) ≡ false
+all_reads [] after reads = reads
+all_reads (row ∷ rows) after reads = refl
+
+all_each : (updates : List (ℕ × ℕ)) (rows : List (ℕ × List ℕ)) (after : Plan) → RisesAbove 2 updates → Small 2 rows
+    → AllInRows (Has (read_backs updates)) rows → is_write after ≡ false → EachBeforeWrite (TellsOther updates) after
+    → EachBeforeWrite (TellsOther updates) (expect_all rows after)
+all_each updates [] after rises small all reads rest = rest
+all_each updates (row ∷ rows) after rises small all reads rest =
+    expect_each updates give_up row (expect_all rows after) rises all.0 (λ writes. omega (arith, small.0))
+    (all_reads rows after reads) (close_each (TellsOther updates) Doubt DoubtOpen)
+    (all_each updates rows after rises small.1 all.1 reads rest)
+
+-- a row that is given up isn't one that is read again
+few_given : (row : ℕ × List ℕ) (after : Plan) (again : Bool) → nat_lt most_once (length row.1) ≡ again
+    → is_write after ≡ false
+    → is_write (if again then expect_all (pieces_of row.0 row.1) after else give_up) ≡ true → length row.1 ≤ most_once
+few_given row after true is reads writes = let no = all_reads (pieces_of row.0 row.1) after reads in cc
+few_given row after false is reads writes = ltb-false most_once (length row.1) is
 
 back_each : (updates : List (ℕ × ℕ)) (rows : List (ℕ × List ℕ)) → RisesAbove 2 updates
     → AllInRows (Has (read_backs updates)) rows → EachBeforeWrite (TellsOther updates) (read_back rows)
 back_each updates [] rises all = tt
 back_each updates (row ∷ rows) rises all =
-    expect_each updates row rows rises all.0 (back_each updates rows rises all.1)
+    let rest = back_each updates rows rises all.1 in
+    expect_each updates (read_again row.0 row.1 (read_back rows)) row (read_back rows) rises all.0
+    (few_given row (read_back rows) (nat_lt most_once (length row.1)) refl (back_reads rows)) (back_reads rows)
+    (if_all (EachBeforeWrite (TellsOther updates)) (nat_lt most_once (length row.1))
+    (expect_all (pieces_of row.0 row.1) (read_back rows)) give_up
+    (all_each updates (pieces_of row.0 row.1) (read_back rows) rises (pieces_small row.0 row.1)
+    (row_pieces (Has (read_backs updates)) row.0 row.1 all.0) (back_reads rows) rest)
+    (close_each (TellsOther updates) Doubt DoubtOpen)) rest
 
-on_each : (pace : Pace) (updates left : List (ℕ × ℕ)) → RisesAbove 2 updates
-    → EachBeforeWrite (TellsOther updates) (write_on pace updates left)
-on_each pace updates [] rises =
-    write_each (TellsOther updates) pace 2 0xFF (read_all_back pace updates)
+on_each : (pace : Pace) (updates : List (ℕ × ℕ)) (before : ℕ) (left : List (ℕ × ℕ)) → RisesAbove 2 updates
+    → EachBeforeWrite (TellsOther updates) (write_on pace updates before left)
+on_each pace updates before [] rises =
+    write_each (TellsOther updates) pace before 2 0xFF (read_all_back pace updates)
     (close_each (TellsOther updates) Doubt DoubtOpen)
     (back_each updates (rows_of (most_of pace) (read_backs updates)) rises
     (rows_hold (Has (read_backs updates)) (most_of pace) (read_backs updates) (λ location byte has. has)))
-on_each pace updates (update ∷ left) rises =
-    write_each (TellsOther updates) pace update.0 update.1 (write_on pace updates left)
-    (close_each (TellsOther updates) Doubt DoubtOpen) (on_each pace updates left rises)
+on_each pace updates before (update ∷ left) rises =
+    write_each (TellsOther updates) pace before update.0 update.1 (write_on pace updates update.0 left)
+    (close_each (TellsOther updates) Doubt DoubtOpen) (on_each pace updates update.0 left rises)
 
 -- ---- the others go on by no write
 
@@ -246,8 +282,8 @@ pub task_each : (task : Task) → RisesAbove 2 (updates_for task)
     → EachBeforeWrite (TellsOther (updates_for task)) (plan_of task)
 task_each (Fresh order pace) rises = length_each (TellsOther order.updates) pace order.updates
 task_each (Opened order pace) rises =
-    write_each (TellsOther order.updates) Checked 2 0x55 (write_on pace order.updates order.updates)
-    (close_each (TellsOther order.updates) Doubt DoubtOpen) (on_each pace order.updates order.updates rises)
+    write_each (TellsOther order.updates) Checked 2 2 0x55 (write_on pace order.updates 2 order.updates)
+    (close_each (TellsOther order.updates) Doubt DoubtOpen) (on_each pace order.updates 2 order.updates rises)
 task_each Closing rises = close_each (TellsOther []) Closed NotClosed
 task_each Reading rises =
     read_each (TellsOther []) 0 1 (Finish Silent) (λ read. read_on 1 (min (get_or read 0 0) 0xFE)) tt

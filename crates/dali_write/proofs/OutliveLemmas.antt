@@ -36,11 +36,12 @@ can_after loses at (WriteTo location byte) unit misses told first last run keeps
     after_misses loses (λ bank. IsTrue (is_writable bank location)) at (WriteTo location byte) unit misses told first
     last run keeps_power alone can
     (λ bank can_still. rw (still_writable bank location byte) can_still) are
-can_after loses at (WriteOn location byte) unit zero [] first last run keeps_power alone can are =
+can_after loses at (WriteOn before location byte) unit zero [] first last run keeps_power alone can are =
     (unit, drifts_alone loses at unit first last keeps_power run alone, can)
-can_after loses at (WriteOn location byte) unit zero (x ∷ told) first last run keeps_power alone can are = cc
-can_after loses at (WriteOn location byte) unit (suc misses) told first last run keeps_power alone can are =
-    after_misses loses (λ bank. IsTrue (is_writable bank location)) at (WriteOn location byte) unit (suc misses) told
+can_after loses at (WriteOn before location byte) unit zero (x ∷ told) first last run keeps_power alone can are = cc
+can_after loses at (WriteOn before location byte) unit (suc misses) told first last run keeps_power alone can are =
+    after_misses loses (λ bank. IsTrue (is_writable bank location)) at (WriteOn before location byte) unit
+    (suc misses) told
     first last run keeps_power alone can.0
     (λ bank can_still. rw (still_writable bank location byte) can_still) are
 

@@ -30,6 +30,9 @@ use Rattle.dali_write.proofs.EndLemmas.{ends_reading}
 use Rattle.dali_write.proofs.BlockOneLemmas.{access_tells_one}
 use Rattle.dali_write.proofs.VerdictLemmas.{finish_walk, only_older}
 use Rattle.dali_write.proofs.WalkLemmas.{ended_walk}
+use Rattle.dali_write.specs.Plans.{most_once, pieces_of, expect_all, read_again}
+use Rattle.dali_write.proofs.RowLemmas.{pieces_all}
+use Rattle.std.specs.Prelude.{nat_lt}
 
 -- the exchanges, the newest first, after the first ones are the last ones
 abbrev pub After : List Exchange → List Exchange → List Exchange → Type 0
@@ -183,39 +186,137 @@ record Went (unit location : ℕ) (bytes : List ℕ) (after : Plan) (verdict : V
   shows : AllInRow (StillRead mid unit) location bytes
   keeps : KeepsReads first mid
 
-expect_rests : (unit location : ℕ) (bytes : List ℕ) (after : Plan) (verdict : Verdict)
-    (outcomes : List (Option (List ℕ))) (told : List Exchange) (first last : List Exchange)
-    → Walk unit (expect location bytes after) outcomes told (Finish verdict) → After told first last
+-- each walk of the plan held the row and went on, or gave up
+abbrev WentSo : ℕ → Plan → ℕ → List ℕ → Plan → Verdict → List Exchange → Type 0
+WentSo unit plan location bytes after verdict last =
+    (outcomes : List (Option (List ℕ))) (told first : List Exchange)
+    → Walk unit plan outcomes told (Finish verdict) → After told first last
     → Went unit location bytes after verdict first last ⊎ Gave unit Doubt DoubtOpen verdict last
-expect_rests unit location bytes after verdict [] told first last walk run = let no = walk.1 in cc
-expect_rests unit location bytes after verdict (None ∷ outcomes) told first last walk run =
+
+give_up_went : (unit location : ℕ) (bytes : List ℕ) (after : Plan) (verdict : Verdict) (last : List Exchange)
+    → WentSo unit give_up location bytes after verdict last
+give_up_went unit location bytes after verdict last outcomes told first walk run =
+    inr (close_rests unit Doubt DoubtOpen verdict outcomes told first last walk run)
+
+-- it held the row later
+went_later : (unit location : ℕ) (bytes : List ℕ) (after : Plan) (verdict : Verdict) (first mid last : List Exchange)
+    → KeepsReads first mid → Went unit location bytes after verdict mid last ⊎ Gave unit Doubt DoubtOpen verdict last
+    → Went unit location bytes after verdict first last ⊎ Gave unit Doubt DoubtOpen verdict last
+went_later unit location bytes after verdict first mid last keeps (inr gave) = inr gave
+went_later unit location bytes after verdict first mid last keeps (inl went) =
+    inl (record {
+      mid = went.mid;
+      outcomes = went.outcomes;
+      newer = went.newer;
+      walk = went.walk;
+      run = went.run;
+      shows = went.shows;
+      keeps = keeps_then first mid went.mid keeps went.keeps;
+    })
+
+expect_rests : (unit : ℕ) (failed : Plan) (location : ℕ) (bytes : List ℕ) (after : Plan) (verdict : Verdict)
+    (outcomes : List (Option (List ℕ))) (told : List Exchange) (first last : List Exchange)
+    → WentSo unit failed location bytes after verdict last
+    → Walk unit (expect failed location bytes after) outcomes told (Finish verdict) → After told first last
+    → Went unit location bytes after verdict first last ⊎ Gave unit Doubt DoubtOpen verdict last
+expect_rests unit failed location bytes after verdict [] told first last again walk run = let no = walk.1 in cc
+expect_rests unit failed location bytes after verdict (None ∷ outcomes) told first last again walk run =
     let parts = split walk.0 walk.1 first last (subst (λ (t : List Exchange). After t first last) walk.2 run) in
-    inr (close_rests unit Doubt DoubtOpen verdict outcomes walk.0 parts.0 last walk.4 parts.2)
-expect_rests unit location bytes after verdict (Some read ∷ outcomes) told first last walk run =
+    let keeps =
+    read_access_keeps unit (block location (length bytes)) None walk.1 first parts.0 walk.3 parts.1 in
+    went_later unit location bytes after verdict first parts.0 last keeps
+    (again outcomes walk.0 parts.0 walk.4 parts.2)
+expect_rests unit failed location bytes after verdict (Some read ∷ outcomes) told first last again walk run =
     let parts = split walk.0 walk.1 first last (subst (λ (t : List Exchange). After t first last) walk.2 run) in
     let row = block location (length bytes) in
     let shows = by_index (StillRead parts.0 unit) location read
     (block_shows unit row read walk.1 first parts.0 walk.3 parts.1) in
     let keeps = read_access_keeps unit row (Some read) walk.1 first parts.0 walk.3 parts.1 in
-    by parts.0 parts.2 shows keeps (bytes_eq read bytes) refl walk.4 where
-      by : (mid : List Exchange) → After walk.0 mid last → AllInRow (StillRead mid unit) location read
-          → (KeepsReads first mid)
-          → (t : Bool) → bytes_eq read bytes ≡ t
-          → Walk unit (if t then after else give_up) outcomes walk.0 (Finish verdict)
-          → Went unit location bytes after verdict first last ⊎ Gave unit Doubt DoubtOpen verdict last
-      by mid run shows keeps true same on =
-          inl (record {
-            mid = mid;
-            outcomes = outcomes;
-            newer = walk.0;
-            walk = on;
-            run = run;
-            shows = subst (λ (l : List ℕ). AllInRow (StillRead mid unit) location l)
-                ((bytes_eq-Decides read bytes).0 same) shows;
-            keeps = keeps;
-          })
-      by mid run shows keeps false differs on =
-          inr (close_rests unit Doubt DoubtOpen verdict outcomes walk.0 mid last on run)
+    by parts.0 parts.2 shows keeps (bytes_eq read bytes) refl walk.4
+  where
+    by : (mid : List Exchange) → After walk.0 mid last → AllInRow (StillRead mid unit) location read
+        → (KeepsReads first mid)
+        → (t : Bool) → bytes_eq read bytes ≡ t
+        → Walk unit (if t then after else failed) outcomes walk.0 (Finish verdict)
+        → Went unit location bytes after verdict first last ⊎ Gave unit Doubt DoubtOpen verdict last
+    by mid run shows keeps true same on =
+        inl (record {
+          mid = mid;
+          outcomes = outcomes;
+          newer = walk.0;
+          walk = on;
+          run = run;
+          shows = subst (λ (l : List ℕ). AllInRow (StillRead mid unit) location l)
+              ((bytes_eq-Decides read bytes).0 same) shows;
+          keeps = keeps;
+        })
+    by mid run shows keeps false differs on =
+        went_later unit location bytes after verdict first mid last keeps (again outcomes walk.0 mid on run)
+
+-- the same of rows that are read again
+record WentAll (unit : ℕ) (rows : List (ℕ × List ℕ)) (after : Plan) (verdict : Verdict) (first last : List Exchange)
+    : Type 0 where
+  mid : List Exchange
+  outcomes : List (Option (List ℕ))
+  newer : List Exchange
+  walk : Walk unit after outcomes newer (Finish verdict)
+  run : After newer mid last
+  shows : AllInRows (StillRead mid unit) rows
+  keeps : KeepsReads first mid
+
+all_rests : (unit : ℕ) (rows : List (ℕ × List ℕ)) (after : Plan) (verdict : Verdict)
+    (outcomes : List (Option (List ℕ))) (told : List Exchange) (first last : List Exchange)
+    → Walk unit (expect_all rows after) outcomes told (Finish verdict) → After told first last
+    → WentAll unit rows after verdict first last ⊎ Gave unit Doubt DoubtOpen verdict last
+all_rests unit [] after verdict outcomes told first last walk run =
+    inl (record {
+      mid = first;
+      outcomes = outcomes;
+      newer = told;
+      walk = walk;
+      run = run;
+      shows = tt;
+      keeps = keeps_none first first refl;
+    })
+all_rests unit (row ∷ rows) after verdict outcomes told first last walk run =
+    elim (expect_rests unit give_up row.0 row.1 (expect_all rows after) verdict outcomes told first last
+    (give_up_went unit row.0 row.1 (expect_all rows after) verdict last) walk run) [
+      | inr gave ↦ inr gave
+      | inl went ↦
+          elim (all_rests unit rows after verdict went.outcomes went.newer went.mid last went.walk went.run) [
+            | inr gave ↦ inr gave
+            | inl all ↦ inl (record {
+              mid = all.mid;
+              outcomes = all.outcomes;
+              newer = all.newer;
+              walk = all.walk;
+              run = all.run;
+              shows = (row_kept went.mid all.mid unit row.0 row.1 went.shows all.keeps, all.shows);
+              keeps = keeps_then first went.mid all.mid went.keeps all.keeps;
+            })
+          ]
+    ]
+
+-- a row that is read again, or given up
+again_rests : (unit location : ℕ) (bytes : List ℕ) (after : Plan) (verdict : Verdict) (last : List Exchange)
+    (again : Bool)
+    → WentSo unit (if again then expect_all (pieces_of location bytes) after else give_up) location bytes after verdict
+    last
+again_rests unit location bytes after verdict last false outcomes told first walk run =
+    give_up_went unit location bytes after verdict last outcomes told first walk run
+again_rests unit location bytes after verdict last true outcomes told first walk run =
+    elim (all_rests unit (pieces_of location bytes) after verdict outcomes told first last walk run) [
+      | inr gave ↦ inr gave
+      | inl all ↦ inl (record {
+        mid = all.mid;
+        outcomes = all.outcomes;
+        newer = all.newer;
+        walk = all.walk;
+        run = all.run;
+        shows = pieces_all (StillRead all.mid unit) location bytes all.shows;
+        keeps = all.keeps;
+      })
+    ]
 
 -- all bytes were read back
 record Held (unit : ℕ) (rows : List (ℕ × List ℕ)) (verdict : Verdict) (first last : List Exchange) : Type 0 where
@@ -234,7 +335,9 @@ read_back_rests unit [] verdict outcomes told first last walk run =
     let still : last ≡ first = subst (λ (t : List Exchange). After t first last) end.0 run in
     inl (record { done = done; shows = tt; keeps = keeps_none first last still })
 read_back_rests unit (row ∷ rows) verdict outcomes told first last walk run =
-    elim (expect_rests unit row.0 row.1 (read_back rows) verdict outcomes told first last walk run) [
+    elim (expect_rests unit (read_again row.0 row.1 (read_back rows)) row.0 row.1 (read_back rows) verdict outcomes told
+    first last (again_rests unit row.0 row.1 (read_back rows) verdict last (nat_lt most_once (length row.1))) walk
+    run) [
       | inr gave ↦ inr gave
       | inl went ↦
           elim (read_back_rests unit rows verdict went.outcomes went.newer went.mid last went.walk went.run) [
@@ -278,21 +381,23 @@ write_rests unit access after updates verdict last rest (Some bytes ∷ outcomes
     let parts = split walk.0 walk.1 first last (subst (λ (t : List Exchange). After t first last) walk.2 run) in
     rest outcomes walk.0 parts.0 walk.4 parts.2
 
-write_on_rests : (unit : ℕ) (pace : Pace) (updates left : List (ℕ × ℕ)) (verdict : Verdict) (last : List Exchange)
-    → RestsSo unit updates verdict last (write_on pace updates left)
-write_on_rests unit pace updates [] verdict last =
-    write_rests unit (write_next pace 2 0xFF) (read_all_back pace updates) updates verdict last
+write_on_rests : (unit : ℕ) (pace : Pace) (updates : List (ℕ × ℕ)) (before : ℕ) (left : List (ℕ × ℕ))
+    (verdict : Verdict) (last : List Exchange)
+    → RestsSo unit updates verdict last (write_on pace updates before left)
+write_on_rests unit pace updates before [] verdict last =
+    write_rests unit (write_next pace before 2 0xFF) (read_all_back pace updates) updates verdict last
     (read_all_back_rests unit pace updates verdict last)
-write_on_rests unit pace updates (update ∷ left) verdict last =
-    write_rests unit (write_next pace update.0 update.1) (write_on pace updates left) updates verdict last
-    (write_on_rests unit pace updates left verdict last)
+write_on_rests unit pace updates before (update ∷ left) verdict last =
+    write_rests unit (write_next pace before update.0 update.1) (write_on pace updates update.0 left) updates verdict
+    last
+    (write_on_rests unit pace updates update.0 left verdict last)
 
 pub opened_rests : (told : List Exchange) (unit : ℕ) (pace : Pace) (updates : List (ℕ × ℕ)) (verdict : Verdict)
     → Wants unit (unlock pace updates) told (Ended verdict) → Rests (StillRead told unit) updates verdict
 opened_rests told unit pace updates verdict wants =
     let ended = ended_walk unit (unlock pace updates) told verdict wants in
-    write_rests unit (WriteTo 2 0x55) (write_on pace updates updates) updates verdict told
-    (write_on_rests unit pace updates updates verdict told) ended.0 told [] ended.1 (sym (append-nil told))
+    write_rests unit (WriteTo 2 0x55) (write_on pace updates 2 updates) updates verdict told
+    (write_on_rests unit pace updates 2 updates verdict told) ended.0 told [] ended.1 (sym (append-nil told))
 
 closed : (unit : ℕ) (verdict : Verdict) (last : List Exchange) → Gave unit Closed NotClosed verdict last
     → Rests (StillRead last unit) [] verdict

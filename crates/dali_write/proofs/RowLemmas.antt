@@ -3,10 +3,12 @@ use Rattle.std.proofs.Common.{◌≡◌, inl, inr, refl, sym, ap, subst, ◌∙�
 use Rattle.std.proofs.Common.{List, [], ◌∷◌, length, map, take, drop, Some, slice_get, arith}
 use Rattle.std.specs.Prelude.{nat_lt, if◌then◌else◌, ⊤}
 use Rattle.std.specs.List.{AllByRecursion, Contains}
-use Rattle.std.proofs.lemmas.Bool.{eqb-true, ltb-true, and_parts}
+use Rattle.std.proofs.lemmas.Bool.{eqb-true, ltb-true, ltb-false, eq-eqb, and_parts}
 use Rattle.dali_bus.specs.Hears.{up}
 use Rattle.dali_write.specs.Requests.{moved_on}
-use Rattle.dali_write.specs.Plans.{row_before, rows_of}
+use Rattle.dali_write.specs.Plans.{row_before, rows_of, updates_in, pieces_of, all_rows}
+use Rattle.std.proofs.Common.{◌++◌}
+use Rattle.std.proofs.lemmas.List.Elements.{Contains-append_cases}
 use Rattle.dali_write.proofs.PlaceLemmas.{moved_next}
 use Rattle.dali_write.specs.Requests.{block}
 use Rattle.dali_write.specs.Touches.{Has}
@@ -186,7 +188,7 @@ row_before_full most update (row ∷ more) full = by ((row.0 == up update.0) && 
     by true = (omega arith, full.1)
     by false = (omega arith, full)
 
-rows_full : (most : ℕ) (updates : List (ℕ × ℕ)) → Full (rows_of most updates)
+pub rows_full : (most : ℕ) (updates : List (ℕ × ℕ)) → Full (rows_of most updates)
 rows_full most [] = tt
 rows_full most (update ∷ updates) = row_before_full most update (rows_of most updates) (rows_full most updates)
 
@@ -207,3 +209,157 @@ as_many_rows (row ∷ rows) full small = omega (arith, as_many_rows rows full.1 
 pub rows_alone : (updates : List (ℕ × ℕ)) → length (rows_of 1 updates) ≡ length updates
 rows_alone updates =
     as_many_rows (rows_of 1 updates) (rows_full 1 updates) (rows_small 1 updates (omega arith)) ∙ rows_count 1 updates
+
+-- ---- a row that is read again
+
+-- the updates that the rows have
+abbrev flat : List (ℕ × List ℕ) → List (ℕ × ℕ)
+flat [] = []
+flat (row ∷ rows) = updates_in row.0 row.1 ++ flat rows
+
+row_before_flat : (most : ℕ) (update : ℕ × ℕ) (some : List (ℕ × List ℕ))
+    → flat (row_before most update some) ≡ update ∷ flat some
+row_before_flat most update [] = refl
+row_before_flat most update (row ∷ more) = by ((row.0 == up update.0) && nat_lt (length row.1) most) refl
+  where
+    by : (b : Bool) → ((row.0 == up update.0) && nat_lt (length row.1) most) ≡ b
+        → flat (if b then (update.0, update.1 ∷ row.1) ∷ more else (update.0, update.1 ∷ []) ∷ row ∷ more)
+        ≡ update ∷ flat (row ∷ more)
+    by true same =
+        let next = eqb-true row.0 (up update.0) (and_parts _ _ same).0 in
+        ap (λ (at : ℕ). update ∷ (updates_in at row.1 ++ flat more)) (sym next)
+    by false other = refl
+
+-- the rows of updates have these and no others
+rows_flat : (most : ℕ) (updates : List (ℕ × ℕ)) → flat (rows_of most updates) ≡ updates
+rows_flat most [] = refl
+rows_flat most (update ∷ updates) =
+    row_before_flat most update (rows_of most updates)
+    ∙ ap (λ (l : List (ℕ × ℕ)). update ∷ l) (rows_flat most updates)
+
+updates_count : (location : ℕ) (bytes : List ℕ) → length (updates_in location bytes) ≡ length bytes
+updates_count location [] = refl
+updates_count location (byte ∷ bytes) = ap suc (updates_count (up location) bytes)
+
+take_first : (first rest : List (ℕ × ℕ)) → take (length first) (first ++ rest) ≡ first
+take_first [] rest = refl
+take_first (x ∷ first) rest = ap (λ (l : List (ℕ × ℕ)). x ∷ l) (take_first first rest)
+
+-- the updates of a row are those of its bytes
+pub row_updates : (most : ℕ) (own : ℕ × ℕ) (behind left : List (ℕ × ℕ)) (row : List ℕ)
+    → rows_of most (own ∷ behind) ≡ (own.0, row) ∷ rows_of most left
+    → take (length row) (own ∷ behind) ≡ updates_in own.0 row
+row_updates most own behind left row are =
+    let parts : own ∷ behind ≡ updates_in own.0 row ++ flat (rows_of most left) =
+    sym (rows_flat most (own ∷ behind)) ∙ ap flat are in
+    rw (parts, ← updates_count own.0 row) (take_first (updates_in own.0 row) (flat (rows_of most left)))
+
+pub taken_count : (others : ℕ) (updates : List (ℕ × ℕ)) → others ≤ length updates
+    → length (bytes_in (take others updates)) ≡ others
+taken_count zero updates le = refl
+taken_count (suc others) [] le = absurd (omega arith)
+taken_count (suc others) (update ∷ updates) le = ap suc (taken_count others updates (omega arith))
+
+-- the smaller rows: the first one, and all others of the most locations
+record Pieces (location byte : ℕ) (bytes : List ℕ) : Type 0 where
+  first : List ℕ
+  more : List (ℕ × List ℕ)
+  are : pieces_of location (byte ∷ bytes) ≡ (location, first) ∷ more
+  some : 1 ≤ length first
+  few : length first ≤ 2
+  count : 2 * length more + length first ≡ suc (length bytes)
+
+pieces : (location byte : ℕ) (bytes : List ℕ) → Pieces location byte bytes
+pieces location byte [] = record {
+  first = byte ∷ [];
+  more = [];
+  are = refl;
+  some = omega arith;
+  few = omega arith;
+  count = omega arith;
+}
+pieces location byte (next ∷ bytes) =
+    let rest = pieces (up location) next bytes in by rest (nat_lt (length rest.first) 2) refl
+  where
+    by : (rest : Pieces (up location) next bytes) (b : Bool) → nat_lt (length rest.first) 2 ≡ b
+        → Pieces location byte (next ∷ bytes)
+    by rest true below =
+        let less = ltb-true (length rest.first) 2 below in
+        let here : (up location == up location) ≡ true = eq-eqb (up location) (up location) refl in
+        record {
+          first = byte ∷ rest.first;
+          more = rest.more;
+          are = ap (row_before 2 (location, byte)) rest.are ∙ rw (here, below) refl;
+          some = omega arith;
+          few = omega arith;
+          count = omega (arith, rest.count);
+        }
+    by rest false other =
+        let least : 2 ≤ length rest.first = ltb-false (length rest.first) 2 other in
+        let most = rest.few in
+        let here : (up location == up location) ≡ true = eq-eqb (up location) (up location) refl in
+        record {
+          first = byte ∷ [];
+          more = (up location, rest.first) ∷ rest.more;
+          are = ap (row_before 2 (location, byte)) rest.are ∙ rw (here, other) refl;
+          some = omega arith;
+          few = omega arith;
+          count = omega (arith, rest.count);
+        }
+
+pub first_piece : (location byte : ℕ) (bytes : List ℕ)
+    → (row : ℕ × List ℕ) × (rows : List (ℕ × List ℕ)) × (pieces_of location (byte ∷ bytes) ≡ row ∷ rows)
+first_piece location byte bytes =
+    let p = pieces location byte bytes in ((location, p.first), p.more, p.are)
+
+pub pieces_few : (location : ℕ) (bytes : List ℕ) → 2 * length (pieces_of location bytes) ≤ length bytes + 1
+pieces_few location [] = omega arith
+pieces_few location (byte ∷ bytes) =
+    let p = pieces location byte bytes in rw p.are (omega (arith, p.count, p.some))
+
+pub pieces_some : (location : ℕ) (bytes : List ℕ) → 1 ≤ length bytes → 1 ≤ length (pieces_of location bytes)
+pieces_some location [] some = absurd (omega arith)
+pieces_some location (byte ∷ bytes) some = let p = pieces location byte bytes in rw p.are (omega arith)
+
+pub pieces_bytes : (location : ℕ) (bytes : List ℕ) → bytes_count (pieces_of location bytes) ≡ length bytes
+pieces_bytes location bytes = rows_count 2 (updates_in location bytes) ∙ updates_count location bytes
+
+pub pieces_small : (location : ℕ) (bytes : List ℕ) → Small 2 (pieces_of location bytes)
+pieces_small location bytes = rows_small 2 (updates_in location bytes) (omega arith)
+
+in_updates : (P : ℕ → ℕ → Type 0) (location : ℕ) (bytes : List ℕ)
+    → AllByRecursion (λ update. P update.0 update.1) (updates_in location bytes) → AllInRow P location bytes
+in_updates P location [] all = tt
+in_updates P location (byte ∷ bytes) all = (all.0, in_updates P (up location) bytes all.1)
+
+-- what holds of the smaller rows holds of the row
+pub pieces_all : (P : ℕ → ℕ → Type 0) (location : ℕ) (bytes : List ℕ) → AllInRows P (pieces_of location bytes)
+    → AllInRow P location bytes
+pieces_all P location bytes all =
+    in_updates P location bytes (all_in_rows P 2 (updates_in location bytes) all)
+
+-- and of it all the other way round
+pub row_pieces : (P : ℕ → ℕ → Type 0) (location : ℕ) (bytes : List ℕ) → AllInRow P location bytes
+    → AllInRows P (pieces_of location bytes)
+row_pieces P location bytes all = rows_hold P 2 (updates_in location bytes) (each location bytes all)
+  where
+    each : (location : ℕ) (bytes : List ℕ) → AllInRow P location bytes → (at byte : ℕ)
+        → Has (updates_in location bytes) at byte → P at byte
+    each location [] all at byte has = absurd has
+    each location (first ∷ bytes) all at byte (inl here) = grind (arith, all.0, here.0, here.1)
+    each location (first ∷ bytes) all at byte (inr later) = each (up location) bytes all.1 at byte later
+
+-- each row that may be read has a byte
+all_full : (rows : List (ℕ × List ℕ)) → Full rows → (row : ℕ × List ℕ) → Contains (all_rows rows) row
+    → 1 ≤ length row.1
+all_full [] full row (index, below, is) = absurd (omega arith)
+all_full (first ∷ rows) full row (zero, below, is) = subst (λ (r : ℕ × List ℕ). 1 ≤ length r.1) is full.0
+all_full (first ∷ rows) full row (suc index, below, is) =
+    elim (Contains-append_cases (pieces_of first.0 first.1) (all_rows rows) row (index, omega arith, is)) [
+      | inl piece ↦ rows_some 2 (updates_in first.0 first.1) row piece
+      | inr later ↦ all_full rows full.1 row later
+    ]
+
+pub all_rows_some : (most : ℕ) (updates : List (ℕ × ℕ)) (row : ℕ × List ℕ)
+    → Contains (all_rows (rows_of most updates)) row → 1 ≤ length row.1
+all_rows_some most updates row is = all_full (rows_of most updates) (rows_full most updates) row is

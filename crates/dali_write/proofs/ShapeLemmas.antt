@@ -1,5 +1,5 @@
 -- The exchanges of whole tries, one by one.
-use Rattle.std.proofs.Common.{◌≡◌, sym, ap, subst, ℕ, zero, suc, ◌+◌, List, [], ◌∷◌, ◌++◌, length, drop, arith}
+use Rattle.std.proofs.Common.{true, false, ◌≡◌, sym, ap, subst, ℕ, zero, suc, ◌+◌, List, [], ◌∷◌, ◌++◌, length, drop, arith}
 use Rattle.std.specs.Prelude.{⊤}
 use Rattle.std.proofs.lemmas.List.{append_cancel_right}
 use Rattle.dali_frame.specs.declared.forward.Frame.{Frame}
@@ -8,7 +8,7 @@ use Rattle.dali_write.specs.Exchanges.{Exchange}
 use Rattle.dali_write.specs.declared.request.Request.{Request}
 use Rattle.dali_write.specs.declared.request.Wish.{Wish}
 use Rattle.dali_write.specs.declared.request.Wish.TheVariants.{Nothing, Exactly}
-use Rattle.dali_write.specs.Requests.{Meets, request, select_requests}
+use Rattle.dali_write.specs.Requests.{Meets, request, select_requests, asked_requests}
 use Rattle.dali_write.specs.Tries.{Trying}
 
 -- the requests that were sent and those that are left are all of them
@@ -88,3 +88,36 @@ selected unit location (x2 ∷ x1 ∷ []) try = let same = try.2.2 in cc
 selected unit location (x3 ∷ x2 ∷ x1 ∷ []) try = let same = try.2.2.2 in cc
 selected unit location (x4 ∷ x3 ∷ x2 ∷ x1 ∷ []) try = grind (arith, tail_is, got, head_is)
 selected unit location (x5 ∷ x4 ∷ x3 ∷ x2 ∷ x1 ∷ rest) try = grind (arith, trying_length)
+
+-- the two that ask both registers
+pub record AskedMoved (unit location : ℕ) (tried : List Exchange) : Type 0 where
+  pub x1 : Exchange
+  pub x2 : Exchange
+  pub is : tried ≡ x2 ∷ x1 ∷ []
+  pub got1 : Got x1 (AskDtr1 unit) (Exactly 1)
+  pub got2 : Got x2 (AskDtr0 unit) (Exactly location)
+
+pub asked_moved : (unit location : ℕ) (tried : List Exchange) → Trying (asked_requests true unit location) tried []
+    → AskedMoved unit location tried
+asked_moved unit location [] try = cc
+asked_moved unit location (x1 ∷ []) try = let same = try.2 in cc
+asked_moved unit location (x2 ∷ x1 ∷ []) try = grind (arith, tail_is, got, head_is)
+asked_moved unit location (x3 ∷ x2 ∷ x1 ∷ rest) try = grind (arith, trying_length)
+
+-- and those with one that sets DTR0 between them
+pub record AskedSet (unit location : ℕ) (tried : List Exchange) : Type 0 where
+  pub x1 : Exchange
+  pub x2 : Exchange
+  pub x3 : Exchange
+  pub is : tried ≡ x3 ∷ x2 ∷ x1 ∷ []
+  pub got1 : Got x1 (AskDtr1 unit) (Exactly 1)
+  pub got2 : Got x2 (Dtr0 location) Nothing
+  pub got3 : Got x3 (AskDtr0 unit) (Exactly location)
+
+pub asked_set : (unit location : ℕ) (tried : List Exchange) → Trying (asked_requests false unit location) tried []
+    → AskedSet unit location tried
+asked_set unit location [] try = cc
+asked_set unit location (x1 ∷ []) try = let same = try.2 in cc
+asked_set unit location (x2 ∷ x1 ∷ []) try = let same = try.2.2 in cc
+asked_set unit location (x3 ∷ x2 ∷ x1 ∷ []) try = grind (arith, tail_is, got, head_is)
+asked_set unit location (x4 ∷ x3 ∷ x2 ∷ x1 ∷ rest) try = grind (arith, trying_length)

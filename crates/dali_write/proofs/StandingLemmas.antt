@@ -16,8 +16,8 @@ pub goes_first : (unit : ℕ) (plan : Plan) (misses : ℕ) → IsGoing plan (pla
 goes_first unit (Finish verdict) misses = refl
 goes_first unit (Make (ReadFrom block) after) misses = refl
 goes_first unit (Make (WriteTo location byte) after) misses = refl
-goes_first unit (Make (WriteOn location byte) after) zero = refl
-goes_first unit (Make (WriteOn location byte) after) (suc misses) = refl
+goes_first unit (Make (WriteOn before location byte) after) zero = refl
+goes_first unit (Make (WriteOn before location byte) after) (suc misses) = refl
 
 -- at the beginning
 pub stands_at_first : (unit : ℕ) (plan : Plan) → Stands unit plan [] [] plan 0 (plan_requests unit plan 0) []

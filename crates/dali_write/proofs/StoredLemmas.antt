@@ -31,27 +31,28 @@ stored : (old : BankState) (location byte : ℕ) (bank : BankState) → OnlyDiff
 stored old location byte bank so = grind (arith, get_other, length-set bank.bytes location byte)
 
 -- a write that succeeded has stored its byte and nothing else, and the unit is enabled
-pub write_done : (loses : ℕ → Type 0) (pace : Pace) (at location byte : ℕ) (unit : UnitState)
+pub write_done : (loses : ℕ → Type 0) (pace : Pace) (at before location byte : ℕ) (unit : UnitState)
     (outcome : Option (List ℕ)) (told : List Exchange) (first last : SimState)
     → Leads SimStep loses told first last → (loses at → ⊥)
-    → IsAlone at unit first.units → Succeeds (access_requests at (write_next pace location byte)) outcome told
+    → IsAlone at unit first.units → Succeeds (access_requests at (write_next pace before location byte)) outcome told
     → (now : UnitState) × IsAlone at now last.units × OnlyDiffers unit.bank1 location now.bank1
     × HasPut location byte now
-write_done loses Checked at location byte unit outcome told first last run keeps_power alone done =
+write_done loses Checked at before location byte unit outcome told first last run keeps_power alone done =
     after_success loses (OnlyDiffers unit.bank1 location) at (WriteTo location byte) unit outcome told first last run
     keeps_power alone (same location unit.bank1) (stored unit.bank1 location byte) done
-write_done loses Short at location byte unit outcome told first last run keeps_power alone done =
-    after_success loses (OnlyDiffers unit.bank1 location) at (WriteOn location byte) unit outcome told first last run
+write_done loses Short at before location byte unit outcome told first last run keeps_power alone done =
+    after_success loses (OnlyDiffers unit.bank1 location) at (WriteOn before location byte) unit outcome told first
+    last run
     keeps_power alone (same location unit.bank1) (stored unit.bank1 location byte) done
 
-pub write_stored : (loses : ℕ → Type 0) (pace : Pace) (at location byte : ℕ) (unit : UnitState)
+pub write_stored : (loses : ℕ → Type 0) (pace : Pace) (at before location byte : ℕ) (unit : UnitState)
     (outcome : Option (List ℕ)) (told : List Exchange) (first last : SimState)
     → Leads SimStep loses told first last → (loses at → ⊥)
-    → IsAlone at unit first.units → Succeeds (access_requests at (write_next pace location byte)) outcome told
+    → IsAlone at unit first.units → Succeeds (access_requests at (write_next pace before location byte)) outcome told
     → (now : UnitState) × IsAlone at now last.units × OnlyDiffers unit.bank1 location now.bank1
     × (slice_get now.bank1.bytes location ≡ Some byte)
-write_stored loses pace at location byte unit outcome told first last run keeps_power alone done =
-    let all = write_done loses pace at location byte unit outcome told first last run keeps_power alone done in
+write_stored loses pace at before location byte unit outcome told first last run keeps_power alone done =
+    let all = write_done loses pace at before location byte unit outcome told first last run keeps_power alone done in
     (all.0, all.1, all.2, all.3.0)
 
 -- an access that came to its end, either way
@@ -79,16 +80,16 @@ read_keeps loses at block unit outcome told first last run keeps_power alone end
     kept_by loses (λ bank. bank ≡ unit.bank1) at (ReadFrom block) unit outcome told first last run keeps_power alone
     refl tt ends
 
-pub write_keeps : (loses : ℕ → Type 0) (pace : Pace) (at location byte : ℕ) (unit : UnitState)
+pub write_keeps : (loses : ℕ → Type 0) (pace : Pace) (at before location byte : ℕ) (unit : UnitState)
     (outcome : Option (List ℕ)) (told : List Exchange) (first last : SimState)
     → Leads SimStep loses told first last → (loses at → ⊥)
     → IsAlone at unit first.units
-    → Succeeds (access_requests at (write_next pace location byte)) outcome told
-    ⊎ Fails (access_requests at (write_next pace location byte)) outcome told
+    → Succeeds (access_requests at (write_next pace before location byte)) outcome told
+    ⊎ Fails (access_requests at (write_next pace before location byte)) outcome told
     → (now : UnitState) × IsAlone at now last.units × OnlyDiffers unit.bank1 location now.bank1
-write_keeps loses Checked at location byte unit outcome told first last run keeps_power alone ends =
+write_keeps loses Checked at before location byte unit outcome told first last run keeps_power alone ends =
     kept_by loses (OnlyDiffers unit.bank1 location) at (WriteTo location byte) unit outcome told first last run
     keeps_power alone (same location unit.bank1) (stored unit.bank1 location byte) ends
-write_keeps loses Short at location byte unit outcome told first last run keeps_power alone ends =
-    kept_by loses (OnlyDiffers unit.bank1 location) at (WriteOn location byte) unit outcome told first last run
+write_keeps loses Short at before location byte unit outcome told first last run keeps_power alone ends =
+    kept_by loses (OnlyDiffers unit.bank1 location) at (WriteOn before location byte) unit outcome told first last run
     keeps_power alone (same location unit.bank1) (stored unit.bank1 location byte) ends

@@ -23,7 +23,7 @@ use Rattle.dali_write.specs.declared.block.Block.{Block}
 use Rattle.dali_write.specs.Requests.{moved_on, block_requests}
 use Rattle.dali_write.specs.Tries.{most_tries, Succeeds, bytes_of, AccessEnds, Wants}
 use Rattle.dali_write.specs.Walks.{Walk, access_misses, misses_of}
-use Rattle.dali_write.specs.Losses.{IsAlone, HasFrom, CanDo, OnlyDiffers}
+use Rattle.dali_write.specs.Losses.{IsAlone, HasFrom, StandsBehind, CanDo, OnlyDiffers}
 use Rattle.dali_write.specs.Misses.{misses_in}
 use Rattle.dali_write.specs.Successes.{has_format, found_verdict}
 use Rattle.dali_bus.specs.Power.{MayRelock}
@@ -41,7 +41,8 @@ use Rattle.dali_write.proofs.RunLemmas.{Leads, losses_along, UnrefusedAlong, Spa
 use Rattle.dali_gear.specs.SimState.{SimStep}
 use Rattle.dali_write.specs.declared.pace.Pace.{Pace}
 use Rattle.dali_write.specs.declared.pace.Pace.TheVariants.{Checked, Short as ShortPace}
-use Rattle.dali_write.specs.Plans.{judge_format}
+use Rattle.dali_write.specs.Plans.{judge_format, written_by, IsInTurn}
+use Rattle.dali_write.proofs.TurnLemmas.{close_turn, length_turn, read_all_turn}
 use Rattle.dali_write.specs.Requests.{each_try, access_requests}
 use Rattle.dali_write.proofs.StoredLemmas.{write_done}
 use Rattle.dali_write.specs.Plans.{either_way}
@@ -53,33 +54,28 @@ HasBytes bank block bytes =
     (length bytes ≡ block.count) × ((index byte : ℕ) → slice_get bytes index ≡ Some byte
     → slice_get bank.bytes (moved_on block.location index) ≡ Some byte)
 
--- the bank lets the access succeed, at a unit that is enabled or isn't known to be
-abbrev pub MayDo : Access → BankState → Bool → Type 0
-MayDo (ReadFrom block) bank on = HasFrom bank block.location block.count
-MayDo (WriteTo location byte) bank on = IsTrue (is_writable bank location)
-MayDo (WriteOn location byte) bank on = IsTrue (is_writable bank location) × (on ≡ true)
+-- the bank lets the access succeed, at a unit that is as a write to this location left it, or isn't known to be
+abbrev pub MayDo : Access → BankState → Option ℕ → Type 0
+MayDo (ReadFrom block) bank last = HasFrom bank block.location block.count
+MayDo (WriteTo location byte) bank last = IsTrue (is_writable bank location)
+MayDo (WriteOn before location byte) bank last = IsTrue (is_writable bank location) × (last ≡ Some before)
 
 -- what the access told of the bank, and the bank behind it
 abbrev pub Did : Access → BankState → List ℕ → BankState → Type 0
 Did (ReadFrom block) bank bytes new = (new ≡ bank) × HasBytes bank block bytes
 Did (WriteTo location byte) bank bytes new =
     OnlyDiffers bank location new × (slice_get new.bytes location ≡ Some byte)
-Did (WriteOn location byte) bank bytes new =
+Did (WriteOn before location byte) bank bytes new =
     OnlyDiffers bank location new × (slice_get new.bytes location ≡ Some byte)
-
--- behind a write the unit is enabled
-abbrev pub is_on : Access → Bool
-is_on (ReadFrom block) = false
-is_on access = true
 
 -- From this bank the plan reads what is there and writes where it may, and where no access of it fails it ends so, with
 -- a bank that is so.
-abbrev pub Goes : (BankState → Type 0) → Verdict → Plan → BankState → Bool → Type 0
-Goes P verdict (Finish v) bank on = (v ≡ verdict) × P bank
-Goes P verdict (Make access after) bank on =
-    MayDo access bank on
+abbrev pub Goes : (BankState → Type 0) → Verdict → Plan → BankState → Option ℕ → Type 0
+Goes P verdict (Finish v) bank last = (v ≡ verdict) × P bank
+Goes P verdict (Make access after) bank last =
+    MayDo access bank last
     × ((new : BankState) (bytes : List ℕ) → Did access bank bytes new
-    → Goes P verdict (after (Some bytes)) new (is_on access))
+    → Goes P verdict (after (Some bytes)) new (written_by access))
 
 -- the unit that is alone at its address is the one that the world has there
 pub world_alone : (at : ℕ) (unit : UnitState) (units : List UnitState) → IsAlone at unit units
@@ -161,11 +157,20 @@ pub record Gone (P : BankState → Type 0) (verdict end : Verdict) (at : ℕ) (m
   pub alone : IsAlone at now last.units
   pub bank : P now.bank1
 
-can_do : (access : Access) (unit : UnitState) (on : Bool) → MayDo access unit.bank1 on
-    → (on ≡ true → unit.enabled ≡ true) → CanDo access unit
-can_do (ReadFrom block) unit on may enabled = may
-can_do (WriteTo location byte) unit on may enabled = may
-can_do (WriteOn location byte) unit on may enabled = (may.0, enabled may.1)
+-- where the last access wrote this location, the unit is as that left it
+abbrev StandsSo : Option ℕ → UnitState → Type 0
+StandsSo last unit = (before : ℕ) → last ≡ Some before → StandsBehind before unit
+
+can_do : (access : Access) (unit : UnitState) (last : Option ℕ) → MayDo access unit.bank1 last
+    → StandsSo last unit → CanDo access unit
+can_do (ReadFrom block) unit last may stands = may
+can_do (WriteTo location byte) unit last may stands = may
+can_do (WriteOn before location byte) unit last may stands = (may.0, stands before may.1)
+
+-- behind a write to a location
+stands_so : (location : ℕ) (unit : UnitState) → StandsBehind location unit → StandsSo (Some location) unit
+stands_so location unit stands before is =
+    let same : location ≡ before = cc in subst (λ (l : ℕ). StandsBehind l unit) same stands
 
 -- an access that succeeded
 did : (loses : ℕ → Type 0) (at : ℕ) (access : Access) (bytes : List ℕ) (unit : UnitState) (told : List Exchange)
@@ -173,30 +178,32 @@ did : (loses : ℕ → Type 0) (at : ℕ) (access : Access) (bytes : List ℕ) (
     → Leads SimStep loses told first last → (loses at → ⊥) → IsAlone at unit first.units
     → Succeeds (access_requests at access) (Some bytes) told
     → (now : UnitState) × IsAlone at now last.units × Did access unit.bank1 bytes now.bank1
-    × (is_on access ≡ true → now.enabled ≡ true)
+    × StandsSo (written_by access) now
 did loses at (ReadFrom block) bytes unit told first last run keeps_power alone done =
     let read = read_bytes loses at block bytes unit told first last run keeps_power alone done in
-    (read.0, read.1, (read.2, read.3), λ on. cc)
+    (read.0, read.1, (read.2, read.3), λ before is. cc)
 did loses at (WriteTo location byte) bytes unit told first last run keeps_power alone done =
-    let all = write_done loses Checked at location byte unit (Some bytes) told first last run keeps_power alone done in
-    (all.0, all.1, (all.2, all.3.0), λ on. all.3.1)
-did loses at (WriteOn location byte) bytes unit told first last run keeps_power alone done =
-    let all = write_done loses ShortPace at location byte unit (Some bytes) told first last run keeps_power alone done
-    in
-    (all.0, all.1, (all.2, all.3.0), λ on. all.3.1)
+    let all =
+    write_done loses Checked at location location byte unit (Some bytes) told first last run keeps_power alone done in
+    (all.0, all.1, (all.2, all.3.0), stands_so location all.0 all.3.1)
+did loses at (WriteOn before location byte) bytes unit told first last run keeps_power alone done =
+    let all =
+    write_done loses ShortPace at before location byte unit (Some bytes) told first last run keeps_power alone done in
+    (all.0, all.1, (all.2, all.3.0), stands_so location all.0 all.3.1)
 
 -- a walk of the plan ends as it goes, and misses no more often than the unit loses
 goes : (loses : ℕ → Type 0) (P : BankState → Type 0) (verdict end : Verdict) (at : ℕ) (plan : Plan)
-    (outcomes : List (Option (List ℕ))) (unit : UnitState) (on : Bool) (told : List Exchange) (first last : SimState)
+    (outcomes : List (Option (List ℕ))) (unit : UnitState) (of : Option ℕ) (told : List Exchange)
+    (first last : SimState)
     (run : Leads SimStep loses told first last)
-    → (loses at → ⊥) → IsAlone at unit first.units → (on ≡ true → unit.enabled ≡ true)
-    → Goes P verdict plan unit.bank1 on
+    → (loses at → ⊥) → IsAlone at unit first.units → StandsSo of unit
+    → Goes P verdict plan unit.bank1 of
     → UnrefusedAlong loses told first last run → losses_along at loses told first last run < most_tries
     → (walk : Walk at plan outcomes told (Finish end))
     → Gone P verdict end at (misses_of at plan outcomes told (Finish end) walk)
     (losses_along at loses told first last run)
     last
-goes loses P verdict end at (Finish v) [] unit on told first last run keeps_power alone enabled way kind few walk =
+goes loses P verdict end at (Finish v) [] unit of told first last run keeps_power alone enabled way kind few walk =
     let same = walk.1 in
     let is : v ≡ end = cc in
     let none : Leads SimStep loses [] first last =
@@ -208,30 +215,30 @@ goes loses P verdict end at (Finish v) [] unit on told first last run keeps_powe
       alone = drifts_alone loses at unit first last keeps_power none alone;
       bank = way.1;
     }
-goes loses P verdict end at (Finish v) (o ∷ outcomes) unit on told first last run keeps_power alone enabled way kind
+goes loses P verdict end at (Finish v) (o ∷ outcomes) unit of told first last run keeps_power alone enabled way kind
     few walk = absurd walk.3
-goes loses P verdict end at (Make access after) [] unit on told first last run keeps_power alone enabled way kind few
+goes loses P verdict end at (Make access after) [] unit of told first last run keeps_power alone enabled way kind few
     walk = let differs = walk.1 in cc
-goes loses P verdict end at (Make access after) (None ∷ outcomes) unit on told first last run keeps_power alone enabled
+goes loses P verdict end at (Make access after) (None ∷ outcomes) unit of told first last run keeps_power alone enabled
     way kind few walk =
     let two = parts loses at told walk.0 walk.1 first last run walk.2 in
     let sum = two.sum in
     let done =
     access_succeeds loses at access unit None walk.1 first two.mid two.before keeps_power alone
-    (can_do access unit on way.0 enabled) (two.kinds kind).0 (omega arith) walk.3 in
+    (can_do access unit of way.0 enabled) (two.kinds kind).0 (omega arith) walk.3 in
     let never = done.5 in cc
-goes loses P verdict end at (Make access after) (Some bytes ∷ outcomes) unit on told first last run keeps_power alone
+goes loses P verdict end at (Make access after) (Some bytes ∷ outcomes) unit of told first last run keeps_power alone
     enabled way kind few walk =
     let two = parts loses at told walk.0 walk.1 first last run walk.2 in
     let sum = two.sum in
     let kinds = two.kinds kind in
-    let can = can_do access unit on way.0 enabled in
+    let can = can_do access unit of way.0 enabled in
     let done =
     access_succeeds loses at access unit (Some bytes) walk.1 first two.mid two.before keeps_power alone can kinds.0
     (omega arith) walk.3 in
     let here = did loses at access bytes unit walk.1 first two.mid two.before keeps_power alone done in
     let rest =
-    goes loses P verdict end at (after (Some bytes)) outcomes here.0 (is_on access) walk.0 two.mid last two.after
+    goes loses P verdict end at (after (Some bytes)) outcomes here.0 (written_by access) walk.0 two.mid last two.after
     keeps_power here.1 here.3 (way.1 here.0.bank1 bytes here.2) kinds.1 (omega arith) walk.4 in
     let fewer =
     access_few loses at access after unit (Some bytes) walk.1 first two.mid two.before keeps_power alone can kinds.0
@@ -243,28 +250,28 @@ goes loses P verdict end at (Make access after) (Some bytes ∷ outcomes) unit o
 pub gone : (loses : ℕ → Type 0) (P : BankState → Type 0) (verdict end : Verdict) (at : ℕ) (plan : Plan)
     (unit : UnitState) (told older : List Exchange) (first last : SimState)
     (spared : SparedAlong loses at unit told first last)
-    → Goes P verdict plan unit.bank1 false → Wants at plan told (Ended end)
+    → Goes P verdict plan unit.bank1 None → IsInTurn None plan → Wants at plan told (Ended end)
     → (misses : ℕ) × (misses_in (told ++ older) ≡ misses + misses_in older)
     × Gone P verdict end at misses (losses_along at loses told first last spared.run) last
-gone loses P verdict end at plan unit told older first last spared way wants =
+gone loses P verdict end at plan unit told older first last spared way turn wants =
     let walk = ended_walk at plan told end wants in (
       misses_of at plan walk.0 told (Finish end) walk.1,
-      walk_misses at plan walk.0 told (Finish end) older walk.1,
-      goes loses P verdict end at plan walk.0 unit false told first last spared.run spared.keeps_power spared.alone
-          (λ on. cc) way spared.kind spared.few walk.1,
+      walk_misses at plan walk.0 told (Finish end) older walk.1 turn,
+      goes loses P verdict end at plan walk.0 unit None told first last spared.run spared.keeps_power spared.alone
+          (λ before is. cc) way spared.kind spared.few walk.1,
     )
 
 pub succeeds : (loses : ℕ → Type 0) (P : BankState → Type 0) (verdict end : Verdict) (at : ℕ) (plan : Plan)
     (unit : UnitState) (told : List Exchange) (first last : SimState)
     (spared : SparedAlong loses at unit told first last)
-    → Goes P verdict plan unit.bank1 false → Wants at plan told (Ended end)
+    → Goes P verdict plan unit.bank1 None → IsInTurn None plan → Wants at plan told (Ended end)
     → (end ≡ verdict) × MissesAlong loses at unit told first last spared
-succeeds loses P verdict end at plan unit told first last spared way wants =
+succeeds loses P verdict end at plan unit told first last spared way turn wants =
     let walk = ended_walk at plan told end wants in
     let all =
-    goes loses P verdict end at plan walk.0 unit false told first last spared.run spared.keeps_power spared.alone
-    (λ on. cc) way spared.kind spared.few walk.1 in
-    let count = walk_misses_in at plan walk.0 told (Finish end) walk.1 in
+    goes loses P verdict end at plan walk.0 unit None told first last spared.run spared.keeps_power spared.alone
+    (λ before is. cc) way spared.kind spared.few walk.1 in
+    let count = walk_misses_in at plan walk.0 told (Finish end) walk.1 turn in
     let few = all.few in
     (all.ends, omega arith)
 
@@ -300,23 +307,23 @@ lock_writable bank long = rw (lt-ltb 2 (length bank.bytes) long) refl
 
 -- a read of what the bank has
 pub read_goes : (P : BankState → Type 0) (verdict : Verdict) (block : Block) (failed : Plan) (found : List ℕ → Plan)
-    (bank : BankState) (on : Bool)
+    (bank : BankState) (last : Option ℕ)
     → HasFrom bank block.location block.count
-    → ((bytes : List ℕ) → HasBytes bank block bytes → Goes P verdict (found bytes) bank false)
-    → Goes P verdict (Make (ReadFrom block) (either_way failed found)) bank on
-read_goes P verdict block failed found bank on has rest = (
+    → ((bytes : List ℕ) → HasBytes bank block bytes → Goes P verdict (found bytes) bank None)
+    → Goes P verdict (Make (ReadFrom block) (either_way failed found)) bank last
+read_goes P verdict block failed found bank last has rest = (
   has,
-  λ new bytes read. subst (λ (b : BankState). Goes P verdict (found bytes) b false) (sym read.0) (rest bytes read.1),
+  λ new bytes read. subst (λ (b : BankState). Goes P verdict (found bytes) b None) (sym read.0) (rest bytes read.1),
 )
 
 -- a checked read of a location that it has
 pub at_goes : (P : BankState → Type 0) (verdict : Verdict) (location byte : ℕ) (failed : Plan) (found : ℕ → Plan)
-    (bank : BankState) (on : Bool)
-    → slice_get bank.bytes location ≡ Some byte → Goes P verdict (found byte) bank false
-    → Goes P verdict (read_at location failed found) bank on
-at_goes P verdict location byte failed found bank on is rest =
-    read_goes P verdict (block location 1) failed (λ read. found (get_or read 0 0)) bank on (here location byte is)
-    (λ read has. subst (λ (b : ℕ). Goes P verdict (found b) bank false) (same read has) rest)
+    (bank : BankState) (last : Option ℕ)
+    → slice_get bank.bytes location ≡ Some byte → Goes P verdict (found byte) bank None
+    → Goes P verdict (read_at location failed found) bank last
+at_goes P verdict location byte failed found bank last is rest =
+    read_goes P verdict (block location 1) failed (λ read. found (get_or read 0 0)) bank last (here location byte is)
+    (λ read has. subst (λ (b : ℕ). Goes P verdict (found b) bank None) (same read has) rest)
   where
     here : (location byte : ℕ) → slice_get bank.bytes location ≡ Some byte → HasFrom bank location 1
     here location byte is zero below = rw is refl
@@ -327,11 +334,11 @@ at_goes P verdict location byte failed found bank on is rest =
     same (first ∷ read) has = let both : Some byte ≡ Some first = sym is ∙ has.1 0 first refl in cc
 
 pub closing_goes : (bank : BankState) → 2 < length bank.bytes
-    → Goes (OnlyDiffers bank 2) Closed (close Closed NotClosed) bank false
+    → Goes (OnlyDiffers bank 2) Closed (close Closed NotClosed) bank None
 closing_goes bank long = (
   lock_writable bank long,
   λ new echo written.
-      at_goes (OnlyDiffers bank 2) Closed 2 0xFF (Finish NotClosed) (λ byte. Finish Closed) new true written.1
+      at_goes (OnlyDiffers bank 2) Closed 2 0xFF (Finish NotClosed) (λ byte. Finish Closed) new (Some 2) written.1
       (refl, written.0),
 )
 
@@ -342,7 +349,7 @@ pub closing_succeeds : (loses : ℕ → Type 0) (at : ℕ) (unit : UnitState) (v
 closing_succeeds loses at unit verdict told first last spared wants =
     let least = (spared_bank loses at unit _ _ verdict told first last spared wants).least in
     succeeds loses (OnlyDiffers unit.bank1 2) Closed verdict at (close Closed NotClosed) unit told first last spared
-    (closing_goes unit.bank1 (omega arith)) wants
+    (closing_goes unit.bank1 (omega arith)) (close_turn None Closed NotClosed) wants
 
 -- a fresh session
 
@@ -352,16 +359,16 @@ byte_there bytes location long = slice_get-get_or bytes location 0 long
 
 -- the short plan's read of the content format
 format_goes : (pace : Pace) (bank : BankState) → 0x12 < length bank.bytes
-    → Goes (λ now. now ≡ bank) (if has_format bank.bytes then MayOpen else Format) (read_format pace) bank false
+    → Goes (λ now. now ≡ bank) (if has_format bank.bytes then MayOpen else Format) (read_format pace) bank None
 format_goes Checked bank long =
-    at_goes (λ now. now ≡ bank) _ 0x11 (slice_index bank.bytes 0x11) (Finish Silent) read_format_low bank false
+    at_goes (λ now. now ≡ bank) _ 0x11 (slice_index bank.bytes 0x11) (Finish Silent) read_format_low bank None
     (byte_there bank.bytes 0x11 (omega arith))
     (at_goes (λ now. now ≡ bank) _ 0x12 (slice_index bank.bytes 0x12) (Finish Silent)
-    (judge_format (slice_index bank.bytes 0x11)) bank false
+    (judge_format (slice_index bank.bytes 0x11)) bank None
     (byte_there bank.bytes 0x12 long) (refl, refl))
 format_goes ShortPace bank long =
     read_goes (λ now. now ≡ bank) (if has_format bank.bytes then MayOpen else Format) (block 0x11 2) (Finish Silent)
-    (λ read. judge_format (get_or read 0 0) (get_or read 1 0)) bank false there (λ read has. by read has.0 has.1)
+    (λ read. judge_format (get_or read 0 0) (get_or read 1 0)) bank None there (λ read has. by read has.0 has.1)
   where
     there : HasFrom bank 0x11 2
     there zero below = rw (byte_there bank.bytes 0x11 (omega arith)) refl
@@ -372,7 +379,7 @@ format_goes ShortPace bank long =
         → ((index byte : ℕ) → slice_get read index ≡ Some byte
         → slice_get bank.bytes (moved_on 0x11 index) ≡ Some byte)
         → Goes (λ now. now ≡ bank) (if has_format bank.bytes then MayOpen else Format)
-        (judge_format (get_or read 0 0) (get_or read 1 0)) bank false
+        (judge_format (get_or read 0 0) (get_or read 1 0)) bank None
     by [] two each = absurd (omega arith)
     by (one ∷ []) two each = absurd (omega arith)
     by (one ∷ other ∷ more) two each =
@@ -385,11 +392,11 @@ format_goes ShortPace bank long =
         rw (high, low) (refl, refl)
 
 pub fresh_goes : (pace : Pace) (updates : List (ℕ × ℕ)) (bank : BankState) → IsBank bank.bytes
-    → Goes (λ now. now ≡ bank) (found_verdict bank.bytes updates) (read_length pace updates) bank false
+    → Goes (λ now. now ≡ bank) (found_verdict bank.bytes updates) (read_length pace updates) bank None
 fresh_goes pace updates bank is =
     let least = is.least in
     let last = is.last in
-    at_goes (λ now. now ≡ bank) _ 0 (slice_index bank.bytes 0) (Finish Silent) (judge_length pace updates) bank false
+    at_goes (λ now. now ≡ bank) _ 0 (slice_index bank.bytes 0) (Finish Silent) (judge_length pace updates) bank None
     (byte_there bank.bytes 0 (omega arith))
     (by (nat_lt (slice_index bank.bytes 0) (greatest updates)) (nat_lt (greatest updates) 0x13) refl refl)
   where
@@ -397,7 +404,7 @@ fresh_goes pace updates bank is =
         → nat_lt (greatest updates) 0x13 ≡ low
         → Goes (λ now. now ≡ bank)
         (if short then Short else (if low then MayOpen else (if has_format bank.bytes then MayOpen else Format)))
-        (if short then Finish Short else (if low then Finish MayOpen else read_format pace)) bank false
+        (if short then Finish Short else (if low then Finish MayOpen else read_format pace)) bank None
     by true low e f = (refl, refl)
     by false true e f = (refl, refl)
     by false false e f =
@@ -415,24 +422,25 @@ pub fresh_succeeds : (loses : ℕ → Type 0) (at : ℕ) (unit : UnitState) (pac
 fresh_succeeds loses at unit pace updates verdict told first last spared wants =
     succeeds loses (λ now. now ≡ unit.bank1) (found_verdict unit.bank1.bytes updates) verdict at
     (read_length pace updates) unit told first last spared
-    (fresh_goes pace updates unit.bank1 (spared_bank loses at unit _ _ verdict told first last spared wants)) wants
+    (fresh_goes pace updates unit.bank1 (spared_bank loses at unit _ _ verdict told first last spared wants))
+    (length_turn pace updates) wants
 
 -- a reading session
 
 read_on_goes : (location left : ℕ) (bank : BankState) → location + left ≤ length bank.bytes
-    → Goes (λ now. now ≡ bank) Read (read_on location left) bank false
+    → Goes (λ now. now ≡ bank) Read (read_on location left) bank None
 read_on_goes location zero bank few = (refl, refl)
 read_on_goes location (suc left) bank few =
     at_goes (λ now. now ≡ bank) Read location (slice_index bank.bytes location) (Finish Silent)
-    (λ byte. read_on (suc location) left) bank false (byte_there bank.bytes location (omega arith))
+    (λ byte. read_on (suc location) left) bank None (byte_there bank.bytes location (omega arith))
     (read_on_goes (suc location) left bank (omega arith))
 
-read_all_goes : (bank : BankState) → IsBank bank.bytes → Goes (λ now. now ≡ bank) Read read_all bank false
+read_all_goes : (bank : BankState) → IsBank bank.bytes → Goes (λ now. now ≡ bank) Read read_all bank None
 read_all_goes bank is =
     let least = is.least in
     let last = is.last in
     at_goes (λ now. now ≡ bank) Read 0 (slice_index bank.bytes 0) (Finish Silent)
-    (λ last. read_on 1 (min last 0xFE)) bank false (byte_there bank.bytes 0 (omega arith))
+    (λ last. read_on 1 (min last 0xFE)) bank None (byte_there bank.bytes 0 (omega arith))
     (read_on_goes 1 (min (slice_index bank.bytes 0) 0xFE) bank
     (omega (arith, min-le_left (slice_index bank.bytes 0) 0xFE)))
 
@@ -441,4 +449,4 @@ pub reading_succeeds : (loses : ℕ → Type 0) (at : ℕ) (unit : UnitState) (v
     → Wants at read_all told (Ended verdict) → (verdict ≡ Read) × MissesAlong loses at unit told first last spared
 reading_succeeds loses at unit verdict told first last spared wants =
     succeeds loses (λ now. now ≡ unit.bank1) Read verdict at read_all unit told first last spared
-    (read_all_goes unit.bank1 (spared_bank loses at unit _ _ verdict told first last spared wants)) wants
+    (read_all_goes unit.bank1 (spared_bank loses at unit _ _ verdict told first last spared wants)) read_all_turn wants

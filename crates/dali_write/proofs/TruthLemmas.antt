@@ -14,14 +14,15 @@ use Rattle.dali_bus.specs.Carry.{Carry, MayHear, Heard}
 use Rattle.dali_write.specs.Exchanges.{Exchange}
 use Rattle.dali_write.specs.Requests.{select_requests}
 use Rattle.dali_write.specs.Tries.{Trying}
-use Rattle.dali_write.specs.Worlds.{Shows, KeepsAt, Selects, OnlyEnabled, MayWrite}
+use Rattle.dali_write.specs.Worlds.{Shows, KeepsAt, Asked, Selects, OnlyEnabled, MayWrite}
 use Rattle.dali_write.specs.Worlds.{memory_at, Written}
 use Rattle.dali_write.proofs.GearLemmas.{asked1, asked0, carry_dtr1, carry_stays, IsQuiet, passing_keeps, end_steady}
 use Rattle.dali_write.proofs.GearLemmas.{dtr0_in, dtr1_in, IsOff, memory_of}
 use Rattle.dali_write.proofs.PowerLemmas.{drifts_have, drifts_keep, keeps_then, stays_keeps}
-use Rattle.dali_write.proofs.ShapeLemmas.{selected}
+use Rattle.dali_write.proofs.ShapeLemmas.{Got, selected, asked_moved, asked_set}
+use Rattle.dali_write.specs.declared.request.Wish.TheVariants.{Exactly}
 use Rattle.dali_write.proofs.AskedLemmas.{Sent}
-use Rattle.dali_write.proofs.RunLemmas.{Leads, Stays}
+use Rattle.dali_write.proofs.RunLemmas.{Leads, Drifts, Stays}
 use Rattle.dali_bus.specs.Carry.{WorldStep}
 
 -- a run in two parts
@@ -60,6 +61,51 @@ was_on : (old new : World) (frame : Frame) (answer : Option ℕ) (unit : ℕ) �
     → Carry old frame answer new → is_open (new unit) ≡ true → is_open (old unit) ≡ true
 was_on old new frame answer unit quiet carry on = grind (arith, is_open, carry_stays)
 
+-- the unit told that DTR0 is the location, and no frame came since
+asked_last : (loses : ℕ → Type 0) (unit location : ℕ) (old new last : World) (x : Exchange)
+    → HasBank (old unit) → Got x (AskDtr0 unit) (Exactly location) → Carry old x.frame x.answer new
+    → Drifts WorldStep loses new last → HasBank (last unit) × HasPlace location (last unit)
+asked_last loses unit location old new last x bank got carry drifts =
+    let c = carried old new x (AskDtr0 unit) (Some location) got.frame_is got.meets carry in
+    let bank_then : HasBank (new unit) = λ on.
+    carry_dtr1 old (AskDtr0 unit) (Some location) new tt c unit
+    ∙ bank (was_on old new (AskDtr0 unit) (Some location) unit tt c on) in
+    let place_then : HasPlace location (new unit) = λ has. asked0 old unit location new c in (
+      drifts_have HasBank off_bank unit new last drifts bank_then,
+      drifts_have (HasPlace location) (off_place location) unit new last drifts place_then,
+    )
+
+-- the unit told that DTR1 is 01h
+asked_first : (loses : ℕ → Type 0) (unit : ℕ) (old new last : World) (x : Exchange)
+    → Got x (AskDtr1 unit) (Exactly 1) → Carry old x.frame x.answer new → Drifts WorldStep loses new last
+    → HasBank (last unit)
+asked_first loses unit old new last x got carry drifts =
+    let one = asked1 old unit 1 new (carried old new x (AskDtr1 unit) (Some 1) got.frame_is got.meets carry) in
+    drifts_have HasBank off_bank unit new last drifts (λ on. one)
+
+-- where both registers were asked back, the unit has selected the location if it is enabled
+pub asked_run : (loses : ℕ → Type 0) (unit location : ℕ) (tried : List Exchange) (first last : World)
+    → Leads WorldStep loses tried first last → Asked unit location tried
+    → HasBank (last unit) × HasPlace location (last unit)
+asked_run loses unit location tried first last run (true, try) =
+    let s = asked_moved unit location tried try in
+    let r2 = subst (λ (t : List Exchange). Leads WorldStep loses t first last) s.is run in
+    let r1 = r2.2 in
+    asked_last loses unit location r2.0 r2.1 last s.x2
+    (asked_first loses unit r1.0 r1.1 r2.0 s.x1 s.got1 r1.3 r1.4) s.got2 r2.3 r2.4
+asked_run loses unit location tried first last run (false, try) =
+    let s = asked_set unit location tried try in
+    let r3 = subst (λ (t : List Exchange). Leads WorldStep loses t first last) s.is run in
+    let r2 = r3.2 in
+    let r1 = r2.2 in
+    let bank1 = asked_first loses unit r1.0 r1.1 r2.0 s.x1 s.got1 r1.3 r1.4 in
+    let c2 = carried_any r2.0 r2.1 s.x2 (Dtr0 location) s.got2.frame_is r2.3 in
+    let bank2 : HasBank (r2.1 unit) = λ on.
+    carry_dtr1 r2.0 (Dtr0 location) s.x2.answer r2.1 tt c2 unit
+    ∙ bank1 (was_on r2.0 r2.1 (Dtr0 location) s.x2.answer unit tt c2 on) in
+    asked_last loses unit location r3.0 r3.1 last s.x3 (drifts_have HasBank off_bank unit r2.1 r3.0 r2.4 bank2) s.got3
+    r3.3 r3.4
+
 -- after the four frames the unit has selected the location
 pub selects_run : (loses : ℕ → Type 0) (unit location : ℕ) (tried : List Exchange) (first last : World)
     → Leads WorldStep loses tried first last → Trying (select_requests unit location) tried []
@@ -69,22 +115,13 @@ selects_run loses unit location tried first last run try =
     let r4 = subst (λ (t : List Exchange). Leads WorldStep loses t first last) s.is run in
     let r3 = r4.2 in
     let r2 = r3.2 in
-    let one =
-    asked1 r2.0 unit 1 r2.1 (carried r2.0 r2.1 s.x2 (AskDtr1 unit) (Some 1) s.got2.frame_is s.got2.meets r2.3) in
-    let bank2 : HasBank (r3.0 unit) = drifts_have HasBank off_bank unit r2.1 r3.0 r2.4 (λ on. one) in
+    let bank2 = asked_first loses unit r2.0 r2.1 r3.0 s.x2 s.got2 r2.3 r2.4 in
     let c3 = carried_any r3.0 r3.1 s.x3 (Dtr0 location) s.got3.frame_is r3.3 in
     let bank3 : HasBank (r3.1 unit) = λ on.
     carry_dtr1 r3.0 (Dtr0 location) s.x3.answer r3.1 tt c3 unit
     ∙ bank2 (was_on r3.0 r3.1 (Dtr0 location) s.x3.answer unit tt c3 on) in
-    let later3 : HasBank (r4.0 unit) = drifts_have HasBank off_bank unit r3.1 r4.0 r3.4 bank3 in
-    let c4 = carried r4.0 r4.1 s.x4 (AskDtr0 unit) (Some location) s.got4.frame_is s.got4.meets r4.3 in
-    let bank4 : HasBank (r4.1 unit) = λ on.
-    carry_dtr1 r4.0 (AskDtr0 unit) (Some location) r4.1 tt c4 unit
-    ∙ later3 (was_on r4.0 r4.1 (AskDtr0 unit) (Some location) unit tt c4 on) in
-    let place4 : HasPlace location (r4.1 unit) = λ bank. asked0 r4.0 unit location r4.1 c4 in (
-      drifts_have HasBank off_bank unit r4.1 last r4.4 bank4,
-      drifts_have (HasPlace location) (off_place location) unit r4.1 last r4.4 place4,
-    )
+    asked_last loses unit location r4.0 r4.1 last s.x4 (drifts_have HasBank off_bank unit r3.1 r4.0 r3.4 bank3) s.got4
+    r4.3 r4.4
 
 -- what an answered read tells of a unit that has bank 1 selected
 abbrev IsRead : Gear → ℕ → Gear → Type 0
@@ -161,13 +198,20 @@ off_not_on : (world : World) (address : ℕ) (gear : Gear) → world address ≡
     → IsOff (world address) → ⊥
 off_not_on world address gear is on off = let e : gear.enabled ≡ false = rw is at off in cc
 
+stands_selected : (location : ℕ) (gear : Gear) (seen : Option Gear) → seen ≡ Some gear → gear.enabled ≡ true
+    → HasBank seen → HasPlace location seen → (gear.dtr0 ≡ location) × (gear.dtr1 ≡ 1)
+stands_selected location gear seen is on bank place = grind (arith, is_open, dtr1_in, dtr0_in)
+
 -- a unit that is enabled after it was made sure to have selected the location has it selected
 selected_after : (loses : ℕ → Type 0) (told : List Exchange) (first before : World) (unit location : ℕ) (gear : Gear)
     → Leads WorldStep loses told first before → Selects unit location told → before unit ≡ Some gear
     → gear.enabled ≡ true
     → (gear.dtr0 ≡ location) × (gear.dtr1 ≡ 1)
 selected_after loses told first before unit location gear run selects is on =
-    grind (arith, split, selects_run, is_open, dtr1_in, dtr0_in)
+    let r = split loses selects.0 selects.1 first before
+    (subst (λ (t : List Exchange). Leads WorldStep loses t first before) selects.2 run) in
+    let has = asked_run loses unit location selects.0 r.0 before r.2 selects.3 in
+    stands_selected location gear (before unit) is on has.0 has.1
 
 -- the unit that answered is the only one that can be enabled
 answer_here : (loses : ℕ → Type 0) (told : List Exchange) (first before : World) (unit location byte v : ℕ)

@@ -1,13 +1,13 @@
 -- The whole accesses of a session, the oldest first.
-use Rattle.std.proofs.Common.{◌≡◌, refl, sym, subst, ◌∙◌, ℕ, List, [], ◌∷◌, ◌++◌, append_assoc, append-nil, Option}
-use Rattle.std.proofs.Common.{arith}
+use Rattle.std.proofs.Common.{◌≡◌, ◌⊎◌, inl, inr, refl, sym, subst, ◌∙◌, ℕ, List, [], ◌∷◌, ◌++◌, append_assoc, append-nil, Option}
+use Rattle.std.proofs.Common.{Some, arith}
 use Rattle.std.proofs.lemmas.List.{nil_from_length}
 use Rattle.dali_write.specs.Exchanges.{Exchange}
 use Rattle.dali_write.specs.declared.request.Request.{Request}
 use Rattle.dali_write.specs.declared.ask.Verdict.{Verdict}
 use Rattle.dali_write.specs.declared.ask.Ask.TheVariants.{Ended}
 use Rattle.dali_write.specs.Plans.{Plan, Finish, Make, next_plan, plan_after}
-use Rattle.dali_write.specs.Tries.{Trying, Misses, AccessEnds, AccessesEnd, Stands, Wants}
+use Rattle.dali_write.specs.Tries.{Trying, Misses, Succeeds, Fails, AccessEnds, AccessesEnd, Stands, Wants}
 use Rattle.dali_write.proofs.AskLemmas.{shown_ask, ask_shown}
 use Rattle.dali_write.specs.Walks.{Walk}
 use Rattle.dali_write.proofs.ShapeLemmas.{trying_length}
@@ -75,3 +75,9 @@ pub ended_walk : (unit : ℕ) (plan : Plan) (told : List Exchange) (verdict : Ve
 ended_walk unit plan told verdict w =
     ended_at unit plan w.outcomes told w.now w.misses w.left w.bytes verdict w.stands
     (ask_shown w.now w.left w.stands.going ∙ w.ask_is)
+
+-- a read with an outcome succeeded
+pub was_answered : (requests : ℕ → List Request) (bytes : List ℕ) (told : List Exchange)
+    → Succeeds requests (Some bytes) told ⊎ Fails requests (Some bytes) told → Succeeds requests (Some bytes) told
+was_answered requests bytes told (inl done) = done
+was_answered requests bytes told (inr failed) = let never = failed.0 in cc

@@ -14,7 +14,7 @@ use Rattle.dali_write.specs.Requests.{request, read_requests}
 use Rattle.dali_write.specs.Plans.{Plan, Finish, next_plan, plan_after, expect, give_up}
 use Rattle.dali_write.specs.Tries.{Trying, Missed, AccessEnds, AccessesEnd, Wants}
 use Rattle.dali_write.specs.Walks.{Walk}
-use Rattle.dali_write.specs.Misses.{is_missed, misses_in, IsLong}
+use Rattle.dali_write.specs.Misses.{is_missed, misses_in, others_in, IsLong}
 use Rattle.dali_write.specs.Losses.{losses, Unrefused, IsAlone}
 use Rattle.dali_write.specs.Successes.{MayStoreAt, HasBank, Spared, MissesByLosses}
 use Rattle.dali_write.specs.Doubts.{EndsUnread, EndsUnlooked, FoundAnother}
@@ -41,7 +41,7 @@ wished_met = refl
 pub nothing_wished : is_missed Nothing None ≡ false
 nothing_wished = refl
 
--- with one miss at most the frames of one try more, by the short plan those of a row of sixteen
+-- with one miss at most the frames of one try more, by the short plan those of a row of sixteen and six
 pub miss_length : (n : ℕ) → length (after_a_miss n) ≡ 1 + n
 miss_length zero = refl
 miss_length (suc n) = let rest = miss_length n in omega arith
@@ -50,16 +50,20 @@ pub one_miss : (n : ℕ) → misses_in (after_a_miss n) ≡ 1
 one_miss zero = refl
 one_miss (suc n) = let rest = one_miss n in omega arith
 
-pub long_within : (n : ℕ) → IsLong Checked 12 (after_a_miss n) → (11 ≤ n) × (n ≤ 18)
+no_other : (n : ℕ) → others_in [] (after_a_miss n) ≡ 0
+no_other zero = refl
+no_other (suc n) = let rest = no_other n in omega arith
+
+pub long_within : (n : ℕ) → IsLong Checked [] 12 (after_a_miss n) → (11 ≤ n) × (n ≤ 18)
 long_within n long = grind (arith, miss_length n, one_miss n)
 
-pub long_enough : (n : ℕ) → (11 ≤ n) × (n ≤ 18) → IsLong Checked 12 (after_a_miss n)
+pub long_enough : (n : ℕ) → (11 ≤ n) × (n ≤ 18) → IsLong Checked [] 12 (after_a_miss n)
 long_enough n (least, most) = let all = miss_length n in let one = one_miss n in (omega arith, omega arith)
 
-pub short_within : (n : ℕ) → IsLong ShortPace 12 (after_a_miss n) → (11 ≤ n) × (n ≤ 33)
-short_within n long = grind (arith, miss_length n, one_miss n)
+pub short_within : (n : ℕ) → IsLong ShortPace [] 12 (after_a_miss n) → (11 ≤ n) × (n ≤ 39)
+short_within n long = grind (arith, miss_length n, one_miss n, no_other n)
 
-pub short_enough : (n : ℕ) → (11 ≤ n) × (n ≤ 33) → IsLong ShortPace 12 (after_a_miss n)
+pub short_enough : (n : ℕ) → (11 ≤ n) × (n ≤ 39) → IsLong ShortPace [] 12 (after_a_miss n)
 short_enough n (least, most) = let all = miss_length n in let one = one_miss n in (omega arith, omega arith)
 
 -- the locations that are taken
@@ -203,13 +207,13 @@ pub found_doubts : (unit : ℕ) (plan : Plan) (expected : List (ℕ × List ℕ)
     → FoundAnother unit plan expected told → Wants unit plan told (Ended Doubt)
 found_doubts unit plan expected told f =
     let differs = others f.found f.bytes f.another in
-    let goes : next_plan (expect f.location f.bytes f.after) (Some f.found) ≡ give_up = rw differs refl in
+    let goes : next_plan (expect give_up f.location f.bytes f.after) (Some f.found) ≡ give_up = rw differs refl in
     let gave = subst (λ (p : Plan). Walk unit p f.later f.newer (Finish Doubt)) (sym goes) f.gave_up in
-    let later : Walk unit (expect f.location f.bytes f.after) (Some f.found ∷ f.later) (f.newer ++ f.read)
+    let later : Walk unit (expect give_up f.location f.bytes f.after) (Some f.found ∷ f.later) (f.newer ++ f.read)
     (Finish Doubt) =
     (f.newer, f.read, refl, inl f.answered, gave) in
     let all =
-    walk_then unit plan (expect f.location f.bytes f.after) (Finish Doubt) f.before
+    walk_then unit plan (expect give_up f.location f.bytes f.after) (Finish Doubt) f.before
     (Some f.found ∷ f.later) f.older
     (f.newer ++ f.read) f.came later in
     walk_wants unit plan Doubt all.0 told (subst (λ (t : List Exchange). Walk unit plan all.0 t (Finish Doubt))

@@ -1,6 +1,6 @@
--- Why a session came to no good end: its first access that failed, or behind which it gave up, since another byte was
--- read back.
-use Rattle.std.specs.Prelude.{◌≡◌, ◌≢◌, ℕ, Bool, true, false, ◌==◌, List, [], ◌∷◌, ◌++◌, length, slice_get, Option, Some}
+-- Why a session came to no good end: its first access that failed and wasn't read again, or behind which it gave up,
+-- since another byte was read back.
+use Rattle.std.specs.Prelude.{◌≡◌, ◌≢◌, ◌≤◌, ℕ, Bool, true, false, ◌==◌, List, [], ◌∷◌, ◌++◌, length, slice_get, Option, Some}
 use Rattle.std.specs.Prelude.{None, if◌then◌else◌}
 use Rattle.dali_bus.specs.Hears.{up}
 use Rattle.dali_write.specs.declared.access.Access.{Access}
@@ -10,7 +10,7 @@ use Rattle.dali_write.specs.declared.ask.Cause.TheVariants.{Unread, Unwritten, A
 use Rattle.dali_write.specs.declared.block.Block.{Block}
 use Rattle.dali_write.specs.Exchanges.{Exchange}
 use Rattle.dali_write.specs.Requests.{access_requests, moved_on}
-use Rattle.dali_write.specs.Plans.{Plan, Make, plan_after, read_backs}
+use Rattle.dali_write.specs.Plans.{Plan, Make, plan_after, read_backs, most_once}
 use Rattle.dali_write.specs.Tries.{Succeeds}
 use Rattle.dali_write.specs.Doubts.{HasFailed}
 use Rattle.dali_write.specs.Touches.{Has}
@@ -19,7 +19,7 @@ use Rattle.dali_write.specs.Touches.{Has}
 abbrev pub failure : Access → Cause
 failure (ReadFrom block) = Unread block.location
 failure (WriteTo location byte) = Unwritten location
-failure (WriteOn location byte) = Unwritten location
+failure (WriteOn before location byte) = Unwritten location
 
 -- the byte is the one that has to be there
 abbrev pub is_wanted : List (ℕ × ℕ) → ℕ → ℕ → Bool
@@ -37,11 +37,19 @@ another wanted location (byte ∷ next ∷ bytes) =
 -- behind a read the session goes on by a write only where it gives up
 abbrev pub is_write : Plan → Bool
 is_write (Make (WriteTo location byte) after) = true
-is_write (Make (WriteOn location byte) after) = true
+is_write (Make (WriteOn before location byte) after) = true
 is_write plan = false
 
+-- and behind a read that failed by a read only where it reads the row again
+abbrev pub is_read : Plan → Bool
+is_read (Make (ReadFrom block) after) = true
+is_read plan = false
+
 abbrev pub cause_by : List (ℕ × ℕ) → Plan → Option (List ℕ) → Option Cause
-cause_by updates (Make access after) None = Some (failure access)
+cause_by updates (Make (ReadFrom block) after) None =
+    if is_read (after None) then None else Some (failure (ReadFrom block))
+cause_by updates (Make (WriteTo location byte) after) None = Some (failure (WriteTo location byte))
+cause_by updates (Make (WriteOn before location byte) after) None = Some (failure (WriteOn before location byte))
 cause_by updates (Make (ReadFrom block) after) (Some bytes) =
     if is_write (after (Some bytes)) then Some (another (read_backs updates) block.location bytes) else None
 cause_by updates plan outcome = None
@@ -69,13 +77,14 @@ pub record IsFirstOther (wanted : List (ℕ × ℕ)) (block : Block) (bytes : Li
   pub as_wanted : (index own : ℕ) → slice_get before index ≡ Some own → Has wanted (moved_on block.location index) own
   pub other : (own : ℕ) × Has wanted location own × (byte ≢ own)
 
--- a block was read that has such a byte
+-- a block was read that isn't read again and has such a byte
 pub record ReadAnother (unit : ℕ) (updates : List (ℕ × ℕ)) (told : List Exchange) (location byte : ℕ) : Type 0 where
   pub newer : List Exchange
   pub read : List Exchange
   pub older : List Exchange
   pub parts : told ≡ newer ++ (read ++ older)
   pub block : Block
+  pub few : block.count ≤ most_once
   pub bytes : List ℕ
   pub answered : Succeeds (access_requests unit (ReadFrom block)) (Some bytes) read
   pub first : IsFirstOther (read_backs updates) block bytes location byte

@@ -4,6 +4,7 @@ use Rattle.std.specs.Prelude.{◌∷◌, length, slice_get, if◌then◌else◌}
 use Rattle.std.specs.List.{list_any, AllByRecursion}
 use Rattle.dali_frame.specs.declared.forward.Frame.{Frame}
 use Rattle.dali_bus.specs.Carry.{BusEvent, Carried, Powered}
+use Rattle.dali_bus.specs.Hears.{up}
 use Rattle.dali_gear.specs.declared.fate.Fate.{Fate}
 use Rattle.dali_gear.specs.Fate.{is_lost, next_fate}
 use Rattle.dali_gear.specs.UnitState.{BankState, UnitState, is_writable}
@@ -52,11 +53,15 @@ IsAlone address unit (first ∷ units) =
 abbrev pub HasFrom : BankState → ℕ → ℕ → Type 0
 HasFrom bank location count = (index : ℕ) → index < count → IsSome (slice_get bank.bytes (moved_on location index))
 
--- the unit has the locations to read, or can write the one and is enabled where it is taken to be
+-- the unit is as a write to this location leaves it: enabled, and with the next location of bank 1 selected
+abbrev pub StandsBehind : ℕ → UnitState → Type 0
+StandsBehind location unit = (unit.enabled ≡ true) × (unit.dtr1 ≡ 1) × (unit.dtr0 ≡ up location)
+
+-- the unit has the locations to read, or can write the one and is behind a write where it is taken to be
 abbrev pub CanDo : Access → UnitState → Type 0
 CanDo (ReadFrom block) unit = HasFrom unit.bank1 block.location block.count
 CanDo (WriteTo location byte) unit = IsTrue (is_writable unit.bank1 location)
-CanDo (WriteOn location byte) unit = IsTrue (is_writable unit.bank1 location) × (unit.enabled ≡ true)
+CanDo (WriteOn before location byte) unit = IsTrue (is_writable unit.bank1 location) × StandsBehind before unit
 
 -- the banks are the same but for the byte at this location
 pub record OnlyDiffers (old : BankState) (location : ℕ) (new : BankState) : Type 0 where

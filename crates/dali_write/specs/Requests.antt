@@ -1,5 +1,6 @@
 -- The frames of a read of a block and of a checked write, each with the answer that it wants.
-use Rattle.std.specs.Prelude.{◌≡◌, ℕ, zero, suc, List, [], ◌∷◌, ◌++◌, replicate, Option, Some, IsSome, ⊤}
+use Rattle.std.specs.Prelude.{◌≡◌, ℕ, zero, suc, Bool, true, false, ◌==◌, List, [], ◌∷◌, ◌++◌, replicate, Option, Some}
+use Rattle.std.specs.Prelude.{IsSome, ⊤}
 use Rattle.std.specs.Option.{option_to_list}
 use Rattle.dali_frame.specs.declared.forward.Frame.{Frame}
 use Rattle.dali_frame.specs.declared.forward.Frame.TheVariants.{Dtr0, Dtr1, Write, Enable, AskDtr0, AskDtr1, Read}
@@ -20,11 +21,18 @@ Meets Anything answer = IsSome answer
 abbrev pub request : Frame → Wish → Request
 request frame wish = record { frame = frame; wish = wish }
 
+-- DTR0 is the location: it has moved there by itself, or it is set first
+abbrev pub place_requests : Bool → ℕ → ℕ → List Request
+place_requests true unit location = request (AskDtr0 unit) (Exactly location) ∷ []
+place_requests false unit location = request (Dtr0 location) Nothing ∷ request (AskDtr0 unit) (Exactly location) ∷ []
+
+-- the unit tells that DTR1 is 01h, and then that DTR0 is the location
+abbrev pub asked_requests : Bool → ℕ → ℕ → List Request
+asked_requests moved unit location = request (AskDtr1 unit) (Exactly 1) ∷ place_requests moved unit location
+
 -- select a location of bank 1 at the unit, and make sure of it
 abbrev pub select_requests : ℕ → ℕ → List Request
-select_requests unit location =
-    request (Dtr1 1) Nothing ∷ request (AskDtr1 unit) (Exactly 1)
-    ∷ request (Dtr0 location) Nothing ∷ request (AskDtr0 unit) (Exactly location) ∷ []
+select_requests unit location = request (Dtr1 1) Nothing ∷ asked_requests false unit location
 
 -- so many locations from this one on
 abbrev pub block : ℕ → ℕ → Block
@@ -50,22 +58,24 @@ block_requests unit block =
 abbrev pub read_requests : ℕ → ℕ → List Request
 read_requests unit location = block_requests unit (block location 1)
 
--- a write of the byte to the location, at a unit that is enabled
-abbrev pub put_requests : ℕ → ℕ → ℕ → List Request
-put_requests unit location byte = select_requests unit location ++ request (Write byte) (Exactly byte) ∷ []
+-- a write of the byte to the location, at a unit that is enabled and has bank 1 selected
+abbrev pub put_requests : Bool → ℕ → ℕ → ℕ → List Request
+put_requests moved unit location byte =
+    asked_requests moved unit location ++ request (Write byte) (Exactly byte) ∷ []
 
 -- a checked write of the byte to the location
 abbrev pub write_requests : ℕ → ℕ → ℕ → List Request
 write_requests unit location byte =
-    request (Enable unit) Nothing ∷ request (Enable unit) Nothing ∷ put_requests unit location byte
+    request (Enable unit) Nothing ∷ request (Enable unit) Nothing ∷ request (Dtr1 1) Nothing
+    ∷ put_requests false unit location byte
 
--- The frames of a try of an access behind so many that missed. A write to a unit that an earlier write has enabled
--- enables it anew behind a miss alone.
+-- The frames of a try of an access behind so many that missed. A write just behind one to another location takes the
+-- unit as that one left it, enabled and with DTR0 one further; behind a miss it is a checked write.
 abbrev pub access_requests : ℕ → Access → ℕ → List Request
 access_requests unit (ReadFrom block) misses = block_requests unit block
 access_requests unit (WriteTo location byte) misses = write_requests unit location byte
-access_requests unit (WriteOn location byte) zero = put_requests unit location byte
-access_requests unit (WriteOn location byte) (suc misses) = write_requests unit location byte
+access_requests unit (WriteOn before location byte) zero = put_requests (up before == location) unit location byte
+access_requests unit (WriteOn before location byte) (suc misses) = write_requests unit location byte
 
 -- the same frames in each try
 abbrev pub each_try : List Request → ℕ → List Request

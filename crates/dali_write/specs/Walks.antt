@@ -6,7 +6,7 @@ use Rattle.dali_write.specs.declared.ask.Verdict.{Verdict}
 use Rattle.dali_write.specs.declared.ask.Verdict.TheVariants.{Read}
 use Rattle.dali_write.specs.declared.pace.Pace.{Pace}
 use Rattle.dali_write.specs.declared.pace.Pace.TheVariants.{Checked}
-use Rattle.dali_write.specs.Frames.{try_frames}
+use Rattle.dali_write.specs.Frames.{miss_frames, other_frames}
 use Rattle.dali_write.specs.Counts.{read_all_frames}
 use Rattle.dali_write.specs.Plans.{Plan, Finish, Make, next_plan, read_all}
 use Rattle.dali_write.specs.Tries.{most_tries, AccessEnds}
@@ -31,19 +31,20 @@ misses_of unit plan [] told end walk = 0
 misses_of unit plan (outcome ∷ outcomes) told end walk =
     access_misses unit plan outcome walk.1 walk.3 + misses_of unit (next_plan plan outcome) outcomes walk.0 end walk.4
 
--- The plan ended so. It took this many frames where no try missed, and for each that did at most the frames of a try
--- more.
-pub record Took (pace : Pace) (unit : ℕ) (plan : Plan) (told : List Exchange) (verdict : Verdict) (frames : ℕ) : Type 0
-  where
-    pub outcomes : List (Option (List ℕ))
-    pub walk : Walk unit plan outcomes told (Finish verdict)
-    pub more : ℕ
-    pub took : length told ≡ frames + more
-    pub few : more ≤ try_frames pace * misses_of unit plan outcomes told (Finish verdict) walk
+-- The plan ended so. It took this many frames where no try missed, for each that did at most what a miss may take, and
+-- for each of so many rows that told another byte what such a row may take.
+pub record Took (pace : Pace) (unit : ℕ) (plan : Plan) (told : List Exchange) (verdict : Verdict) (frames others : ℕ)
+    : Type 0 where
+  pub outcomes : List (Option (List ℕ))
+  pub walk : Walk unit plan outcomes told (Finish verdict)
+  pub more : ℕ
+  pub took : length told ≡ frames + more
+  pub few :
+      more ≤ miss_frames pace * misses_of unit plan outcomes told (Finish verdict) walk + other_frames pace * others
 
 -- A reading session ended so. The byte that it read first, at 00h, says how many frames it took.
 pub record TookAll (unit : ℕ) (told : List Exchange) : Type 0 where
   pub last : ℕ
-  pub took : Took Checked unit read_all told Read (read_all_frames last)
+  pub took : Took Checked unit read_all told Read (read_all_frames last) 0
   pub rest : List (Option (List ℕ))
   pub first : took.outcomes ≡ Some (last ∷ []) ∷ rest

@@ -1,4 +1,4 @@
-ghost use Rattle.std.specs.Prelude.{◌≡◌, ◌≤◌, slice_get, IfSome, All};
+ghost use Rattle.std.specs.Prelude.{◌≡◌, ◌≤◌, slice_get, IfSome, All, true, false};
 ghost use Rattle.dali_frame.specs.Frame.{IsProper};
 ghost use Rattle.dali_write.specs.Requests.{select_requests, put_requests, write_requests};
 ghost use Rattle.dali_write.specs.Requests.{access_requests};
@@ -7,6 +7,7 @@ ghost use Rattle.dali_write.specs.Causes.{failure};
 use crate::ask::Cause;
 use crate::block::Block;
 use crate::request::{Request, Wish};
+use crate::row::next_to;
 use dali_frame::Frame;
 
 /// An access to bank 1: a read of a block, or a checked write of a byte to a location.
@@ -14,8 +15,8 @@ use dali_frame::Frame;
 pub(crate) enum Access {
     ReadFrom(Block),
     WriteTo(u8, u8),
-    /// To a unit that an earlier write has enabled: it is enabled anew behind a miss alone.
-    WriteOn(u8, u8),
+    /// To the second location, just behind a write to the first: its first try takes the unit as that one left it.
+    WriteOn(u8, u8, u8),
 }
 
 impl Access {
@@ -25,7 +26,7 @@ impl Access {
     {
         match self {
             Access::ReadFrom(block) => Cause::Unread(block.location),
-            Access::WriteTo(location, _) | Access::WriteOn(location, _) => Cause::Unwritten(
+            Access::WriteTo(location, _) | Access::WriteOn(_, location, _) => Cause::Unwritten(
                 location,
             ),
         }
@@ -38,10 +39,14 @@ impl Access {
     {
         match self {
             Access::ReadFrom(block) => block.request(unit, number),
-            Access::WriteOn(location, byte) if misses == 0 => {
-                put(unit, location, byte).get(number).copied()
+            Access::WriteOn(before, location, byte) if misses == 0 => {
+                if next_to(before) == location {
+                    put_on(unit, location, byte).get(number).copied()
+                } else {
+                    put(unit, location, byte).get(number).copied()
+                }
             }
-            Access::WriteTo(location, byte) | Access::WriteOn(location, byte) => {
+            Access::WriteTo(location, byte) | Access::WriteOn(_, location, byte) => {
                 checked_write(unit, location, byte).get(number).copied()
             }
         }
@@ -64,14 +69,23 @@ pub fn selection(unit: u8, location: u8) -> [Request; 4]
     ]
 }
 
-// The frames of a write at a unit that is enabled.
-fn put(unit: u8, location: u8, byte: u8) -> [Request; 5]
-    ensures requests { result ≡ put_requests unit location byte }
+// The frames of a write at a unit that is enabled and has bank 1 selected.
+fn put(unit: u8, location: u8, byte: u8) -> [Request; 4]
+    ensures requests { result ≡ put_requests false unit location byte }
     ensures proper { unit ≤ 63 → All (λ request. IsProper request.frame) result }
 {
-    let [bank, bank_back, place, place_back] = selection(unit, location);
+    let [_, bank_back, place, place_back] = selection(unit, location);
     let write = request(Frame::Write(byte), Wish::Exactly(byte));
-    [bank, bank_back, place, place_back, write]
+    [bank_back, place, place_back, write]
+}
+
+// The same where DTR0 has moved to the location by itself.
+fn put_on(unit: u8, location: u8, byte: u8) -> [Request; 3]
+    ensures requests { result ≡ put_requests true unit location byte }
+    ensures proper { unit ≤ 63 → All (λ request. IsProper request.frame) result }
+{
+    let [bank_back, _, place_back, write] = put(unit, location, byte);
+    [bank_back, place_back, write]
 }
 
 // The frames of a checked write.
@@ -80,7 +94,8 @@ fn checked_write(unit: u8, location: u8, byte: u8) -> [Request; 7]
     ensures proper { unit ≤ 63 → All (λ request. IsProper request.frame) result }
 {
     let enable = request(Frame::Enable(unit), Wish::Nothing);
-    let [bank, bank_back, place, place_back, write] = put(unit, location, byte);
+    let bank = request(Frame::Dtr1(1), Wish::Nothing);
+    let [bank_back, place, place_back, write] = put(unit, location, byte);
     [enable, enable, bank, bank_back, place, place_back, write]
 }
 

@@ -28,7 +28,8 @@ pub enum Verdict {
     Read,
 }
 
-/// Why a session came to no good end (profile): its first access that failed, or that read another byte back.
+/// Why a session came to no good end (profile): its first access that failed and wasn't read again in smaller rows, or
+/// that read another byte back.
 #[derive(Clone, Copy, PartialEq, Eq)]
 pub enum Cause {
     /// Each try of a read missed: of the location, or of the row of locations that begins there.

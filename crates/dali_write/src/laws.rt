@@ -1,6 +1,6 @@
 //! Laws of checked accesses and sessions. Each is the contract of a function that does nothing.
 ghost use Rattle.std.specs.Prelude.{◌↔◌, ◌≡◌, ◌≢◌, ◌∷◌, ◌≤◌, ◌<◌, ◌⊎◌, ◌+◌, ◌*◌, List, [], length, slice_get, Some, ℕ};
-ghost use Rattle.std.specs.Prelude.{Option, IsSome, false};
+ghost use Rattle.std.specs.Prelude.{Option, None, IsSome, false};
 ghost use Rattle.dali_write.specs.Found.{ReadsSoFar, IsCause, keeps};
 ghost use Rattle.dali_write.specs.Causes.{IsShown};
 ghost use Rattle.dali_write.specs.declared.ask.Cause.{Cause};
@@ -14,7 +14,7 @@ ghost use Rattle.dali_write.specs.Exchanges.{Exchange};
 ghost use Rattle.dali_write.specs.declared.session.Session.{Session};
 ghost use Rattle.dali_write.specs.declared.ask.Verdict.{Verdict};
 ghost use Rattle.dali_write.specs.Plans.{Plan, greatest, unlock, close, read_length, read_all, read_block};
-ghost use Rattle.dali_write.specs.Plans.{rows_of, most_of, read_backs, write_next};
+ghost use Rattle.dali_write.specs.Plans.{rows_of, most_of, read_backs, all_rows, write_next, IsInTurn};
 ghost use Rattle.dali_write.specs.declared.pace.Pace.{Pace};
 ghost use Rattle.dali_write.specs.Tries.{Wants};
 ghost use Rattle.dali_write.specs.Verdicts.{Says, ShowsBank, EndsFresh, EndsOpened, EndsClosing, EndsReading};
@@ -22,8 +22,8 @@ ghost use Rattle.dali_write.specs.declared.stage.Task.{Task};
 ghost use Rattle.dali_write.specs.Stages.{plan_of, updates_for};
 ghost use Rattle.dali_write.specs.Told.{Told, unit_of, task_of, bytes_read, cause_of, aim_of, IsReadingBlock};
 ghost use Rattle.dali_write.specs.Told.{IsFresh, IsOpened};
-ghost use Rattle.dali_write.specs.Frames.{read_frames, write_frames, format_frames, try_frames};
-ghost use Rattle.dali_write.specs.Counts.{done_frames, frame_limit};
+ghost use Rattle.dali_write.specs.Frames.{read_frames, write_frames, format_frames, miss_frames, other_frames};
+ghost use Rattle.dali_write.specs.Counts.{done_frames, frame_limit, jumps};
 ghost use Rattle.dali_gear.specs.SimState.{SimState, SimStep, AreApart, world_of};
 ghost use Rattle.dali_gear.specs.UnitState.{UnitState, gear_of};
 ghost use Rattle.dali_write.specs.declared.access.Access.{Access};
@@ -31,10 +31,10 @@ ghost use Rattle.dali_write.specs.declared.access.Access.TheVariants.{ReadFrom};
 ghost use Rattle.dali_write.specs.Requests.{block_requests, access_requests, each_try};
 ghost use Rattle.dali_write.specs.Tries.{most_tries, Missed, Misses, Succeeds, Fails};
 ghost use Rattle.dali_write.specs.Walks.{Walk, misses_of, Took, TookAll};
-ghost use Rattle.dali_write.specs.Misses.{misses_in};
+ghost use Rattle.dali_write.specs.Misses.{misses_in, others_in};
 ghost use Rattle.dali_write.specs.Successes.{TakesAll, found_verdict, Spared, MissesByLosses};
 ghost use Rattle.dali_bank.specs.Order.{Contents, AreUpdates, RisesAbove};
-ghost use Rattle.dali_write.specs.Doubts.{EndsUnread, EndsUnlooked, HasFailed, FoundAnother};
+ghost use Rattle.dali_write.specs.Doubts.{EndsUnread, EndsUnlooked, HasFailed, FailedForGood, FoundAnother};
 ghost use Rattle.dali_write.specs.Losses.{losses, Unrefused, IsAlone, CanDo, OnlyDiffers};
 ghost use Rattle.dali_write.specs.Touches.{Touches, writes_of};
 ghost use Rattle.dali_write.specs.Findings.{Rests};
@@ -260,17 +260,21 @@ pub fn counts_are_these()
     ensures reading { frame_limit Task.Reading ≡ 14280 }
     ensures done { (updates : List (ℕ × ℕ)) → done_frames Pace.Checked updates ≡ 14 * length updates + 21 }
     ensures done_short { (updates : List (ℕ × ℕ))
-        → done_frames Pace.Short updates ≡ 6 * length updates + 6 * length (rows_of 16 (read_backs updates)) + 13 }
+        → done_frames Pace.Short updates
+        ≡ 4 * length updates + jumps 2 updates + 6 * length (rows_of 16 (read_backs updates)) + 11 }
     ensures frames { (read_frames ≡ 7) × (write_frames ≡ 7) }
     ensures format { (format_frames Pace.Checked ≡ 14) × (format_frames Pace.Short ≡ 8) }
-    ensures misses { (try_frames Pace.Checked ≡ 7) × (try_frames Pace.Short ≡ 22) }
+    ensures misses { (miss_frames Pace.Checked ≡ 7) × (miss_frames Pace.Short ≡ 28) }
+    ensures others { (other_frames Pace.Checked ≡ 0) × (other_frames Pace.Short ≡ 64) }
 {}
 
-/// How many frames an opened session took that ended Done.
+/// How many frames an opened session took that ended Done. For each byte that was told and isn't the one that has to be
+/// there it may have read a row again.
 pub fn done_sessions_take_exactly()
     ensures { (told : List Exchange) (unit : ℕ) (pace : Pace) (updates : List (ℕ × ℕ))
         → Wants unit (unlock pace updates) told (Ask.Ended Verdict.Done)
-        → Took pace unit (unlock pace updates) told Verdict.Done (done_frames pace updates) }
+        → Took pace unit (unlock pace updates) told Verdict.Done (done_frames pace updates)
+        (others_in (read_backs updates) told) }
 {}
 
 /// How many frames the other sessions took that didn't give up; one that may open reads the format
@@ -279,20 +283,20 @@ pub fn done_sessions_take_exactly()
 pub fn sessions_take_exactly()
     ensures short { (told : List Exchange) (unit : ℕ) (pace : Pace) (updates : List (ℕ × ℕ))
         → Wants unit (read_length pace updates) told (Ask.Ended Verdict.Short)
-        → Took pace unit (read_length pace updates) told Verdict.Short read_frames }
+        → Took pace unit (read_length pace updates) told Verdict.Short read_frames 0 }
     ensures low { (told : List Exchange) (unit : ℕ) (pace : Pace) (updates : List (ℕ × ℕ)) → greatest updates < 0x13
         → Wants unit (read_length pace updates) told (Ask.Ended Verdict.MayOpen)
-        → Took pace unit (read_length pace updates) told Verdict.MayOpen read_frames }
+        → Took pace unit (read_length pace updates) told Verdict.MayOpen read_frames 0 }
     ensures high { (told : List Exchange) (unit : ℕ) (pace : Pace) (updates : List (ℕ × ℕ)) → 0x13 ≤ greatest updates
         → Wants unit (read_length pace updates) told (Ask.Ended Verdict.MayOpen)
-        → Took pace unit (read_length pace updates) told Verdict.MayOpen (read_frames + format_frames pace) }
+        → Took pace unit (read_length pace updates) told Verdict.MayOpen (read_frames + format_frames pace) 0 }
     ensures format { (told : List Exchange) (unit : ℕ) (pace : Pace) (updates : List (ℕ × ℕ))
         → Wants unit (read_length pace updates) told (Ask.Ended Verdict.Format)
-        → Took pace unit (read_length pace updates) told Verdict.Format (read_frames + format_frames pace) }
+        → Took pace unit (read_length pace updates) told Verdict.Format (read_frames + format_frames pace) 0 }
     ensures closed { (told : List Exchange) (unit : ℕ)
         → Wants unit (close Verdict.Closed Verdict.NotClosed) told (Ask.Ended Verdict.Closed)
         → Took Pace.Checked unit (close Verdict.Closed Verdict.NotClosed) told Verdict.Closed
-        (write_frames + read_frames) }
+        (write_frames + read_frames) 0 }
     ensures read { (told : List Exchange) (unit : ℕ) → Wants unit read_all told (Ask.Ended Verdict.Read)
         → TookAll unit told }
 {}
@@ -318,14 +322,14 @@ pub fn unreached_units_were_not_read()
         → ⊥ }
 {}
 
-/// A session that carries an order out ends in doubt only because an access failed in each of its tries,
-/// or because a checked read of the lock byte or of an update's location found another byte than
-/// must be there.
+/// A session that carries an order out ends in doubt only because an access failed in each of its tries that isn't read
+/// again in smaller rows, or because a read of the lock byte or of updates' locations, of a row of them or of one in
+/// which it is read again, found another byte than must be there.
 pub fn doubts_have_a_cause()
     ensures { (told : List Exchange) (unit : ℕ) (pace : Pace) (updates : List (ℕ × ℕ))
         → Wants unit (unlock pace updates) told (Ask.Ended Verdict.Doubt)
-        → HasFailed unit told
-        ⊎ FoundAnother unit (unlock pace updates) (rows_of (most_of pace) (read_backs updates)) told }
+        → FailedForGood unit (unlock pace updates) told
+        ⊎ FoundAnother unit (unlock pace updates) (all_rows (rows_of (most_of pace) (read_backs updates))) told }
 {}
 
 /// What a session tells as the cause is what it was told: each try of an access missed, or a read told this byte of
@@ -347,10 +351,11 @@ pub fn causes_are_told()
 /// On the simulated bus a checked write that succeeded has stored its byte and nothing else,
 /// whatever was lost or refused before, and whichever other units lost their power.
 pub fn successful_writes_are_stored()
-    ensures { (loses : List ℕ) (pace : Pace) (at location byte : ℕ) (unit : UnitState) (outcome : Option (List ℕ))
-        (told : List Exchange) (first last : SimState)
+    ensures { (loses : List ℕ) (pace : Pace) (at before location byte : ℕ) (unit : UnitState)
+        (outcome : Option (List ℕ)) (told : List Exchange) (first last : SimState)
         → Run SimStep (IsAmong loses) told first last → (IsAmong loses at → ⊥)
-        → IsAlone at unit first.units → Succeeds (access_requests at (write_next pace location byte)) outcome told
+        → IsAlone at unit first.units → Succeeds (access_requests at (write_next pace before location byte)) outcome
+        told
         → (now : UnitState) × IsAlone at now last.units × OnlyDiffers unit.bank1 location now.bank1
         × (slice_get now.bank1.bytes location ≡ Some byte) }
 {}
@@ -366,12 +371,12 @@ pub fn accesses_keep_the_bank()
         → Succeeds (access_requests at (ReadFrom block)) outcome told
         ⊎ Fails (access_requests at (ReadFrom block)) outcome told
         → (now : UnitState) × IsAlone at now last.units × (now.bank1 ≡ unit.bank1) }
-    ensures write { (loses : List ℕ) (pace : Pace) (at location byte : ℕ) (unit : UnitState)
+    ensures write { (loses : List ℕ) (pace : Pace) (at before location byte : ℕ) (unit : UnitState)
         (outcome : Option (List ℕ)) (told : List Exchange) (first last : SimState)
         → Run SimStep (IsAmong loses) told first last → (IsAmong loses at → ⊥)
         → IsAlone at unit first.units
-        → Succeeds (access_requests at (write_next pace location byte)) outcome told
-        ⊎ Fails (access_requests at (write_next pace location byte)) outcome told
+        → Succeeds (access_requests at (write_next pace before location byte)) outcome told
+        ⊎ Fails (access_requests at (write_next pace before location byte)) outcome told
         → (now : UnitState) × IsAlone at now last.units × OnlyDiffers unit.bank1 location now.bank1 }
 {}
 
@@ -396,14 +401,16 @@ pub fn each_frame_was_wanted()
 {}
 
 /// The misses among exchanges are those of the tries of the session's accesses, and an access that failed
-/// missed as often as it has tries.
+/// missed as often as it has tries. For that each write that takes the unit as another left it comes just behind that
+/// one, as those of each session do.
 pub fn misses_are_those_of_the_tries()
     ensures failed { (unit : ℕ) (told : List Exchange) → HasFailed unit told → most_tries ≤ misses_in told }
     ensures unread { (unit location : ℕ) (told : List Exchange) → EndsUnread unit location told
         → most_tries ≤ misses_in told }
     ensures walk { (unit : ℕ) (plan : Plan) (outcomes : List (Option (List ℕ))) (told : List Exchange) (end : Plan)
         (walk : Walk unit plan outcomes told end)
-        → misses_in told ≡ misses_of unit plan outcomes told end walk }
+        → IsInTurn None plan → misses_in told ≡ misses_of unit plan outcomes told end walk }
+    ensures turn { (task : Task) → IsInTurn None (plan_of task) }
 {}
 
 /// On the simulated bus, where no fate refuses, no other unit is write-enabled and the unit loses

@@ -81,9 +81,9 @@ fn is_update(updates: &[(u8, u8)], location: u8, byte: u8) -> bool
     }
 }
 
-// Where DTR0 stands behind a read of this location.
+/// Where DTR0 stands behind a read or a write of this location.
 #[tactic(auto, using(crate::proofs::PlaceLemmas::up_is))]
-fn next_to(location: u8) -> u8
+pub(crate) fn next_to(location: u8) -> u8
     ensures { result ≡ up location }
 {
     location.saturating_add(1)

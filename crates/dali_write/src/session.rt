@@ -80,8 +80,8 @@ impl Session {
     }
 
     /// Carries the order out: unlocks bank 1, writes each update, locks it and reads all back. Where
-    /// an access fails or another byte is read back, closes the unit. Ends as `Done`, `Doubt` or
-    /// `DoubtOpen`.
+    /// an access fails that isn't read again in smaller rows, or another byte is read back, closes the
+    /// unit. Ends as `Done`, `Doubt` or `DoubtOpen`.
     pub fn opened(order: Order, pace: Pace) -> Session
         ensures unit { unit_of result ≡ order.unit }
         ensures task { task_of result ≡ Task.Opened order pace }
@@ -195,8 +195,8 @@ impl Session {
         self.bytes.as_slice()
     }
 
-    /// Why the session comes to no good end, as far as it was told: its first access that failed, or that read another
-    /// byte back than the one that was written. None where all went well so far.
+    /// Why the session comes to no good end, as far as it was told: its first access that failed and wasn't read again,
+    /// or that read another byte back than the one that was written. None where all went well so far.
     pub fn cause(&self) -> Option<Cause>
         ensures { result ≡ cause_of self.now }
     {

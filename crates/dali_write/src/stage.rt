@@ -1,13 +1,14 @@
 ghost use Rattle.std.specs.Prelude.{◌≡◌, ◌∷◌, ◌≤◌, ◌+◌, ◌-◌, ◌*◌, ℕ, List, Some, None, Ok, IfSome, IsNone, length, drop};
-ghost use Rattle.std.specs.Prelude.{[], get_or};
+ghost use Rattle.std.specs.Prelude.{[], get_or, take};
 ghost use Rattle.dali_write.specs.Requests.{block};
 ghost use Rattle.dali_write.specs.Plans.{greatest, judge_length, judge_format, next_plan, give_up, rows_of, read_back};
-ghost use Rattle.dali_write.specs.Plans.{most_of, write_next, read_format};
+ghost use Rattle.dali_write.specs.Plans.{most_of, write_next, read_format, read_backs, expect_all, Plan};
+ghost use Rattle.dali_write.specs.Counts.{rows_frames};
 ghost use Rattle.dali_write.specs.declared.access.Access.TheVariants.{ReadFrom};
 ghost use Rattle.dali_write.specs.Tries.{most_tries, plan_requests};
 ghost use Rattle.dali_write.specs.declared.access.Access.{Access};
 ghost use Rattle.dali_write.specs.declared.stage.Task.{Task};
-ghost use Rattle.dali_write.specs.Stages.{plan_at, access_of, updates_for, pace_for};
+ghost use Rattle.dali_write.specs.Stages.{plan_at, access_of, updates_for, pace_for, written_before, go_again};
 ghost use Rattle.dali_write.specs.FramesLeft.{limit_at, read_limit};
 ghost use Rattle.dali_write.specs.Causes.{cause_by};
 
@@ -69,7 +70,8 @@ impl Pace {
 
     // The most locations of a row that is read back.
     fn most(self) -> usize
-        ensures { result ≡ most_of self }
+        ensures value { result ≡ most_of self }
+        ensures few { result ≤ 16 }
     {
         match self {
             Pace::Checked => 1,
@@ -77,53 +79,97 @@ impl Pace {
         }
     }
 
-    // A write to a unit that an earlier one has enabled.
-    fn write(self, location: u8, byte: u8) -> Access
-        ensures { result ≡ write_next self location byte }
+    // A write just behind one to another location.
+    fn write(self, before: u8, location: u8, byte: u8) -> Access
+        ensures { result ≡ write_next self before location byte }
     {
         match self {
             Pace::Checked => Access::WriteTo(location, byte),
-            Pace::Short => Access::WriteOn(location, byte),
-        }
-    }
-
-    // The read of the row that begins at a location, before these updates.
-    fn row(self, location: u8, behind: &[(u8, u8)]) -> Access
-        ensures { (byte : ℕ) → Ok result
-            ≡ access_of (read_back (rows_of (most_of self) ((location, byte) ∷ behind.now))) }
-    {
-        let count = 1 + others_in_row(self.most(), location, behind) as u8;
-        Access::ReadFrom(Block { location, count })
-    }
-
-    // How many of these updates were read back in one row with this one before them; none where other bytes were read.
-    fn row_held(self, own: (u8, u8), behind: &[(u8, u8)], read: &[u8]) -> Option<usize>
-        ensures some { IfSome result (λ others. read_back (rows_of (most_of self) (drop others behind.now))
-            ≡ next_plan (read_back (rows_of (most_of self) (own ∷ behind.now))) (Some read.now)) }
-        ensures none { IsNone result
-            → give_up ≡ next_plan (read_back (rows_of (most_of self) (own ∷ behind.now))) (Some read.now) }
-        ensures limit { (unit : ℕ) → IfSome result (λ others.
-            length (plan_requests unit (read_back (rows_of (most_of self) (own ∷ behind.now))) 1) ≤ others + 7) }
-        ensures within { IfSome result (λ others. others ≤ length behind.now) }
-    {
-        let others = others_in_row(self.most(), own.0, behind);
-        if holds(read, own.1, others, behind) {
-            Some(others)
-        } else {
-            None
+            Pace::Short => Access::WriteOn(before, location, byte),
         }
     }
 }
 
-// The update with this index, and those behind it.
-fn updates_from(updates: &[(u8, u8)], index: usize) -> Option<((u8, u8), &[(u8, u8)])>
-    ensures some { IfSome result (λ own. drop index updates.now ≡ own.0 ∷ own.1.now) }
-    ensures count { IfSome result (λ own. index + 1 + length own.1.now ≡ length updates.now) }
-    ensures none { IsNone result → length updates.now ≤ index }
+// A row that failed, or told other bytes, and has more locations than this is read again.
+const MOST_ONCE: usize = 3;
+
+// It is read again in rows of at most so many.
+const MOST_AGAIN: usize = 2;
+
+// The read of the row that begins at a location, before these updates.
+fn row(most: usize, location: u8, behind: &[(u8, u8)]) -> Access
+    requires { most ≤ 16 }
+    ensures back { (byte : ℕ) → Ok result ≡ access_of (read_back (rows_of most ((location, byte) ∷ behind.now))) }
+    ensures again { (byte : ℕ) (after : Plan) → Ok result
+        ≡ access_of (go_again (rows_of most ((location, byte) ∷ behind.now)) after) }
 {
-    match updates.get(index..) {
-        Some([own, behind @ ..]) => Some((*own, behind)),
+    let count = 1 + others_in_row(most, location, behind) as u8;
+    Access::ReadFrom(Block { location, count })
+}
+
+// How many of these updates were read back in one row with this one before them; none where other bytes were read.
+fn row_held(most: usize, own: (u8, u8), behind: &[(u8, u8)], read: &[u8]) -> Option<usize>
+    requires { most ≤ 16 }
+    ensures some { IfSome result (λ others. read_back (rows_of most (drop others behind.now))
+        ≡ next_plan (read_back (rows_of most (own ∷ behind.now))) (Some read.now)) }
+    ensures again { (after : Plan) → IfSome result (λ others. expect_all (rows_of most (drop others behind.now)) after
+        ≡ next_plan (go_again (rows_of most (own ∷ behind.now)) after) (Some read.now)) }
+    ensures none { IsNone result
+        → next_plan (read_back (rows_of most (own ∷ behind.now))) None
+        ≡ next_plan (read_back (rows_of most (own ∷ behind.now))) (Some read.now) }
+    ensures other { (after : Plan) → IsNone result
+        → give_up ≡ next_plan (go_again (rows_of most (own ∷ behind.now)) after) (Some read.now) }
+    ensures limit { (unit : ℕ) → IfSome result (λ others.
+        length (plan_requests unit (read_back (rows_of most (own ∷ behind.now))) 1) ≤ others + 7) }
+    ensures left { (unit : ℕ) (after : Plan) → IfSome result (λ others.
+        length (plan_requests unit (go_again (rows_of most (own ∷ behind.now)) after) 1)
+        + rows_frames (rows_of most (drop others behind.now)) ≡ rows_frames (rows_of most (own ∷ behind.now))) }
+    ensures within { IfSome result (λ others. others ≤ length behind.now) }
+{
+    let others = others_in_row(most, own.0, behind);
+    if holds(read, own.1, others, behind) {
+        Some(others)
+    } else {
+        None
+    }
+}
+
+// What is read back with this index, the lock byte the first, and what is read back behind it.
+fn back_from(updates: &[(u8, u8)], index: usize) -> Option<((u8, u8), &[(u8, u8)])>
+    ensures some { IfSome result (λ own. drop index (read_backs updates.now) ≡ own.0 ∷ own.1.now) }
+    ensures count { IfSome result (λ own. index + 1 + length own.1.now ≡ 1 + length updates.now) }
+    ensures none { IsNone result → 1 + length updates.now ≤ index }
+{
+    if index == 0 {
+        Some((LOCKED, updates))
+    } else {
+        match updates.get(index - 1..) {
+            Some([own, behind @ ..]) => Some((*own, behind)),
+            _ => None,
+        }
+    }
+}
+
+// The same among so many of them.
+fn piece_from(updates: &[(u8, u8)], index: usize, left: usize) -> Option<((u8, u8), &[(u8, u8)])>
+    ensures some { IfSome result (λ own. take left (drop index (read_backs updates.now)) ≡ own.0 ∷ own.1.now) }
+    ensures count { IfSome result (λ own. index + 1 + length own.1.now ≤ 1 + length updates.now) }
+    ensures none { IsNone result → take left (drop index (read_backs updates.now)) ≡ [] }
+{
+    match back_from(updates, index) {
+        Some((own, behind)) if left > 0 => Some((own, behind.get(..left - 1).unwrap_or(behind))),
         _ => None,
+    }
+}
+
+// The location of the write before the update with this index: the first one comes behind the lock byte.
+fn written_before(updates: &[(u8, u8)], index: usize) -> u8
+    ensures { result ≡ written_before updates.now index }
+{
+    if index == 0 {
+        0x02
+    } else {
+        updates.get(index - 1).copied().unwrap_or((0, 0)).0
     }
 }
 
@@ -144,9 +190,10 @@ pub(crate) enum Stage {
     Unlock,
     /// Write the update with this index and those after it. Past the last one, lock the unit.
     WriteOn(usize),
-    ReadLock,
-    /// Read back the update with this index and those after it.
+    /// Read back what is to be read back with this index, the lock byte first, and what comes after it.
     ReadBack(usize),
+    /// Read so many of these again, of a row that failed or told other bytes, in smaller rows.
+    ReadPiece(usize, usize),
     /// Lock the unit, and see whether it answers: then the first verdict, else the second.
     Close(Verdict, Verdict),
     ReadClosed(Verdict, Verdict),
@@ -168,14 +215,20 @@ impl Stage {
             Stage::ReadFormat => Ok(Access::ReadFrom(task.pace().format())),
             Stage::ReadFormatLow(_) => Ok(read_at(0x12)),
             Stage::Unlock => Ok(Access::WriteTo(0x02, 0x55)),
-            Stage::WriteOn(index) => match task.updates().get(index).copied() {
-                Some((location, byte)) => Ok(task.pace().write(location, byte)),
-                None => Ok(task.pace().write(0x02, 0xFF)),
-            },
-            Stage::ReadLock => Ok(task.pace().row(0x02, task.updates())),
+            Stage::WriteOn(index) => {
+                let before = written_before(task.updates(), index);
+                match task.updates().get(index).copied() {
+                    Some((location, byte)) => Ok(task.pace().write(before, location, byte)),
+                    None => Ok(task.pace().write(before, 0x02, 0xFF)),
+                }
+            }
             Stage::ReadClosed(_, _) => Ok(read_at(0x02)),
-            Stage::ReadBack(index) => match updates_from(task.updates(), index) {
-                Some(((location, _), behind)) => Ok(task.pace().row(location, behind)),
+            Stage::ReadBack(index) => match back_from(task.updates(), index) {
+                Some(((location, _), behind)) => Ok(row(task.pace().most(), location, behind)),
+                None => Err(Verdict::Done),
+            },
+            Stage::ReadPiece(index, left) => match piece_from(task.updates(), index, left) {
+                Some(((location, _), behind)) => Ok(row(MOST_AGAIN, location, behind)),
                 None => Err(Verdict::Done),
             },
             Stage::Close(_, _) => Ok(Access::WriteTo(0x02, 0xFF)),
@@ -211,14 +264,21 @@ impl Stage {
             Stage::ReadFormatLow(high) => judge_format(high, byte_in(read, 0)),
             Stage::Unlock => Stage::WriteOn(0),
             Stage::WriteOn(index) if index < task.updates().len() => Stage::WriteOn(index + 1),
-            Stage::WriteOn(_) => Stage::ReadLock,
-            Stage::ReadLock => match task.pace().row_held(LOCKED, task.updates(), read) {
-                Some(others) => Stage::ReadBack(others),
-                None => GIVE_UP,
-            },
-            Stage::ReadBack(index) => match updates_from(task.updates(), index) {
-                Some((own, behind)) => match task.pace().row_held(own, behind, read) {
+            Stage::WriteOn(_) => Stage::ReadBack(0),
+            Stage::ReadBack(index) => match back_from(task.updates(), index) {
+                Some((own, behind)) => match row_held(task.pace().most(), own, behind, read) {
                     Some(others) => Stage::ReadBack(index + 1 + others),
+                    None => self.failed(task),
+                },
+                None => self,
+            },
+            Stage::ReadPiece(index, left) => match piece_from(task.updates(), index, left) {
+                Some((own, behind)) => match row_held(MOST_AGAIN, own, behind, read) {
+                    Some(others) if others < behind.len() => Stage::ReadPiece(
+                        index + 1 + others,
+                        left - 1 - others,
+                    ),
+                    Some(last) => Stage::ReadBack(index + 1 + last),
                     None => GIVE_UP,
                 },
                 None => self,
@@ -233,24 +293,26 @@ impl Stage {
     }
 
     // Why the session gives up behind this stage, where it does: its access read these bytes.
+    #[tactic(auto, using(crate::proofs::CauseLemmas::ends_without))]
     pub(crate) fn another(self, task: &Task, read: &[u8]) -> Option<Cause>
         ensures { result ≡ cause_by (updates_for task.now) (plan_at task.now self) (Some read.now) }
     {
         match (self.access(task), self.told(task, read).access(task)) {
-            (Ok(Access::ReadFrom(block)), Ok(Access::WriteTo(_, _) | Access::WriteOn(_, _))) => {
-                Some(another(task.updates(), block.location, read))
-            }
+            (Ok(Access::ReadFrom(block)), Ok(Access::WriteTo(_, _) | Access::WriteOn(_, _, _))) =>
+                Some(another(task.updates(), block.location, read)),
             _ => None,
         }
     }
 
-    // The same where its access failed.
+    // The same where its access failed: a row that is read again is no cause.
+    #[tactic(auto, using(crate::proofs::CauseLemmas::fails_without))]
     pub(crate) fn failure(self, task: &Task) -> Option<Cause>
         ensures { result ≡ cause_by (updates_for task.now) (plan_at task.now self) None }
     {
-        match self.access(task) {
-            Ok(access) => Some(access.failure()),
-            Err(_) => None,
+        match (self.access(task), self.failed(task).access(task)) {
+            (Ok(Access::ReadFrom(_)), Ok(Access::ReadFrom(_))) => None,
+            (Ok(access), _) => Some(access.failure()),
+            (Err(_), _) => None,
         }
     }
 
@@ -271,10 +333,23 @@ impl Stage {
                 Task::ReadingBlock(_) => SILENT,
                 _ => Stage::Over(Verdict::Read),
             },
-            Stage::Unlock | Stage::ReadLock => GIVE_UP,
+            Stage::Unlock => GIVE_UP,
             Stage::WriteOn(_) => GIVE_UP,
-            Stage::ReadBack(index) if index < task.updates().len() => GIVE_UP,
-            Stage::ReadBack(_) => self,
+            Stage::ReadBack(index) => match back_from(task.updates(), index) {
+                Some(((location, _), behind)) => {
+                    let others = others_in_row(task.pace().most(), location, behind);
+                    if others < MOST_ONCE {
+                        GIVE_UP
+                    } else {
+                        Stage::ReadPiece(index, 1 + others)
+                    }
+                }
+                None => self,
+            },
+            Stage::ReadPiece(index, left) => match piece_from(task.updates(), index, left) {
+                Some(_) => GIVE_UP,
+                None => self,
+            },
             Stage::Close(answered, unanswered) => Stage::ReadClosed(answered, unanswered),
             Stage::ReadClosed(_, unanswered) => Stage::Over(unanswered),
             Stage::Over(_) => self,

@@ -8,5 +8,5 @@ returns-clause-read c = λ loses at location unit outcome told first last run.
     read_keeps (IsAmong loses) at location unit outcome told first last (leads_of told first last run)
 
 pub returns-clause-write : goal.returns-clause-write
-returns-clause-write c = λ loses pace at location byte unit outcome told first last run.
-    write_keeps (IsAmong loses) pace at location byte unit outcome told first last (leads_of told first last run)
+returns-clause-write c = λ loses pace at before location byte unit outcome told first last run.
+    write_keeps (IsAmong loses) pace at before location byte unit outcome told first last (leads_of told first last run)

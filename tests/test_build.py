@@ -130,6 +130,15 @@ def test_a_build_waits_for_another(folder):
     want((launcher.returncode, output, complaint.splitlines()[-1]), (0, "ran\n", "dali_bench: built"))
 
 
+def test_rooms_of_a_killed_build_are_cleared(folder):
+    root, environment = repository(folder)
+    left = root / "crates/dali_bench/out/rooms-killed"
+    (left / "dali_frame").mkdir(parents=True)
+    (left / "dali_frame/crates.txt").write_text("dali_frame:\n")
+    build(root, environment)
+    want(left.exists(), False)
+
+
 def test_a_later_build_counts_what_is_left(folder):
     root, environment = repository(folder)
     build(root, environment)

@@ -61,9 +61,10 @@ FindsAnother pace order sent =
     (all_rows (rows_of (most_of pace) (read_backs order.updates))) told
 
 -- What earns an order its code, among the frames from its start on. Done: exactly so many, and for each miss and each
--- other byte at most what it may take. Silent: the last access, which read the length or the content format, failed.
--- DoubtOpen: the last access, which read the lock byte, failed. Doubt: an access failed, or another byte was found, and
--- wasn't read again. (What Done, Short, Format and Doubt besides rest on, checked reads, is a rule of legal traces.)
+-- row that told another byte at most what it may take. Silent: the last access, which read the length or the content
+-- format, failed. DoubtOpen: the last access, which read the lock byte, failed. Doubt: an access failed, or another
+-- byte was found, and wasn't read again. (What Done, Short, Format and Doubt besides rest on, checked reads, is a rule
+-- of legal traces.)
 abbrev pub IsEarned : Pace → Standing → Contents → Code → List Exchange → Type 0
 IsEarned pace first order codes.Done sent =
     IsLong pace (read_backs order.updates) (frames_from pace first order.updates) sent

@@ -19,7 +19,7 @@ use Rattle.dali_write.specs.Tries.{most_tries, Misses, AccessEnds, Wants}
 use Rattle.dali_write.specs.Walks.{Walk, access_misses, Took, TookAll}
 use Rattle.dali_write.proofs.WalkLemmas.{ended_walk}
 use Rattle.dali_write.proofs.CountLemmas.{misses_length}
-use Rattle.dali_write.proofs.ExactLemmas.{Frames, and_rest, access_first, short_to, short_row, least_most}
+use Rattle.dali_write.proofs.AccessFramesLemmas.{Frames, and_rest, access_first, short_to, short_row, least_most}
 use Rattle.dali_write.proofs.BlockOneLemmas.{access_tells_one}
 use Rattle.dali_write.proofs.VerdictLemmas.{finish_walk}
 use Rattle.dali_write.specs.declared.pace.Pace.{Pace}

@@ -1,8 +1,8 @@
 /* Preloaded into `dali_bench drive` by its test: logs the calls on its files and pipes in their order, and spoils one.
 
-   DRIVE_SHIM_ORDERS and DRIVE_SHIM_JOURNAL are the two paths as the command line has them. A call's target is
-   `orders`, `journal`, `new` (the path of the journal with `.new` behind it), `folder` (whatever opened is one), `in`,
-   `out`, `err` or `other`. Once `new` has been renamed to `journal`, its file is `journal`, and what was that is `old`.
+   DRIVE_SHIM_ORDERS, DRIVE_SHIM_JOURNAL and DRIVE_SHIM_OLDER are paths as the command line has them. A call's target is
+   `orders`, `journal`, `older`, `new` (the path of the journal with `.new` behind it), `folder` (whatever opened is
+   one), `in`, `out`, `err` or `other`. Once `new` has been renamed to `journal`, its file is `journal`, and what was that is `old`.
    A call's kind is `open`, `read`, `write`, `sync`, `cut`, `mode`, `lock`, `seek`, `stat`, `close`, or `rename`, whose
    target is the path before it. Where DRIVE_SHIM_LOG names a file, each call adds a line
 
@@ -114,7 +114,10 @@ static int is_new(const char *path, const char *journal)
 static const char *target_at(const char *path)
 {
     const char *orders = getenv("DRIVE_SHIM_ORDERS"), *journal = getenv("DRIVE_SHIM_JOURNAL");
+    const char *older = getenv("DRIVE_SHIM_OLDER");
     struct stat stands;
+    if (older != NULL && strcmp(path, older) == 0)
+        return "older";
     if (orders != NULL && strcmp(path, orders) == 0)
         return "orders";
     if (journal != NULL && is_at(path, journal))

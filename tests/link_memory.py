@@ -15,8 +15,6 @@ MOST_STACK = 512 * KIBIBYTE
 # What a run may hold at once where it reads no file as a whole, where it reads one of them, and where it has an order
 # for each unit: each limit is over what such runs hold now, by less than a bank of each of the 64 units.
 NO_FILE, ONE_FILE, ALL_UNITS = 49 * KIBIBYTE, 150 * KIBIBYTE, 224 * KIBIBYTE
-# An older journal is read as a whole too, and is held beside the orders and the journal.
-ONE_FILE_AND_AN_OLDER_ONE = 284 * KIBIBYTE
 TAKEN = "reply 1 taken\n" + KEPT_SILENT
 ORDERS = [{"order": unit + 1, "unit": unit, "gtin": GTIN} for unit in range(64)]
 ALL_SILENT = Ended(
@@ -72,7 +70,7 @@ def limited_runs(folder):
     all_found = as_lines("-- 01 -- 00 10 01 01") * 64
     return {
         "drive": Limited(desk_of(place("drive"), ABSENT), SILENCE, ONE_FILE, silent),
-        "drive --older": Limited(behind, SILENCE, ONE_FILE_AND_AN_OLDER_ONE, silent),
+        "drive --older": Limited(behind, SILENCE, ONE_FILE, silent),
         "drive of all": Limited(desk_of(place("all"), ORDERS), SILENCE * 64, ALL_UNITS, ALL_SILENT),
         "drive --follow": Limited(following(place("follow"), ABSENT), SILENCE, NO_FILE, ready(silent)),
         "drive --follow of all": Limited(following(place("lines"), ORDERS), SILENCE * 64, NO_FILE, ready(ALL_SILENT)),

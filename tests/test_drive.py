@@ -15,7 +15,8 @@ sys.dont_write_bytecode = True
 import beside  # noqa: E402
 
 MODULES = ("drive_streams", "drive_units", "drive_plans", "drive_calls", "drive_places", "drive_progress",
-           "drive_report", "drive_report_files", "drive_follow", "drive_older", "drive_buses", "drive_upgrade")
+           "drive_report", "drive_report_files", "drive_follow", "drive_older", "drive_settled", "drive_buses",
+           "drive_upgrade")
 
 if __name__ == "__main__":
     sys.exit(beside.main(__doc__, MODULES, sys.argv[1:]))

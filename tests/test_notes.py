@@ -80,6 +80,9 @@ ITEMS = [
     ('"gtin": "400638133393\u00b9"', [
         f'gtin: the text "400638133393\\u{{b9}}", and it is {GTIN}; its character 13 is "\\u{{b9}}"',
     ]),
+    ('"gtin": "400638133393\\n"', [
+        f'gtin: the text "400638133393\\u{{a}}", and it is {GTIN}; its character 13 is "\\u{{a}}"',
+    ]),
     ('"gtin": true', [f"gtin: true, and it is {GTIN}"]),
     ('"gtim": "4006381333931"', ["gtim: no such key (gtin?)"]),
     ('"GTIN": "4006381333931"', ["GTIN: no such key (gtin?)"]),
@@ -93,6 +96,7 @@ ITEMS = [
     ('"color": "RAL 9016"', ["color: no such key (colour?)"]),
     ('"weeks": 5', ["weeks: no such key (week?)"]),
     ('"input_powe": 5', ["input_powe: no such key (input_power?)"]),
+    ('"a\\nitem 2 order 7: b": 1', ['"a\\u{a}item 2 order 7: b": no such key']),
     ('"\\u001b[31m": 1', ["\\u{1b}[31m: no such key"]),
     ('"identification": "0011223344556"', [
         f'identification: the text "0011223344556", and it is {IDENTIFICATION}; it has 13 digits',
@@ -146,6 +150,10 @@ INPUTS = [
     ]),
     ("check", b'[{"order": 1, "unit": 64, "year": 1}]', [f"item 1 order 1: unit: the number 64, {ADDRESS}"]),
     ("check", REFUSED, [*REFUSED_FIRST, *REFUSED_THIRD]),
+    ("check", b'[{"order": 6, "unit": 5, "yeer": 1}, {"order": 7, "unit": 5, "colours": 1}]', [
+        "item 1 order 6: yeer: no such key (year?)",
+        "item 2 order 7: colours: no such key (colour?)",
+    ]),
     ("check", b'[{"order": "1", "unit": 5, "year": 1}]', [f'item 1: order: the text "1", and it is {WHOLE}']),
     ("check", b'[{"unit": 5, "year": 1}, 7]', [
         f"item 1: order: missing, and it is {WHOLE}",
@@ -483,9 +491,9 @@ def fails_on_drives(program):
 def fails_on_causes(program):
     """Give what is wrong with the causes of inputs that can't be read, and with names that could spoil a terminal."""
     with tempfile.TemporaryDirectory() as room:
-        odd = os.path.join(room, "a\x1b[31m")
+        odd = os.path.join(room, "a\x1b[31m\nreply 1 taken")
         os.mkdir(odd)
-        told = room + "/a\\u{1b}[31m"
+        told = room + "/a\\u{1b}[31m\\u{a}reply 1 taken"
         for words, wanted in (
             (["check", room], f"error: the input can't be read: {room}: is a directory\n"),
             (["show", odd], f"error: the input can't be read: {told}: is a directory\n"),

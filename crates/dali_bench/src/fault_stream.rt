@@ -35,7 +35,7 @@ pub(crate) fn unopened(
     cause: io::Error,
     stream: FaultStream,
 ) -> Status {
-    let name = Escaped::whole(name);
+    let name = Escaped::Whole(name);
     let advice = if cause.raw_os_error() == Some(TOO_MANY_FILES) {
         MORE_FILES
     } else {

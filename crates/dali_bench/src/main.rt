@@ -7,9 +7,11 @@ ghost use Rattle.dali_link_commands.specs.LinkCommands.{IsShort};
 
 mod fault_stream;
 mod refusal;
+mod settled;
 
 use crate::fault_stream::{FaultStream, out_of_memory, print_fault, tell_cause, unopened};
 use crate::refusal::refused;
+use crate::settled::Settled;
 use dali_drive::{Sought, StdSink, StdSource, StoreDesk};
 use dali_faults::Status;
 use dali_file_commands::FileCommand;
@@ -244,16 +246,21 @@ fn onto_output<W: Write>(
     command: FileCommand<'_>,
     output: &mut Output<W>,
 ) -> Status {
+    let is_journal = matches!(command, FileCommand::Journal { .. });
     if name == "/dev/stdin" || name == "-" {
-        return on_input(
-            rt,
-            "standard input",
-            command,
-            &mut Input::new(rt.reader()),
-            output,
-        );
+        let name = "standard input";
+        return if is_journal {
+            let mut input = Input::new(Settled::standard(rt));
+            on_input(rt, name, command, &mut input, output)
+        } else {
+            on_input(rt, name, command, &mut Input::new(rt.reader()), output)
+        };
     }
     match fs::open(rt, name) {
+        Ok(file) if is_journal => {
+            let mut input = Input::new(Settled::named(rt, file));
+            on_input(rt, name, command, &mut input, output)
+        }
         Ok(file) => on_input(rt, name, command, &mut Input::new(file), output),
         Err(cause) => unopened(rt, name, cause, FaultStream::Output),
     }
@@ -303,7 +310,7 @@ fn tell_input(
     is_whole: bool,
     cause: Option<ErrorKind>,
 ) {
-    let name = Escaped::whole(name);
+    let name = Escaped::Whole(name);
     let _ = match cause {
         Some(ErrorKind::Uncategorized) if is_closed(rt) => {
             eprintln!(rt; "error: the input can't be read: {name}: it is closed")

@@ -25,7 +25,7 @@ pub(crate) fn refused(
     };
     for line in text.as_str().lines() {
         if !line.starts_with(AS_A_VALUE) || takes_digits(words) {
-            let line = Escaped::whole(line);
+            let line = Escaped::Whole(line);
             let _ = eprintln!(rt; "{line}");
         }
         if line.starts_with(A_TIP) && !takes_digits(words) {
@@ -46,7 +46,7 @@ fn takes_digits(words: &[&str]) -> bool {
 // Prints where it stands what the command takes.
 fn tell_help(rt: &HostRuntime, words: &[&str]) {
     if words.len() > 1 {
-        let command = Escaped::whole(words[1]);
+        let command = Escaped::Whole(words[1]);
         let _ = eprintln!(rt; "  tip: dali_bench {command} --help tells what it takes");
     }
 }

@@ -1,15 +1,15 @@
 -- What a small unit may do with a frame and what it may not, and the same of a bus with two.
 use Rattle.std.proofs.lemmas.Bool.{eqb-true}
 use Rattle.std.proofs.Common.{◌≡◌, ℕ, Bool, true, false, inl, inr, Option, Some, None, refl, sym, subst, arith, ap, ◌∙◌}
-use Rattle.std.proofs.Common.{◌==◌, ◌&&◌, ◌⊎◌, ◌<◌, IsSome, if◌then◌else◌}
+use Rattle.std.proofs.Common.{◌==◌, ◌&&◌, ◌⊎◌, ◌<◌, IsSome, is_some, if◌then◌else◌}
 use Rattle.dali_frame.specs.declared.forward.Frame.TheVariants.{Dtr0, Dtr1, Write, WriteSilent, Enable, AskDtr0}
 use Rattle.dali_frame.specs.declared.forward.Frame.TheVariants.{AskDtr1, Read, Other}
 use Rattle.dali_bus.specs.World.{Gear, Memory, World, stored}
-use Rattle.dali_bus.specs.Hears.{Hears, Obeys, Stores, PassesBy, PassesLeftOut, MayEnd, selected}
+use Rattle.dali_bus.specs.Hears.{Hears, Obeys, IsIndicator, MayIndicate, Stores, PassesBy, PassesLeftOut, MayEnd, selected}
 use Rattle.dali_bus.specs.Carry.{Carry, MayHear}
 use Rattle.dali_bus.specs.Power.{PowersUp, LosesPower}
 use Rattle.dali_bus.specs.WorkedFrames.{at_the_end, small, moved, written, pair, started, with_locks, two_places}
-use Rattle.dali_bus.specs.WorkedFrames.{by_a_counter}
+use Rattle.dali_bus.specs.WorkedFrames.{by_a_counter, indicating, indicated}
 use Rattle.dali_bus.proofs.ByteLemmas.{same_byte}
 
 -- what may be
@@ -17,8 +17,11 @@ use Rattle.dali_bus.proofs.ByteLemmas.{same_byte}
 counter_passes : {enabled : Bool} → PassesLeftOut (by_a_counter enabled) (by_a_counter enabled)
 counter_passes = (omega arith, refl, (4, inr refl, refl, refl))
 
+small_stores : Stores 9 (small true) (written true 3)
+small_stores = (refl, refl, (stored two_places 1 3 9, (λ bank location. inl refl), refl))
+
 pub stores : Hears 5 (small true) (Write 9) (Some 9) (written true 3)
-stores = record { obeyed = written true 3; obeys = inl ((refl, refl, refl), refl); ends = inl refl }
+stores = record { obeyed = written true 3; obeys = inl (small_stores, refl); ends = inl refl }
 
 pub refuses : Hears 5 (small true) (Write 9) None (moved true)
 refuses = record { obeyed = moved true; obeys = inr (inl (4, inl refl, refl, refl)); ends = inl refl }
@@ -46,7 +49,7 @@ pub tells_and_ends : Hears 5 (small true) (AskDtr0 5) (Some 3) (small false)
 tells_and_ends = record { obeyed = small true; obeys = inl (refl, (refl, refl)); ends = inr refl }
 
 pub stores_silently : Hears 5 (small true) (WriteSilent 9) None (written true 3)
-stores_silently = record { obeyed = written true 3; obeys = (inl (refl, refl, refl), refl); ends = inl refl }
+stores_silently = record { obeyed = written true 3; obeys = (inl small_stores, refl); ends = inl refl }
 
 pub refuses_silently : Hears 5 (small true) (WriteSilent 9) None (moved true)
 refuses_silently = record { obeyed = moved true; obeys = (inr (4, inl refl, refl, refl), refl); ends = inl refl }
@@ -68,6 +71,63 @@ counter_is_written =
 pub does_anything_with_others : (word : ℕ) (answer : Option ℕ) (old new : Gear) → Hears 5 old (Other word) answer new
 does_anything_with_others word answer old new = record { obeyed = new; obeys = tt; ends = inl refl }
 
+-- A unit may set its indicator byte by itself where it stores a byte
+
+pub sets_its_indicator : Hears 5 (indicating 0xFF) (Write 9) (Some 9) (indicated 0xA5)
+sets_its_indicator = record {
+  obeyed = indicated 0xA5;
+  obeys = inl ((refl, refl, ((indicated 0xA5).memory, may, refl)), refl);
+  ends = inl refl;
+} where
+  may : MayIndicate (stored (indicating 0xFF).memory 1 3 9) (indicated 0xA5).memory
+  may bank location = by (bank == 1) (location == 1) (location == 3) refl refl refl where
+    by : (one first third : Bool) → (bank == 1) ≡ one → (location == 1) ≡ first → (location == 3) ≡ third
+        → ((if one && first then Some 0xA5 else (if one && third then Some 9 else two_places bank location))
+        ≡ (if one && third then Some 9 else (if one && first then Some 0xFF else two_places bank location)))
+        ⊎ (IsIndicator bank location
+        × (is_some (if one && first then Some 0xA5 else (if one && third then Some 9 else two_places bank location))
+        ≡ is_some (if one && third then Some 9 else (if one && first then Some 0xFF else two_places bank location))))
+    by true true true b f t = absurd (omega (arith, eqb-true location 1 f, eqb-true location 3 t))
+    by true true false b f t = inr ((eqb-true bank 1 b, eqb-true location 1 f), refl)
+    by true false true b f t = inl refl
+    by true false false b f t = inl refl
+    by false first third b f t = inl refl
+
+-- and not where it stores none, nor makes the place
+pub no_indicator_set_unenabled : (answer : Option ℕ)
+    → Hears 5 (record (indicating 0xFF) { enabled = false }) (Write 9) answer
+    (record (indicating 0xA5) { enabled = false; dtr0 = 4 }) → ⊥
+no_indicator_set_unenabled answer h = by h.obeyed h.obeys h.ends where
+  before : Gear
+  before = record (indicating 0xFF) { enabled = false }
+
+  after : Gear
+  after = record (indicating 0xA5) { enabled = false; dtr0 = 4 }
+
+  kept : (obeyed : Gear) → MayEnd obeyed after → obeyed.memory 1 1 ≡ Some 0xFF → ⊥
+  kept obeyed (inl same) is = omega (arith, same_byte 0xA5 0xFF (ap (λ (g : Gear). g.memory 1 1) same ∙ is))
+  kept obeyed (inr same) is = omega (arith, same_byte 0xA5 0xFF (ap (λ (g : Gear). g.memory 1 1) same ∙ is))
+
+  by : (obeyed : Gear) → Obeys 5 before (Write 9) answer obeyed → MayEnd obeyed after → ⊥
+  by obeyed (inl did) ends = let on : false ≡ true = did.0.0 in cc
+  by obeyed (inr (inl passed)) ends = kept obeyed ends (ap (λ (g : Gear). g.memory 1 1) passed.2)
+  by obeyed (inr (inr (on, aside))) ends = let never : false ≡ true = on in cc
+
+pub no_indicator_comes : MayIndicate two_places (stored two_places 1 1 0xA5) → ⊥
+no_indicator_comes may = by (may 1 1) where
+  by : ((stored two_places 1 1 0xA5) 1 1 ≡ two_places 1 1) ⊎ (IsIndicator 1 1 × (true ≡ false)) → ⊥
+  by (inl same) = cc
+  by (inr (is, there)) = cc
+
+pub no_other_place_set : MayIndicate two_places (stored two_places 1 3 0xA5) → ⊥
+no_other_place_set may = by (may 1 3) where
+  by : ((stored two_places 1 3 0xA5) 1 3 ≡ two_places 1 3) ⊎ (IsIndicator 1 3 × (true ≡ true)) → ⊥
+  by (inl same) = omega (arith, same_byte 0xA5 7 same)
+  by (inr (is, there)) = omega (arith, is.1)
+
+pub no_indicator_of_bank_2 : IsIndicator 2 1 → ⊥
+no_indicator_of_bank_2 is = omega (arith, is.0)
+
 -- what may not
 
 memory_kept : (old new : Gear) → MayEnd old new → new.memory ≡ old.memory
@@ -80,11 +140,17 @@ byte_kept old new ends = ap (λ (m : Memory). m 1 3) (memory_kept old new ends)
 lock_kept : (old new : Gear) → MayEnd old new → new.memory 1 2 ≡ old.memory 1 2
 lock_kept old new ends = ap (λ (m : Memory). m 1 2) (memory_kept old new ends)
 
+stored_at_3 : (obeyed : Gear) → Stores 9 (small true) obeyed → obeyed.memory 1 3 ≡ Some 9
+stored_at_3 obeyed (on, some, (memory, may, same)) = ap (λ (g : Gear). g.memory 1 3) same ∙ (elim (may 1 3) [
+  | inl is ↦ is
+  | inr (indicator, there) ↦ absurd (omega (arith, indicator.1))
+])
+
 pub not_elsewhere : Hears 5 (small true) (Write 9) (Some 9) (written true 2) → ⊥
 not_elsewhere h = by h.obeyed h.obeys h.ends where
   by : (obeyed : Gear) → (Obeys 5 (small true) (Write 9) (Some 9) obeyed) → MayEnd obeyed (written true 2) → ⊥
   by obeyed (inl did) ends =
-      omega (arith, same_byte 7 9 (byte_kept obeyed (written true 2) ends ∙ ap (λ (g : Gear). g.memory 1 3) did.0.2))
+      omega (arith, same_byte 7 9 (byte_kept obeyed (written true 2) ends ∙ stored_at_3 obeyed did.0))
   by obeyed (inr (inl passed)) ends = let none : Some 9 ≡ None = passed.3 in cc
   by obeyed (inr (inr (on, aside))) ends = absurd (omega (arith, aside.0))
 
@@ -112,7 +178,7 @@ silent_not_elsewhere h = by h.obeyed h.obeys.0 h.ends where
       → Stores 9 (small true) obeyed ⊎ PassesBy (small true) None obeyed
       → MayEnd obeyed (written true 2) → ⊥
   by obeyed (inl did) ends =
-      omega (arith, same_byte 7 9 (byte_kept obeyed (written true 2) ends ∙ ap (λ (g : Gear). g.memory 1 3) did.2))
+      omega (arith, same_byte 7 9 (byte_kept obeyed (written true 2) ends ∙ stored_at_3 obeyed did))
   by obeyed (inr (dtr0, goes, is, none)) ends =
       omega (
         arith,
@@ -280,7 +346,7 @@ one_of_two = record {
       apart (λ address old new. MayHear address old (Write 9) new) (small true) (small true) (written true 3)
       (written true 3)
       (inr (Some 9, stores))
-      (inr (Some 9, record { obeyed = written true 3; obeys = inl ((refl, refl, refl), refl); ends = inl refl }))
+      (inr (Some 9, record { obeyed = written true 3; obeys = inl (small_stores, refl); ends = inl refl }))
       (λ address. tt);
   answers = record { address = 5; before = small true; after = written true 3; was = refl; is = refl; hears = stores };
 }

@@ -4,11 +4,11 @@
 -- doesn't carry out may move DTR0 on all the same. And its write enable may end at any frame. At a place that its
 -- memory leaves out, since it changes by itself, a read or a write may get any answer.
 use Rattle.std.specs.Prelude.{◌≡◌, ◌≢◌, ◌≤◌, ℕ, ◌+◌, true, false, ◌⊎◌, Option, Some, None, IsSome, IsNone, ◌==◌, ⊤}
-use Rattle.std.specs.Prelude.{if◌then◌else◌}
+use Rattle.std.specs.Prelude.{is_some, if◌then◌else◌}
 use Rattle.dali_frame.specs.declared.forward.Frame.{Frame}
 use Rattle.dali_frame.specs.declared.forward.Frame.TheVariants.{Dtr0, Dtr1, Dtr2, Write, WriteSilent, Enable, AskDtr0}
 use Rattle.dali_frame.specs.declared.forward.Frame.TheVariants.{AskDtr1, AskDtr2, Read, Other}
-use Rattle.dali_bus.specs.World.{Gear, stored}
+use Rattle.dali_bus.specs.World.{Gear, Memory, stored}
 
 -- DTR0 after it moved on: it stays at FFh
 abbrev pub up : ℕ → ℕ
@@ -38,11 +38,23 @@ PassesBy old answer new = (dtr0 : ℕ) × MayGoUp old.dtr0 dtr0 × (new ≡ reco
 abbrev pub PassesLeftOut : Gear → Gear → Type 0
 PassesLeftOut old new = (2 ≤ old.dtr1) × IsNone (selected old) × PassesBy old None new
 
--- it was write-enabled, and has stored the byte at the place that DTR1 and DTR0 named and nowhere else
+-- the place is the indicator byte of bank 1
+abbrev pub IsIndicator : ℕ → ℕ → Type 0
+IsIndicator bank location = (bank ≡ 1) × (location ≡ 1)
+
+-- a unit may set the indicator byte of its bank 1, if that exists, by itself
+abbrev pub MayIndicate : Memory → Memory → Type 0
+MayIndicate old new =
+    (bank location : ℕ) → (new bank location ≡ old bank location)
+    ⊎ (IsIndicator bank location × (is_some (new bank location) ≡ is_some (old bank location)))
+
+-- It was write-enabled, and has stored the byte at the place that DTR1 and DTR0 named and nowhere else, but that it may
+-- have set its indicator byte.
 abbrev pub Stores : ℕ → Gear → Gear → Type 0
 Stores byte old new =
     (old.enabled ≡ true) × IsSome (selected old)
-    × (new ≡ record old { dtr0 = up old.dtr0; memory = stored old.memory old.dtr1 old.dtr0 byte })
+    × ((memory : Memory) × MayIndicate (stored old.memory old.dtr1 old.dtr0 byte) memory
+    × (new ≡ record old { dtr0 = up old.dtr0; memory = memory }))
 
 -- it answers the byte at the place that DTR1 and DTR0 named, and isn't write-enabled any more
 abbrev pub ReadsByte : Gear → Option ℕ → Gear → Type 0

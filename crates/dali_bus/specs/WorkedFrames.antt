@@ -23,6 +23,13 @@ written enabled location = record (small enabled) { dtr0 = 4; memory = stored tw
 abbrev pub by_a_counter : Bool → Gear
 by_a_counter enabled = record (small enabled) { dtr0 = 4; dtr1 = 205 }
 
+-- the small unit with this indicator byte, enabled, and with 09h stored at 03h
+abbrev pub indicating : ℕ → Gear
+indicating byte = record (small true) { memory = stored two_places 1 1 byte }
+
+abbrev pub indicated : ℕ → Gear
+indicated byte = record (moved true) { memory = stored (stored two_places 1 3 9) 1 1 byte }
+
 -- the same at the last location that there may be
 abbrev pub at_the_end : Gear
 at_the_end = record (small true) { dtr0 = 0xFF }

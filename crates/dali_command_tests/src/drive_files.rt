@@ -3,6 +3,7 @@ use dali_drive::{StdSink, StdSource, StoreDesk};
 use dali_faults::Status;
 use dali_link_commands::drive::DriveTask;
 use dali_link_commands::drive_files::drive_files;
+use dali_link_commands::journal_files::JournalFiles;
 use dali_link_commands::lines::Lines;
 use dali_link_commands::required::Required;
 use dali_report::Report;
@@ -95,7 +96,7 @@ fn task_of<'a>(drive: &Drive<'a>, name: &'a str) -> DriveTask<'a> {
 }
 
 // Drives the order of a file of this name, and tells whether that ends well, and sends and tells what it has to.
-fn is_driven<'a, R: Files<File = File> + AllocGlobal>(
+fn is_driven<'a, R: Files<File = File> + AllocGlobal + JournalFiles>(
     rt: &'a R,
     drive: &Drive<'a>,
     name: &'a str,
@@ -135,7 +136,10 @@ fn holds<R: Files<File = File> + AllocGlobal>(
 }
 
 // Whether a drive does and leaves what it has to.
-fn is_right<R: Files<File = File> + AllocGlobal>(rt: &R, drive: &Drive<'_>) -> io::Result<bool> {
+fn is_right<R: Files<File = File> + AllocGlobal + JournalFiles>(
+    rt: &R,
+    drive: &Drive<'_>,
+) -> io::Result<bool> {
     if let Some(bytes) = drive.before {
         fs::write(rt, drive.journal, bytes)?;
     }

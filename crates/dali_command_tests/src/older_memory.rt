@@ -1,8 +1,8 @@
 // Two older journals in memory that are one journal together, and two of which one can't be used.
 use crate::drive_files::SILENT;
-use dali_input::Input;
 use dali_link_commands::older::{OlderFault, Unusable, joined_older};
 use dali_shared_tests::expect_that;
+use dali_store::MemoryStore;
 use std::alloc::Global;
 use std::test::Fail;
 
@@ -35,23 +35,29 @@ static TWO: [Two<'static>; 2] = [
     },
 ];
 
+// A store of these bytes.
+fn store_of(alloc: Global, bytes: &[u8]) -> Result<MemoryStore, Fail> {
+    Ok(MemoryStore::new(alloc, bytes.to_vec(alloc)?))
+}
+
 // Whether two journals have so many orders as one, or that one of them can't be used.
-fn are_as_told(alloc: Global, two: &Two<'_>) -> bool {
-    match joined_older(
-        alloc,
-        &mut [Input::new(SILENT.as_slice()), Input::new(two.second)],
-    ) {
+fn are_as_told(alloc: Global, two: &Two<'_>) -> Result<bool, Fail> {
+    let mut stores = [
+        store_of(alloc, SILENT.as_slice())?,
+        store_of(alloc, two.second)?,
+    ];
+    Ok(match joined_older(alloc, &mut stores) {
         Ok(Some(journal)) => two.unusable.is_none() && journal.orders() == two.orders,
         Ok(None) => false,
         Err(unusable) => two.unusable == Some(unusable),
-    }
+    })
 }
 
 #[test]
 fn two_older_journals(rt: HostRuntime) -> Result<(), Fail> {
     for two in &TWO {
         expect_that(
-            are_as_told(rt.alloc(), two),
+            are_as_told(rt.alloc(), two)?,
             "two journals, or which of them can't be used",
         )?;
     }

@@ -23,7 +23,7 @@ use Rattle.dali_trace.specs.Next.{IsNext}
 use Rattle.dali_engine.specs.WriterState.{WriterState}
 use Rattle.dali_engine.specs.Describes.{Describes}
 use Rattle.dali_engine.specs.Follows.{Follows}
-use Rattle.dali_drive.specs.WorkedOn.{IsDrivenAt}
+use Rattle.dali_drive.specs.WorkedOn.{AreUnasked, IsDrivenAt}
 use Rattle.dali_drive.specs.Lines.{IsAnswerLine, TakesText}
 use Rattle.dali_drive.specs.Observed.{IsToldEnd}
 use Rattle.dali_drive.specs.Transcript.{Streams, Transcript, shown, link_shown}
@@ -227,6 +227,17 @@ breaks_exchange End start past rest j l more a less o frame next none =
     (frame, next, record { journal = Keeps-refl j; link = none.link; answers = none.answers; out = Keeps-refl o })
 breaks_exchange TooLong start past rest j l more a less o frame next none =
     (frame, next, record { journal = Keeps-refl j; link = none.link; answers = none.answers; out = Keeps-refl o })
+
+-- no order was read and not asked then
+pub none_unasked : (fault : DriveFault) (frame : Frame) (old new : Streams) → BreaksFrame frame fault old new
+    → AreUnasked fault []
+none_unasked NoMemory frame old new broken = absurd broken.answers
+none_unasked Journal frame old new broken = refl
+none_unasked Link frame old new broken = refl
+none_unasked (Line why) frame old new broken = refl
+none_unasked End frame old new broken = refl
+none_unasked TooLong frame old new broken = refl
+none_unasked Out frame old new broken = refl
 
 -- and what was told of it
 pub told_of_end : (fault : DriveFault) (told : List Happening → Type 0)

@@ -1,6 +1,6 @@
 -- How orders are followed: work behind what was done, and a line that is told.
-use Rattle.std.proofs.Common.{◌≡◌, ◌≤◌, ◌∙◌, refl, sym, ap, subst, append_assoc, append-nil, ℕ, List, [], ◌∷◌, ◌++◌}
-use Rattle.std.proofs.Common.{map, reverse, inl, inr, arith, length, length-append}
+use Rattle.std.proofs.Common.{◌≡◌, ◌∙◌, refl, sym, ap, subst, append_assoc, append-nil, ℕ, List, [], ◌∷◌, ◌++◌}
+use Rattle.std.proofs.Common.{map, reverse, inl, inr}
 use Rattle.std.proofs.Common.{Option, Result, Ok, Err, OnOk, false}
 use Rattle.std.proofs.lemmas.List.{reverse-append, reverse-reverse, map-append}
 use Rattle.std.specs.Io.KnownBytes.{Appends}
@@ -18,7 +18,7 @@ use Rattle.dali_trace.specs.declared.fault.DriveFault.{DriveFault}
 use Rattle.dali_trace.specs.declared.fault.DriveFault.TheVariants.{Journal, Link, Line, End, NoMemory, TooLong, Out}
 use Rattle.dali_drive.specs.declared.following.Given.{Given}
 use Rattle.dali_drive.specs.declared.following.Given.TheVariants as gives
-use Rattle.dali_drive.specs.Desks.{Look, LeavesSince}
+use Rattle.dali_drive.specs.Desks.{Look}
 use Rattle.dali_drive.specs.Transcript.{Streams, said_lines, shown}
 use Rattle.dali_drive.specs.Driven.{orders_asked, IsDriven, LeavesBetween}
 use Rattle.dali_drive.specs.Observed.{IsToldEnd}
@@ -165,11 +165,11 @@ module _ (start : Start) (steps : List Step) (given : List Given) (first middle 
     (orders : List (Contents × ℕ)) (fault : DriveFault) (last : Streams) (may_leave : List ℕ → Type 0)
     (told : List Happening → Type 0) (told_end : List Happening → DriveFault → Frame → List ℕ → Type 0) where
   -- the work of these orders was broken off
-  pub breaks_follow : (zero : Streams) (one : length orders ≤ 1)
+  pub breaks_follow : (zero : Streams)
       (broken : HasBroken start (happenings steps) orders zero fault middle last may_leave told told_end)
       → IsDriven start (broken.more ++ happenings steps) (muted first) broken.then
       → BreaksFollow start (as_given (reverse orders) ++ given) fault first last may_leave told told_end
-  breaks_follow zero one broken driven = record {
+  breaks_follow zero broken driven = record {
     follow = record {
       steps = map Happened broken.more ++ steps;
       then = broken.then;
@@ -181,10 +181,7 @@ module _ (start : Start) (steps : List Step) (given : List Given) (first middle 
           (as_given (reverse orders) ++ given) first broken.then
           last (record {
             unasked = broken.unasked;
-            one_ahead =
-                let all = sym (length-append (reverse (orders_asked broken.more)) broken.unasked)
-                ∙ ap (length {A = Contents × ℕ}) broken.asked in
-                omega (arith, all, one);
+            ahead = broken.ahead;
             given_are = given_so steps given orders broken.unasked broken.more broken.asked given_are;
             driven = rw (happened_first broken.more steps) driven;
             broken = rw (happened_first broken.more steps) broken.broken;
@@ -231,7 +228,7 @@ pub begins_broken : (start : Start) (first : Streams) (fault : DriveFault) (last
     → BreaksFollow start [] fault first last may_leave told told_end
 begins_broken start first fault last may_leave told told_end broken =
     breaks_follow start [] [] first first
-    (Appends-nil first.out) refl [] fault last may_leave told told_end first (omega arith) broken
+    (Appends-nil first.out) refl [] fault last may_leave told told_end first broken
     (muted_driven start (broken.more ++ []) first broken.then broken.driven)
 
 module _ (start : Start) (given : List Given) (first : Streams) (then : WriterState)
@@ -256,7 +253,7 @@ module _ (start : Start) (given : List Given) (first : Streams) (then : WriterSt
       )
   order_on (Err fault) broken quiet =
       breaks_follow start follow.steps given first old.streams follow.at.said follow.at.given_are
-      ((order, moment) ∷ []) fault new.streams (LeavesSince old new) told told_end (muted first) (omega arith) broken
+      ((order, moment) ∷ []) fault new.streams new.may_leave told told_end (muted first) broken
       broken.driven
 
 module _ (start : Start) (given : List Given) (first : Streams) (writer : WriterState) (j l a o more : Option (List ℕ))
@@ -303,15 +300,3 @@ module _ (start : Start) (given : List Given) (first : Streams) (writer : Writer
     left = left;
     told_all = is;
   }
-
--- no more may be left than that
-pub breaks_less : (start : Start) (given : List Given) (fault : DriveFault) (first last : Streams)
-    (more less : List ℕ → Type 0) (told : List Happening → Type 0)
-    (told_end : List Happening → DriveFault → Frame → List ℕ → Type 0) → ((c : List ℕ) → less c → more c)
-    → BreaksFollow start given fault first last more told told_end
-    → BreaksFollow start given fault first last less told told_end
-breaks_less start given fault first last more less told told_end fewer b = record {
-  follow = b.follow;
-  left = λ c left. b.left c (fewer c left);
-  told_all = b.told_all;
-}

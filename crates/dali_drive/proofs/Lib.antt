@@ -21,3 +21,4 @@ pub mod SurveyLemmas
 pub mod WorkedSurveyLemmas
 pub mod WorkedBehindLemmas
 pub mod WorkedDeskLemmas
+mod WorkedUnopenedLemmas

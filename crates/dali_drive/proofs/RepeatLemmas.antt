@@ -80,5 +80,5 @@ act_once start most first left sittings stay loads sat begins is =
       file = all.1;
       once = kept_are_taken start (joined sittings) one.0;
       right = right;
-      ready = ready_at_rest stay is.along right;
+      ready = ready_at_rest stay right;
     }

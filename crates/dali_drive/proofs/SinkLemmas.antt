@@ -1,9 +1,9 @@
 -- What a stop leaves of a sink of records, behind what is put there.
-use Rattle.std.proofs.Common.{◌≡◌, ◌≤◌, ◌⊎◌, sym, arith, ℕ, Bool, true, false, List, [], ◌++◌, Option, Some, None}
+use Rattle.std.proofs.Common.{◌≡◌, ◌≤◌, ◌⊎◌, ◌∙◌, sym, ap, arith, ℕ, Bool, true, false, List, [], ◌++◌, Option, Some, None}
 use Rattle.std.proofs.Common.{length, length-append, append-nil, append_assoc}
 use Rattle.std.proofs.lemmas.Bool.{cases_lt}
-use Rattle.std.specs.Io.KnownBytes.{Appends}
-use Rattle.dali_store.specs.Stores.{IsDurable, IsBetween}
+use Rattle.std.specs.Io.KnownBytes.{Appends, Keeps}
+use Rattle.dali_store.specs.Stores.{IsDurable, IsBetween, Elapses}
 use Rattle.dali_drive.specs.LentSinks.{SinkLeaves, SinkLeft, flushed_count, longer_begins}
 use Rattle.dali_drive.specs.Streams.{IsPart, Flushes, PutsFirst}
 
@@ -42,13 +42,13 @@ module _ (before more now : List ℕ) (is : now ≡ before ++ more) where
 -- behind what was put a stop leaves a first part of it
 pub leaves_put : (done : Bool) (flushed held flushed_now held_now : Option (List ℕ)) (more : List ℕ)
     → IsPart flushed held → Appends held held_now more → Flushes done held_now flushed flushed_now
-    → (c : List ℕ) → IsDurable held (SinkLeaves flushed held) × SinkLeaves flushed_now held_now c
+    → IsDurable held (SinkLeaves flushed held) → (c : List ℕ) → SinkLeaves flushed_now held_now c
     → IsBetween held held_now c
-leaves_put true None held new now more part put flushes c (settled, left) = absurd (rw flushes at left)
-leaves_put false None held new now more part put flushes c (settled, left) = absurd (rw flushes at left)
-leaves_put done (Some flushed) None new now more part put flushes c (settled, left) = absurd part
-leaves_put done (Some flushed) (Some held) new None more part put flushes c (settled, left) = absurd put
-leaves_put done (Some flushed) (Some held) new (Some now) more part put flushes c (settled, left) =
+leaves_put true None held new now more part put flushes settled c left = absurd (rw flushes at left)
+leaves_put false None held new now more part put flushes settled c left = absurd (rw flushes at left)
+leaves_put done (Some flushed) None new now more part put flushes settled c left = absurd part
+leaves_put done (Some flushed) (Some held) new None more part put flushes settled c left = absurd put
+leaves_put done (Some flushed) (Some held) new (Some now) more part put flushes settled c left =
     let now_all = rw (all_flushed flushed held part settled) at flushes in
     left_behind held more now put new (flushed_since done held now new now_all) c left
 
@@ -85,3 +85,27 @@ put_over done (Some flushed) (Some held) new (Some now) more part put flushes se
       before = λ t c le left.
           let p = part_of held more now put new since t c left in left_or_between held more now put t c p.1.0 p.1.1 p.0;
     })
+
+-- what a flush leaves was left before
+pub flush_leaves : (done : Bool) (flushed held flushed_now held_now : Option (List ℕ)) → IsPart flushed held
+    → Keeps held held_now → Flushes done held_now flushed flushed_now → (c : List ℕ)
+    → SinkLeaves flushed_now held_now c → SinkLeaves flushed held c
+flush_leaves true None held new now part kept flushes c left = absurd (rw flushes at left)
+flush_leaves false None held new now part kept flushes c left = absurd (rw flushes at left)
+flush_leaves done (Some flushed) None new now part kept flushes c left = absurd part
+flush_leaves done (Some flushed) (Some held) new None part kept flushes c left = absurd kept
+flush_leaves true (Some flushed) (Some held) new (Some now) (rest, is) kept flushes c left =
+    let (more, behind, front, whole) = rw flushes at left in (
+      rest ++ more,
+      behind,
+      front ∙ ap (λ (l : List ℕ). l ++ more) (kept ∙ is) ∙ append_assoc flushed rest more,
+      sym kept ∙ whole,
+    )
+flush_leaves false (Some flushed) (Some held) new (Some now) part kept flushes c left = rw (flushes, kept) at left
+
+-- and time goes on
+pub flush_elapses : (done : Bool) (flushed held flushed_now held_now : Option (List ℕ)) → IsPart flushed held
+    → Keeps held held_now → Flushes done held_now flushed flushed_now
+    → Elapses (flushed_count flushed) (flushed_count flushed_now) (SinkLeft flushed held)
+    (SinkLeft flushed_now held_now) (SinkLeaves flushed_now held_now)
+flush_elapses done flushed held new now part kept flushes = grind (arith, length-append)

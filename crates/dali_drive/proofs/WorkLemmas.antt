@@ -12,7 +12,7 @@ use Rattle.dali_trace.specs.Replies.{reply_line}
 use Rattle.dali_trace.specs.Trace.{Start}
 use Rattle.dali_engine.specs.WriterState.{WriterState}
 use Rattle.dali_trace.specs.declared.fault.DriveFault.{DriveFault}
-use Rattle.dali_drive.specs.Desks.{Look, IsDurableAt, LeavesSince}
+use Rattle.dali_drive.specs.Desks.{Look}
 use Rattle.dali_drive.specs.Transcript.{Streams, said_lines}
 use Rattle.dali_drive.specs.Driven.{orders_asked}
 use Rattle.dali_drive.specs.WorkedOn.{HasWorked, HasBroken, WorkedOn}
@@ -72,6 +72,7 @@ module _ (start : Start) (past : List Happening) (orders more_orders : List (Con
   breaks_on fault last may_leave told told_end next = record {
     more = next.more ++ before.more;
     unasked = next.unasked;
+    ahead = next.ahead;
     then = next.then;
     driven = rw (append_assoc next.more before.more past) next.driven;
     asked =
@@ -85,39 +86,16 @@ module _ (start : Start) (past : List Happening) (orders more_orders : List (Con
     told_all = rw (append_assoc next.more before.more past) next.told_all;
   }
 
--- no more may be left than that
-pub leaving_less : (start : Start) (past : List Happening) (orders : List (Contents × ℕ)) (first : Streams)
-    (fault : DriveFault) (middle last : Streams) (more less : List ℕ → Type 0) (told : List Happening → Type 0)
-    (told_end : List Happening → DriveFault → Frame → List ℕ → Type 0) → ((c : List ℕ) → less c → more c)
-    → HasBroken start past orders first fault middle last more told told_end
-    → HasBroken start past orders first fault middle last less told told_end
-leaving_less start past orders first fault middle last more less told told_end fewer b = record {
-  more = b.more;
-  unasked = b.unasked;
-  then = b.then;
-  driven = b.driven;
-  asked = b.asked;
-  said = b.said;
-  broken = b.broken;
-  left = λ c left. b.left c (fewer c left);
-  told_all = b.told_all;
-}
-
 -- work, and then whatever came of more
 pub then_work : {A : Type 0} (result : Result A DriveFault) (start : Start) (past : List Happening)
     (orders more_orders : List (Contents × ℕ)) (first : Streams) (then writer : WriterState) (old mid new : Look)
     (told_then told : List Happening → Type 0) (told_end : List Happening → DriveFault → Frame → List ℕ → Type 0)
-    → (IsDurableAt old → IsDurableAt mid)
     → (before : HasWorked start past orders first then old.streams mid.streams told_then)
     → WorkedOn start (before.more ++ past) more_orders first result writer mid new told told_end
     → WorkedOn start past (orders ++ more_orders) first result writer old new told told_end
-then_work (Ok done) start past orders more_orders first then writer old mid new told_then told told_end settles before
-    next =
+then_work (Ok done) start past orders more_orders first then writer old mid new told_then told told_end before next =
     works_on start past orders more_orders first then old.streams mid.streams told_then before writer new.streams told
     next
-then_work (Err fault) start past orders more_orders first then writer old mid new told_then told told_end settles before
-    next =
+then_work (Err fault) start past orders more_orders first then writer old mid new told_then told told_end before next =
     breaks_on start past orders more_orders first then old.streams mid.streams told_then before fault new.streams
-    (LeavesSince old new) told told_end
-    (leaving_less start (before.more ++ past) more_orders first fault mid.streams new.streams (LeavesSince mid new)
-    (LeavesSince old new) told told_end (λ c left. (settles left.0, left.1)) next)
+    new.may_leave told told_end next

@@ -1,6 +1,6 @@
 -- What stands behind older journals, what a list of orders gives, and what is followed, by hand, and what is near it.
 use Rattle.std.proofs.Common.{Some, ◌≡◌, refl, ℕ, List, [], ◌∷◌, ◌++◌, arith, append-nil, length-append, codes, Option}
-use Rattle.std.proofs.Common.{None, ap, length}
+use Rattle.std.proofs.Common.{None, ap, length, ◌≤◌}
 use Rattle.dali_bank.specs.Order.{Contents}
 use Rattle.dali_journal.specs.declared.behind.JoinFault.{JoinFault}
 use Rattle.dali_journal.specs.declared.behind.JoinFault.TheVariants.{Repeated}
@@ -22,6 +22,8 @@ use Rattle.std.proofs.lemmas.List.{append_cancel_right, length-reverse, length-m
 use Rattle.std.proofs.lemmas.Fmt.{decimal_digit}
 use Rattle.arrayvec.specs.ArrayVec.{ArrayVec}
 use Rattle.dali_trace.specs.declared.fault.DriveFault.{DriveFault}
+use Rattle.dali_trace.specs.declared.fault.DriveFault.TheVariants.{Journal, Link, Line, End, NoMemory, TooLong, Out}
+use Rattle.dali_drive.specs.WorkedOn.{AreUnasked}
 use Rattle.dali_trace.specs.declared.happening.Happening.TheVariants.{Asked, Answered, Sent, Kept, Stopped, Powered}
 use Rattle.dali_trace.specs.declared.happening.Reply.TheVariants.{Taken, Full}
 use Rattle.dali_frame.specs.declared.forward.Frame.TheVariants.{Dtr1}
@@ -187,8 +189,39 @@ given_alone = refl
 
 -- ---- orders that were broken off
 
--- one is asked ahead of what happened, at most: two can't be
+-- one alone is read ahead of what is asked, where there is no memory for it
+pub one_is_ahead_without_memory : AreUnasked NoMemory ((first_order, 7) ∷ [])
+one_is_ahead_without_memory = refl
+
+one_at_most : (fault : DriveFault) (unasked : List (Contents × ℕ)) → AreUnasked fault unasked → length unasked ≤ 1
+one_at_most NoMemory unasked ahead = omega (arith, ahead)
+one_at_most Journal unasked ahead = rw ahead (omega arith)
+one_at_most Link unasked ahead = rw ahead (omega arith)
+one_at_most (Line why) unasked ahead = rw ahead (omega arith)
+one_at_most End unasked ahead = rw ahead (omega arith)
+one_at_most TooLong unasked ahead = rw ahead (omega arith)
+one_at_most Out unasked ahead = rw ahead (omega arith)
+
 pub two_orders_arent_ahead : (fault : DriveFault) (first then last : Streams) → BrokenOrder empty []
     (gives.Order second_order 8 ∷ gives.Order first_order 7 ∷ []) fault first then last → ⊥
 two_orders_arent_ahead fault first then last broken =
+    let one = one_at_most fault broken.unasked broken.ahead in
     let lengths = ap length broken.given_are in grind (arith, length-append, length-reverse, length-map)
+
+-- at any other fault none is
+none_is_ahead : (fault : DriveFault) (first then last : Streams)
+    (broken : BrokenOrder empty [] (gives.Order first_order 7 ∷ []) fault first then last) → broken.unasked ≡ [] → ⊥
+none_is_ahead fault first then last broken none =
+    let lengths = ap length broken.given_are in grind (arith, length-append, length-reverse, length-map)
+
+pub none_is_ahead_of_a_failed_journal : (first then last : Streams)
+    → BrokenOrder empty [] (gives.Order first_order 7 ∷ []) Journal first then last → ⊥
+none_is_ahead_of_a_failed_journal first then last broken = none_is_ahead Journal first then last broken broken.ahead
+
+pub none_is_ahead_of_a_failed_link : (first then last : Streams)
+    → BrokenOrder empty [] (gives.Order first_order 7 ∷ []) Link first then last → ⊥
+none_is_ahead_of_a_failed_link first then last broken = none_is_ahead Link first then last broken broken.ahead
+
+pub none_is_ahead_of_a_failed_output : (first then last : Streams)
+    → BrokenOrder empty [] (gives.Order first_order 7 ∷ []) Out first then last → ⊥
+none_is_ahead_of_a_failed_output first then last broken = none_is_ahead Out first then last broken broken.ahead

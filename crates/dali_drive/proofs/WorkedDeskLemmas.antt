@@ -1,7 +1,8 @@
 -- What a desk shows and what a stop may leave of it, by hand, and what is near it and isn't so.
-use Rattle.std.proofs.Common.{refl, arith, ℕ, Bool, true, false, List, [], ◌∷◌, Some, None, Ok, Err}
+use Rattle.std.proofs.Common.{refl, inl, inr, arith, ℕ, Bool, true, false, List, [], ◌∷◌, Some, None, Ok, Err}
 use Rattle.dali_trace.specs.declared.fault.DriveFault.TheVariants as faults
-use Rattle.dali_drive.specs.Desks.{Look, look_of, failures, IsDurableAt, EndsAs, LeavesSince, LeavesPut}
+use Rattle.dali_drive.specs.Desks.{Look, look_of, failures, IsDurableAt, IsAhead, EndsAs, LeavesPut}
+use Rattle.dali_drive.specs.Driven.{FlushesFirst}
 use Rattle.dali_drive.specs.LentSinks.{SinkLeaves, SinkLeft}
 use Rattle.dali_drive.specs.Streams.{Flushes, IsPart}
 use Rattle.dali_drive.specs.Transcript.{shown}
@@ -21,6 +22,29 @@ failed_flush_flushes_nothing = (refl, λ flushes. cc)
 -- where it is never told, it isn't told then
 pub untold_flush : Flushes true (Some (1 ∷ [])) None None × (Flushes true (Some (1 ∷ [])) None (Some (1 ∷ [])) → ⊥)
 untold_flush = (refl, λ flushes. cc)
+
+-- A frame's line, of one byte here, is flushed before a byte of its answer is read
+
+pub flushed_and_answered : FlushesFirst {A = ℕ} (Ok 0) (Some (1 ∷ [])) (Some []) (Some (1 ∷ [])) (Some (2 ∷ []))
+    (Some [])
+flushed_and_answered = refl
+
+pub unflushed_isnt_answered : FlushesFirst {A = ℕ} (Ok 0) (Some (1 ∷ [])) (Some []) (Some []) (Some (2 ∷ [])) (Some [])
+    → ⊥
+unflushed_isnt_answered flushes = cc
+
+pub failed_before_a_byte : FlushesFirst {A = ℕ} (Err faults.Link) (Some (1 ∷ [])) (Some []) (Some []) (Some (2 ∷ []))
+    (Some (2 ∷ []))
+failed_before_a_byte = inr refl
+
+pub no_byte_read_of_an_unflushed : FlushesFirst {A = ℕ} (Err faults.Link) (Some (1 ∷ [])) (Some []) (Some [])
+    (Some (2 ∷ 3 ∷ [])) (Some (3 ∷ [])) → ⊥
+no_byte_read_of_an_unflushed (inl flushes) = cc
+no_byte_read_of_an_unflushed (inr kept) = cc
+
+pub no_other_fault_of_an_unflushed : FlushesFirst {A = ℕ} (Err faults.End) (Some (1 ∷ [])) (Some []) (Some []) (Some [])
+    (Some []) → ⊥
+no_other_fault_of_an_unflushed flushes = cc
 
 -- What is flushed of a sink
 
@@ -91,43 +115,40 @@ all_settled c (a ∷ more, rest, front, whole) = grind arith
 pub unflushed_isnt_settled : IsDurableAt one_unflushed → ⊥
 unflushed_isnt_settled settled = let lost = settled (1 ∷ []) ([], 2 ∷ [], refl, refl) in cc
 
+-- where a record may be kept, and a frame or a reply go out
+pub all_ahead : IsAhead all_flushed
+all_ahead = ((refl, refl, refl, refl), all_settled)
+
+pub unflushed_isnt_ahead : IsAhead one_unflushed → ⊥
+unflushed_isnt_ahead ahead = unflushed_isnt_settled ahead.1
+
+pub failed_isnt_ahead : IsAhead (desk_of (1 ∷ []) (1 ∷ []) true) → ⊥
+failed_isnt_ahead ahead = let unfailed = ahead.0.0 in cc
+
 -- what came to its end
-pub ended_settled : EndsAs {A = ℕ} (Ok 0) all_flushed all_flushed
-ended_settled = ((refl, refl, refl, refl), λ settled. settled)
+pub ended_ahead : EndsAs {A = ℕ} (Ok 0) all_flushed
+ended_ahead = all_ahead
 
-pub unsettled_isnt_ended : EndsAs {A = ℕ} (Ok 0) all_flushed one_unflushed → ⊥
-unsettled_isnt_ended ends = unflushed_isnt_settled (ends.1 all_settled)
-
-pub failed_isnt_ended : EndsAs {A = ℕ} (Ok 0) one_unflushed journal_failed → ⊥
-failed_isnt_ended ends = let unfailed = ends.0.0 in cc
+pub unsettled_isnt_ended : EndsAs {A = ℕ} (Ok 0) one_unflushed → ⊥
+unsettled_isnt_ended ends = unflushed_isnt_ahead ends
 
 -- what a fault broke off
-pub ended_failed : EndsAs {A = ℕ} (Err faults.Journal) all_flushed journal_failed
+pub ended_failed : EndsAs {A = ℕ} (Err faults.Journal) journal_failed
 ended_failed = (refl, refl, refl, refl)
 
-pub unfailed_isnt_broken_off : EndsAs {A = ℕ} (Err faults.Journal) all_flushed one_unflushed → ⊥
+pub unfailed_isnt_broken_off : EndsAs {A = ℕ} (Err faults.Journal) one_unflushed → ⊥
 unfailed_isnt_broken_off ends = let failed = ends.0 in cc
 
-pub another_fault_isnt_shown : EndsAs {A = ℕ} (Err faults.Out) all_flushed journal_failed → ⊥
+pub another_fault_isnt_shown : EndsAs {A = ℕ} (Err faults.Out) journal_failed → ⊥
 another_fault_isnt_shown ends = let unfailed = ends.0 in cc
-
--- what a stop leaves since
-pub left_since_settled : LeavesSince all_flushed one_unflushed (1 ∷ 2 ∷ [])
-left_since_settled = (all_settled, (2 ∷ [], [], refl, refl))
-
-pub no_other_left_since : LeavesSince all_flushed one_unflushed [] → ⊥
-no_other_left_since left = grind arith
-
-pub nothing_told_of_unsettled : LeavesSince one_unflushed all_flushed (1 ∷ []) → ⊥
-nothing_told_of_unsettled left = unflushed_isnt_settled left.0
 
 -- what was put is left behind the rest
 pub put_left : LeavesPut all_flushed one_unflushed
-put_left c left = left.1
+put_left c left = left
 
 -- and no bytes were taken away
 abbrev cut_off : Look
 cut_off = desk_of [] (1 ∷ 2 ∷ []) false
 
 pub rest_isnt_cut_off : LeavesPut all_flushed cut_off → ⊥
-rest_isnt_cut_off left = grind (arith, left [] (all_settled, ([], 1 ∷ 2 ∷ [], refl, refl)))
+rest_isnt_cut_off left = grind (arith, left [] ([], 1 ∷ 2 ∷ [], refl, refl))

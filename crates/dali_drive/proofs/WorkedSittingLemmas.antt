@@ -3,7 +3,8 @@ use Rattle.std.proofs.Common.{◌≡◌, ◌≤◌, ◌∙◌, ◌++◌, refl, s
 use Rattle.std.proofs.Common.{take, drop, take-append-drop, arith}
 use Rattle.std.proofs.lemmas.List.{length-take-le}
 use Rattle.std.specs.Prelude.{length}
-use Rattle.dali_bus.specs.World.{Gear}
+use Rattle.dali_bus.specs.World.{Gear, World}
+use Rattle.dali_bus.specs.Chain.{IsChain}
 use Rattle.dali_bus.specs.Carry.{Carry, MayHear}
 use Rattle.dali_frame.specs.declared.forward.Frame.TheVariants.{Dtr1}
 use Rattle.dali_journal.proofs.SpellingLemmas.{none_begins_another}
@@ -18,15 +19,16 @@ use Rattle.dali_trace.specs.declared.happening.Happening.{Happening}
 use Rattle.dali_trace.specs.declared.happening.Happening.TheVariants.{Sent, Kept, Stopped}
 use Rattle.dali_trace.specs.Legal.{IsFinished}
 use Rattle.dali_trace.specs.Next.{IsNext}
-use Rattle.dali_trace.specs.Moments.{Along}
+use Rattle.dali_trace.specs.Moves.{Moves}
 use Rattle.dali_trace.specs.Worked.{empty, first_order, taken, begun, alone, blank_unit}
 use Rattle.dali_trace.specs.WorkedPlans.{first_frame}
 use Rattle.dali_trace.proofs.WorkedLemmas.{begun_legal}
 use Rattle.dali_trace.proofs.WorkedPlanLemmas.{first_planned}
-use Rattle.dali_trace.proofs.BlankLemmas.{goes_along}
 use Rattle.dali_laws.specs.Joined.{Sitting}
+use Rattle.dali_laws.specs.Stays.{IsAlong}
 use Rattle.dali_laws.specs.WorkedStays.{at_rest, opened_once}
-use Rattle.dali_laws.proofs.WorkedStayLemmas.{amid, not_right_amid_an_order}
+use Rattle.dali_laws.proofs.WorkedStayLemmas.{amid, not_right_amid_an_order, ready_when_blank, nobody_comes, all_stay}
+use Rattle.dali_laws.proofs.StayLemmas.{ready_begins}
 use Rattle.dali_store.specs.Opened.{Loads}
 use Rattle.dali_store.proofs.OpenLemmas.{whole_loads}
 use Rattle.dali_trace.specs.declared.fault.DriveFault.TheVariants.{Link, NoMemory}
@@ -169,18 +171,20 @@ unheard = record { units = λ address. same address (alone blank_unit address); 
   same address None = tt
   same address (Some gear) = inl refl
 
-pub both_along : Along (alone blank_unit) [] empty (alone blank_unit) both_sittings (alone blank_unit) worlds
-both_along = search (goes_along.3, unheard) depth 12
+stays_along : (past : List Happening) (states : List World)
+    → IsChain Moves (alone blank_unit) past (alone blank_unit) states
+    → IsAlong (at_rest (alone blank_unit) past (alone blank_unit) states)
+stays_along past states chain =
+    let stay = at_rest (alone blank_unit) past (alone blank_unit) states in
+    ready_begins stay [] refl refl ready_when_blank
+    (all_stay empty (alone blank_unit) past (alone blank_unit) states chain)
+    (nobody_comes stay.staying (alone blank_unit) past (alone blank_unit) states chain)
 
-pub both_act_once : ActOnce empty (second_sitting ∷ first_sitting ∷ []) begun_file (record {
-  zero = alone blank_unit;
-  lost = [];
-  start = empty;
-  first = alone blank_unit;
-  past = both_sittings;
-  last = alone blank_unit;
-  states = worlds;
-})
+both_chain : IsChain Moves (alone blank_unit) both_sittings (alone blank_unit) worlds
+both_chain = search unheard depth 12
+
+pub both_act_once : ActOnce empty (second_sitting ∷ first_sitting ∷ []) begun_file
+    (at_rest (alone blank_unit) both_sittings (alone blank_unit) worlds)
 both_act_once =
     act_once empty 100 [] begun_file (second_sitting ∷ first_sitting ∷ []) _
     (record { version = Two; len = 0; kept = none_kept; loadable = (refl, refl, refl) }) both_sat (tt, (refl, tt))
@@ -188,8 +192,8 @@ both_act_once =
       before = [];
       later = [];
       is_part = refl;
-      begins = record { older = []; newest = refl; idle = refl; rests = inl refl };
-      along = both_along;
+      begins = record { newest = []; older = []; are = refl; idle = refl; told = inl (refl, inl refl) };
+      along = stays_along both_sittings worlds both_chain;
     })
 
 -- A unit that came between the two: the second drive is told against what that held then, and acts once over it
@@ -203,8 +207,10 @@ over_a_new_unit =
       before = Stopped Checked ∷ taken;
       later = [];
       is_part = refl;
-      begins = record { older = []; newest = refl; idle = refl; rests = inr (inl refl) };
-      along = search (goes_along.3, unheard) depth 12;
+      begins = record { newest = []; older = []; are = refl; idle = refl; told = inr (refl, inl refl) };
+      along =
+          stays_along first_frame (alone blank_unit ∷ alone blank_unit ∷ alone blank_unit ∷ alone blank_unit ∷ [])
+          (search unheard depth 12);
     })
 
 -- one that came while an order was opened: what is promised of other stays is not so of its

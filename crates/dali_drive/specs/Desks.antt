@@ -47,38 +47,38 @@ FailsOpen fault failed =
 abbrev pub IsDurableAt : Look → Type 0
 IsDurableAt look = IsDurable look.streams.journal look.may_leave
 
--- none has failed, and where a stop left all it does so now; or those have failed that do where the fault comes
-abbrev pub EndsAs : {A : Type 0} → Result A DriveFault → Look → Look → Type 0
-EndsAs (Ok value) old new = IsUnfailed new.failed × (IsDurableAt old → IsDurableAt new)
-EndsAs (Err fault) old new = ShowsFault fault new.failed
+-- none has failed, and all that was kept is durable: so stands a desk before each record, frame and reply
+abbrev pub IsAhead : Look → Type 0
+IsAhead look = IsUnfailed look.failed × IsDurableAt look
 
--- what a stop may leave then, where it left all before
-abbrev pub LeavesSince : Look → Look → List ℕ → Type 0
-LeavesSince old new c = IsDurableAt old × new.may_leave c
+-- it stands so again; or those have failed that do where the fault comes
+abbrev pub EndsAs : {A : Type 0} → Result A DriveFault → Look → Type 0
+EndsAs (Ok value) look = IsAhead look
+EndsAs (Err fault) look = ShowsFault fault look.failed
 
--- that is what the journal showed, with all or a first part of what was put since
+-- a stop leaves what the journal showed, with all or a first part of what was put since
 abbrev pub LeavesPut : Look → Look → Type 0
-LeavesPut old new = LeavesBetween old.streams.journal new.streams.journal (LeavesSince old new)
+LeavesPut old new = LeavesBetween old.streams.journal new.streams.journal new.may_leave
 
 -- no more may be left than before
 abbrev pub LeavesNoMore : Look → Look → Type 0
 LeavesNoMore old new = (c : List ℕ) → new.may_leave c → old.may_leave c
 
--- bytes were put behind the journal's, and where a stop left all it leaves that at each moment with a first part of
--- them; and the streams are the same
+-- bytes were put behind the journal's, and a stop at each moment leaves it with a first part of them; and the streams
+-- are the same
 pub record Grows {D : Type 0} (look : D → Look) (moment : D → ℕ) (left_since : D → ℕ → List ℕ → Type 0)
     (same : D → D → Type 0) (old new : D) : Type 0 where
   pub more : List ℕ
   pub grown : Appends (look old).streams.journal (look new).streams.journal more
-  pub leaves : IsDurableAt (look old)
-      → LeavesOnly moment left_since old new (IsBetween (look old).streams.journal (look new).streams.journal)
+  pub leaves : LeavesOnly moment left_since old new
+      (IsBetween (look old).streams.journal (look new).streams.journal)
   pub stays : same old new
 
 -- work at a desk: this came of it, it ended so, and the desk has grown
 pub record Works {D A : Type 0} (look : D → Look) (moment : D → ℕ) (left_since : D → ℕ → List ℕ → Type 0)
     (same : D → D → Type 0) (result : Result A DriveFault) (old new : D) (came : Type 0) : Type 0 where
   pub came_of_it : came
-  pub ends : EndsAs result (look old) (look new)
+  pub ends : EndsAs result (look new)
   pub grown : Grows look moment left_since same old new
 
 -- just the journal, the replies, or the link were written

@@ -26,6 +26,7 @@ use Rattle.dali_engine.specs.WriterState.{WriterState}
 use Rattle.dali_engine.specs.Describes.{Describes}
 use Rattle.dali_engine.specs.Follows.{Follows}
 use Rattle.dali_drive.specs.Lines.{link_line, TakesLine}
+use Rattle.dali_drive.specs.Streams.{Flushes}
 use Rattle.dali_drive.specs.Transcript.{Streams, Transcript}
 
 -- the orders that were asked, each with its moment, the newest first
@@ -107,6 +108,13 @@ pub record Unanswered (frame : Frame) (fault : DriveFault) (old new : Streams) :
 abbrev pub BreaksFrame : Frame → DriveFault → Streams → Streams → Type 0
 BreaksFrame frame Link old new = CutFrame frame old new ⊎ Unanswered frame Link old new
 BreaksFrame frame fault old new = Unanswered frame fault old new
+
+-- the frame's line was flushed before its answer's was read: it is flushed, or a failure came before a byte was read
+abbrev pub FlushesFirst : {A : Type 0} → Result A DriveFault → Option (List ℕ) → Option (List ℕ) → Option (List ℕ)
+    → Option (List ℕ) → Option (List ℕ) → Type 0
+FlushesFirst (Err Link) held flushed flushed_now left left_now =
+    Flushes true held flushed flushed_now ⊎ Keeps left left_now
+FlushesFirst result held flushed flushed_now left left_now = Flushes true held flushed flushed_now
 
 -- this frame is next, whatever its answer
 abbrev pub IsNextFrame : Start → List Happening → Frame → Type 0

@@ -1,6 +1,6 @@
 -- Orders that come one after another, each carried out before the next is read, and the lines that are told of what is
 -- refused. Steps, as happenings, are listed newest first, and so is what was given.
-use Rattle.std.specs.Prelude.{◌≡◌, ◌≤◌, ◌⊎◌, ◌++◌, ◌-◌, ◌^◌, ℕ, List, [], ◌∷◌, Option, Some, None, Result, Ok, Err}
+use Rattle.std.specs.Prelude.{◌≡◌, ◌⊎◌, ◌++◌, ◌-◌, ◌^◌, ℕ, List, [], ◌∷◌, Option, Some, None, Result, Ok, Err}
 use Rattle.std.specs.Prelude.{length, map, reverse, false}
 use Rattle.std.specs.Io.KnownBytes.{Appends, Keeps}
 use Rattle.arrayvec.specs.ArrayVec.{ArrayVec}
@@ -15,10 +15,10 @@ use Rattle.dali_trace.specs.declared.fault.DriveFault.{DriveFault}
 use Rattle.dali_trace.specs.declared.fault.DriveFault.TheVariants.{Out}
 use Rattle.dali_drive.specs.declared.following.Given.{Given}
 use Rattle.dali_drive.specs.declared.following.Given.TheVariants as gives
-use Rattle.dali_drive.specs.Desks.{Look, LeavesSince}
+use Rattle.dali_drive.specs.Desks.{Look}
 use Rattle.dali_drive.specs.Transcript.{Streams}
 use Rattle.dali_drive.specs.Driven.{IsDriven, BrokenOff, AppendsPart, LeavesBetween}
-use Rattle.dali_drive.specs.WorkedOn.{IsDrivenAt}
+use Rattle.dali_drive.specs.WorkedOn.{AreUnasked, IsDrivenAt}
 use Rattle.dali_drive.specs.Observed.{IsToldEnd}
 
 -- What was done: something happened, or a line was told of what is refused.
@@ -102,11 +102,11 @@ pub record BrokenLine (start : Start) (steps : List Step) (given : List Given) (
   pub answers : Keeps then.answers last.answers
   pub out : AppendsPart then.out last.out line.items
 
--- a step of an order was broken off; the newest order was asked, or that one alone was still to be asked
+-- a step of an order was broken off; the newest order was asked, but for one for which there was no memory
 pub record BrokenOrder (start : Start) (steps : List Step) (given : List Given) (fault : DriveFault)
     (first then last : Streams) : Type 0 where
   pub unasked : List (Contents × ℕ)
-  pub one_ahead : length unasked ≤ 1
+  pub ahead : AreUnasked fault unasked
   pub given_are : given ≡ as_given (reverse unasked) ++ given_in steps
   pub driven : IsDriven start (happenings steps) (muted first) then
   pub broken : (rest : List (Contents × ℕ)) → BrokenOff start (happenings steps) (unasked ++ rest) fault then last
@@ -138,7 +138,7 @@ abbrev pub GivenOn : {A : Type 0} → Start → List Given → Streams → Resul
 GivenOn start given first (Ok done) writer old new told told_end =
     (follow : IsFollowed start given first writer new.streams) × told (happenings follow.steps)
 GivenOn start given first (Err fault) writer old new told told_end =
-    BreaksFollow start given fault first new.streams (LeavesSince old new) told told_end
+    BreaksFollow start given fault first new.streams new.may_leave told told_end
 
 -- What is given is told by the source; and the observer is told the trace
 

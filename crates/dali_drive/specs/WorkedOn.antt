@@ -1,22 +1,23 @@
 -- What a drive has come to in its midst.
-use Rattle.std.specs.Prelude.{◌≡◌, ◌++◌, ℕ, List, Result, Ok, Err, false, reverse}
+use Rattle.std.specs.Prelude.{◌≡◌, ◌++◌, ℕ, List, [], Result, Ok, Err, false, length, reverse}
 use Rattle.std.specs.Io.KnownBytes.{Appends}
 use Rattle.dali_frame.specs.declared.forward.Frame.{Frame}
 use Rattle.dali_bank.specs.Order.{Contents}
 use Rattle.dali_trace.specs.declared.happening.Happening.{Happening}
 use Rattle.dali_trace.specs.declared.fault.DriveFault.{DriveFault}
+use Rattle.dali_trace.specs.declared.fault.DriveFault.TheVariants.{NoMemory}
 use Rattle.dali_trace.specs.Trace.{Start, is_busy}
 use Rattle.dali_engine.specs.WriterState.{WriterState, IsAtRest}
 use Rattle.dali_engine.specs.Describes.{Describes}
 use Rattle.dali_engine.specs.Follows.{Follows}
-use Rattle.dali_drive.specs.Desks.{Look, LeavesSince, IsUnfailed}
+use Rattle.dali_drive.specs.Desks.{Look, IsAhead}
 use Rattle.dali_drive.specs.Transcript.{Streams, said_lines}
 use Rattle.dali_drive.specs.Driven.{IsDriven, BrokenOff, LeavesBetween, orders_asked}
 use Rattle.dali_drive.specs.Observed.{IsToldEnd}
 
--- a writer at rest, at a desk of which no stream has failed
+-- a writer at rest, at a desk of which no stream has failed, and all that was kept is durable
 abbrev pub IsReady : WriterState → Look → Type 0
-IsReady writer look = IsAtRest writer × IsUnfailed look.failed
+IsReady writer look = IsAtRest writer × IsAhead look
 
 -- a writer at rest that has nothing to do, whatever trace describes it
 abbrev pub IsDone : WriterState → Type 0
@@ -41,6 +42,11 @@ pub record HasWorked (start : Start) (past : List Happening) (orders : List (Con
   pub said : Appends middle.out last.out (said_lines more)
   pub told_all : told (more ++ past)
 
+-- which orders were read and not asked, where a step is broken off: the newest one where it found no memory, else none
+abbrev pub AreUnasked : DriveFault → List (Contents × ℕ) → Type 0
+AreUnasked NoMemory unasked = length unasked ≡ 1
+AreUnasked fault unasked = unasked ≡ []
+
 -- more happened behind this trace, in which the first of these orders were asked and these lines were said, and then a
 -- step was broken off; a stop may leave this; and this was told of it
 pub record HasBroken (start : Start) (past : List Happening) (orders : List (Contents × ℕ)) (first : Streams)
@@ -48,6 +54,7 @@ pub record HasBroken (start : Start) (past : List Happening) (orders : List (Con
     (told_end : List Happening → DriveFault → Frame → List ℕ → Type 0) : Type 0 where
   pub more : List Happening
   pub unasked : List (Contents × ℕ)
+  pub ahead : AreUnasked fault unasked
   pub then : Streams
   pub driven : IsDriven start (more ++ past) first then
   pub asked : reverse (orders_asked more) ++ unasked ≡ orders
@@ -64,4 +71,4 @@ abbrev pub WorkedOn : {A : Type 0} → Start → List Happening → List (Conten
 WorkedOn start past orders first (Ok done) writer old new told told_end =
     HasWorked start past orders first writer old.streams new.streams told
 WorkedOn start past orders first (Err fault) writer old new told told_end =
-    HasBroken start past orders first fault old.streams new.streams (LeavesSince old new) told told_end
+    HasBroken start past orders first fault old.streams new.streams new.may_leave told told_end

@@ -4,14 +4,14 @@ ghost use Rattle.dali_trace.specs.declared.happening.Happening.{Happening};
 ghost use Rattle.dali_trace.specs.Trace.{Start, is_busy};
 ghost use Rattle.dali_engine.specs.WriterState.{start_of, IsAtRest};
 ghost use Rattle.dali_engine.specs.WorkLeft.{work_left};
-ghost use Rattle.dali_drive.specs.Desks.{IsUnfailed, IsDurableAt, EndsAs, Grows, LeavesSince, Works};
+ghost use Rattle.dali_drive.specs.Desks.{IsAhead, IsDurableAt, EndsAs, Grows, Works};
 ghost use Rattle.dali_drive.specs.Transcript.{Streams, shown};
 ghost use Rattle.dali_drive.specs.Driven.{at_moment, IsDrive, BreaksOff, NoneFailed, FailedAs};
 ghost use Rattle.dali_drive.specs.LentSinks.{SinkLeaves};
 ghost use Rattle.dali_store.specs.Stores.{IsDurable};
 ghost use Rattle.dali_drive.specs.WorkedOn.{IsDone, IsDrivenAt, IsReady, WorkedOn};
 
-use crate::desk::Desk;
+use crate::desk::{Desk, keep};
 use crate::following::follow;
 use crate::lent_sinks::LentSinks;
 use crate::lines::{AnswerText, reply_line};
@@ -28,7 +28,7 @@ fn advance<D: Desk, B: Observer>(
     desk: &mut D,
     observer: &mut B,
 ) -> Result<bool, DriveFault>
-    requires unfailed { IsUnfailed (D.look desk.old).failed }
+    requires ahead { IsAhead (D.look desk.old) }
     ensures worked { Works D.look D.moment D.left_since D.same result desk.old desk.new
         ((start : Start) (past : List Happening) (first : Streams) (since : B)
         → IsDrivenAt start past writer.old first (D.look desk.old).streams → B.told start since observer.old past
@@ -40,7 +40,7 @@ fn advance<D: Desk, B: Observer>(
     match writer.want() {
         Want::Idle => return Ok(false),
         Want::Keep(entry) => {
-            if !desk.keep(&entry.bytes()) {
+            if !keep(desk, &entry.bytes()) {
                 return Err(DriveFault::Journal);
             }
             let cause = writer.cause();
@@ -76,7 +76,7 @@ fn work<D: Desk, B: Observer>(
     desk: &mut D,
     observer: &mut B,
 ) -> Result<(), DriveFault>
-    requires unfailed { IsUnfailed (D.look desk.old).failed }
+    requires ahead { IsAhead (D.look desk.old) }
     ensures worked { Works D.look D.moment D.left_since D.same result desk.old desk.new
         ((start : Start) (past : List Happening) (first : Streams) (since : B)
         → IsDrivenAt start past writer.old first (D.look desk.old).streams → B.told start since observer.old past
@@ -97,12 +97,12 @@ fn work<D: Desk, B: Observer>(
 /// one that has no answer is passed over. A reply's line is written to `out`, which is never flushed. Nothing is tried
 /// again.
 ///
-/// The writer has to be at rest: idle, or as `Writer::new` made it. No stream may have failed.
+/// The writer has to be at rest: idle, or as `Writer::new` made it. No stream may have failed, and all that
+/// `journal_out` holds has to be flushed, where it tells what was.
 ///
 /// Each `DriveFault` says what ended the drive. The writer is gone then, and what goes on is a new one, from the
 /// journal that is loaded from what `journal_out` holds behind the header: whole records of version 2, and at most one
-/// that is cut. It writes no header. Where all that `journal_out` held at first was flushed, all that was kept before
-/// the step that was broken off is flushed too.
+/// that is cut. It writes no header. All that was kept before the step that was broken off is flushed.
 pub fn drive<I: Source, L: Sink, J: Sink, O: Sink>(
     writer: Writer,
     orders: &[Order],
@@ -115,6 +115,8 @@ pub fn drive<I: Source, L: Sink, J: Sink, O: Sink>(
     requires rests { IsAtRest writer }
     requires unfailed { NoneFailed (J.failed journal_out.old) (L.failed link_out.old) (I.failed link_in.old)
         (O.failed out.old) }
+    requires flushed { IsDurable (J.held journal_out.old)
+        (SinkLeaves (J.flushed journal_out.old) (J.held journal_out.old)) }
     ensures driven { IfOk result (λ driven. IsDrive (start_of writer) (at_moment moment orders.now)
         (shown (J.held journal_out.old) (L.held link_out.old) (I.left link_in.old) (O.held out.old))
         driven (shown (J.held journal_out.new) (L.held link_out.new) (I.left link_in.new) (O.held out.new))) }
@@ -122,13 +124,11 @@ pub fn drive<I: Source, L: Sink, J: Sink, O: Sink>(
     ensures ok { OnOk result
         (NoneFailed (J.failed journal_out.new) (L.failed link_out.new) (I.failed link_in.new) (O.failed out.new)) }
     ensures flushed { OnOk result
-        (IsDurable (J.held journal_out.old) (SinkLeaves (J.flushed journal_out.old) (J.held journal_out.old))
-        → IsDurable (J.held journal_out.new) (SinkLeaves (J.flushed journal_out.new) (J.held journal_out.new))) }
+        (IsDurable (J.held journal_out.new) (SinkLeaves (J.flushed journal_out.new) (J.held journal_out.new))) }
     ensures broken { IfErr result (λ fault. BreaksOff (start_of writer) (at_moment moment orders.now) fault
         (shown (J.held journal_out.old) (L.held link_out.old) (I.left link_in.old) (O.held out.old))
         (shown (J.held journal_out.new) (L.held link_out.new) (I.left link_in.new) (O.held out.new))
-        (λ c. IsDurable (J.held journal_out.old) (SinkLeaves (J.flushed journal_out.old) (J.held journal_out.old))
-        × SinkLeaves (J.flushed journal_out.new) (J.held journal_out.new) c)) }
+        (SinkLeaves (J.flushed journal_out.new) (J.held journal_out.new))) }
     ensures err { IfErr result (λ fault.
         FailedAs fault (J.failed journal_out.new) (L.failed link_out.new) (I.failed link_in.new) (O.failed out.new)) }
 {
@@ -153,9 +153,9 @@ pub fn drive_at<D: Desk>(
         (D.look desk.old).streams driven (D.look desk.new).streams) }
     ensures rests { IfOk result IsAtRest }
     ensures broken { IfErr result (λ fault. BreaksOff (start_of writer) (at_moment moment orders.now) fault
-        (D.look desk.old).streams (D.look desk.new).streams (LeavesSince (D.look desk.old) (D.look desk.new))) }
-    ensures ends { EndsAs result (D.look desk.old) (D.look desk.new) }
-    ensures settled { OnOk result (IsDurableAt (D.look desk.old) → IsDurableAt (D.look desk.new)) }
+        (D.look desk.old).streams (D.look desk.new).streams (D.look desk.new).may_leave) }
+    ensures ends { EndsAs result (D.look desk.new) }
+    ensures settled { OnOk result (IsDurableAt (D.look desk.new)) }
     ensures grown { Grows D.look D.moment D.left_since D.same desk.old desk.new }
 {
     let mut listed = ListedOrders::new(orders, moment);

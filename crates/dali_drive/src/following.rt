@@ -1,7 +1,7 @@
 // Orders that come one after another, each carried out before the next is read.
 ghost use Rattle.std.specs.Prelude.{◌≡◌, ◌∷◌, [], List, Option, IfOk, IfErr, OnOk, IfNone};
 ghost use Rattle.dali_drive.specs.declared.following.Given.{Given};
-ghost use Rattle.dali_drive.specs.Desks.{EndsAs, LeavesSince, Grows, Works};
+ghost use Rattle.dali_drive.specs.Desks.{EndsAs, Grows, Works};
 ghost use Rattle.dali_drive.specs.Followed.{with_next, happenings, IsFollowed, GivenOn};
 ghost use Rattle.dali_drive.specs.Followed.{IsObservedFollow, IsObservedFollowBreak};
 ghost use Rattle.dali_drive.specs.Transcript.{Streams};
@@ -60,8 +60,8 @@ pub fn follow<D: Desk, G: Orders, B: Observer>(
     ensures broken { IfErr result (λ fault.
         IsObservedFollowBreak G.gave B.told B.told_end (start_of writer) orders.old fault
         (D.look desk.old).streams observer.old orders.new (D.look desk.new).streams observer.new
-        (LeavesSince (D.look desk.old) (D.look desk.new))) }
-    ensures ends { EndsAs result (D.look desk.old) (D.look desk.new) }
+        (D.look desk.new).may_leave) }
+    ensures ends { EndsAs result (D.look desk.new) }
     ensures grown { Grows D.look D.moment D.left_since D.same desk.old desk.new }
 {
     let mut writer = writer;

@@ -85,10 +85,11 @@ pub fn stops_leave_a_part()
 /// Drives over a store one after another, however many and however each ended (it returned, it broke off, it was
 /// killed), each from what the one before it left there and by a plan of its own, the first from a journal of either
 /// version: together they act as one, and each order once. While the journal stands idle, between drives or in one,
-/// units may be exchanged, read, verified and used by other masters. Each stay between is right by itself: from a
-/// world that fits the start world and the start records, where it is the first; else from any world in which no unit
-/// is write-enabled and the lock bytes of the banks from 2 up are FFh, as each stay leaves its units where it comes to
-/// rest, and as after power-up. Units may lose their power at any moment.
+/// units may be exchanged, read, verified and used by other masters; while an order is at work, luminaires at other
+/// addresses may be exchanged. Each stay between is right by itself: from a world that fits the start world and the
+/// start records, where it is the first; else from any world in which no unit is write-enabled, or none but a left one,
+/// as each stay leaves its units where it comes to rest, and as after power-up. Units may lose their power at any
+/// moment.
 pub fn drives_act_once()
     ensures follow { (start : Start) (most : ℕ) (first left : List ℕ) (sittings : List Sitting)
         → Loads start.limit start.records first → HaveSat start.limit most first sittings left
@@ -190,7 +191,8 @@ pub fn what_is_followed_behind_is_of_the_whole()
 
 /// Whatever a stop may leave at some moment of what is followed behind an older journal, behind the journal that was
 /// opened there, is with the older records what it would have left if a drive of the whole had been killed at some
-/// moment of what may have happened, as `stops_leave_a_part` says of a drive without older ones.
+/// moment of what may have happened, as `stops_leave_a_part` says of a drive without older ones. The older one is
+/// durable: a stop leaves it as it is.
 pub fn stops_behind_leave_a_part_of_the_whole()
     ensures ended { (older : JournalState) (limit most room : ℕ) (pace : Pace) (given : List Given)
         (found seen left : List ℕ)

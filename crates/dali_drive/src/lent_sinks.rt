@@ -5,7 +5,7 @@ ghost use Rattle.dali_drive.specs.Transcript.{shown};
 use crate::desk::Desk;
 use crate::lines::AnswerText;
 use crate::link::exchange_noting;
-use crate::streams::{Sink, Source, put_all, send};
+use crate::streams::{Sink, Source, put_all};
 use dali_frame::Frame;
 use dali_trace::DriveFault;
 
@@ -28,14 +28,20 @@ impl<I: Source, L: Sink, J: Sink, O: Sink> Desk for LentSinks<'_, '_, '_, '_, I,
         (O.failed desk.out.now))
         (SinkLeaves (J.flushed desk.journal.now) (J.held desk.journal.now)) };
 
+    ghost link_flushed = { λ desk. L.flushed desk.link_out.now };
+
     ghost moment = { λ desk. flushed_count (J.flushed desk.journal.now) };
 
     ghost left_since = { λ desk. SinkLeft (J.flushed desk.journal.now) (J.held desk.journal.now) };
 
     ghost same = { IsSame };
 
-    fn keep(&mut self, bytes: &[u8]) -> bool {
-        send(&mut *self.journal, bytes)
+    fn put(&mut self, bytes: &[u8]) -> bool {
+        put_all(&mut *self.journal, bytes)
+    }
+
+    fn settle(&mut self) -> bool {
+        self.journal.flush()
     }
 
     fn exchange(&mut self, frame: &Frame, text: &mut AnswerText) -> Result<Option<u8>, DriveFault> {

@@ -2,9 +2,8 @@ ghost use Rattle.std.specs.Prelude.{◌≡◌, ◌∷◌, [], IfOk, IfErr, OnOk,
 ghost use Rattle.dali_frame.specs.Frame.{IsProper};
 ghost use Rattle.dali_trace.specs.declared.happening.Happening.TheVariants.{Sent};
 ghost use Rattle.dali_drive.specs.Transcript.{Transcript, link_shown};
-ghost use Rattle.dali_drive.specs.Driven.{BreaksFrame, FailedAs};
+ghost use Rattle.dali_drive.specs.Driven.{BreaksFrame, FailedAs, FlushesFirst};
 ghost use Rattle.dali_drive.specs.Lines.{TakesText};
-ghost use Rattle.dali_drive.specs.Streams.{Flushes};
 
 use crate::lines::{AnswerText, read_answer};
 use crate::streams::{Sink, Source, send};
@@ -32,8 +31,8 @@ pub fn exchange<I: Source, L: Sink>(
     ensures broken { IfErr result (λ fault. BreaksFrame frame.now fault
         (link_shown (L.held link_out.old) (I.left link_in.old))
         (link_shown (L.held link_out.new) (I.left link_in.new))) }
-    ensures flushed { OnOk result
-        (Flushes true (L.held link_out.new) (L.flushed link_out.old) (L.flushed link_out.new)) }
+    ensures flushed { FlushesFirst result (L.held link_out.new) (L.flushed link_out.old) (L.flushed link_out.new)
+        (I.left link_in.old) (I.left link_in.new) }
     ensures ok { OnOk result ((I.failed link_in.new ≡ false) × (L.failed link_out.new ≡ false)) }
     ensures err { IfErr result (λ fault. FailedAs fault false (L.failed link_out.new) (I.failed link_in.new) false) }
 {
@@ -57,8 +56,8 @@ pub(crate) fn exchange_noting<I: Source, L: Sink>(
         (link_shown (L.held link_out.old) (I.left link_in.old))
         (link_shown (L.held link_out.new) (I.left link_in.new))) }
     ensures text { IfErr result (λ fault. TakesText fault text.new.items (I.left link_in.old) (I.left link_in.new)) }
-    ensures flushed { OnOk result
-        (Flushes true (L.held link_out.new) (L.flushed link_out.old) (L.flushed link_out.new)) }
+    ensures flushed { FlushesFirst result (L.held link_out.new) (L.flushed link_out.old) (L.flushed link_out.new)
+        (I.left link_in.old) (I.left link_in.new) }
     ensures ok { OnOk result ((I.failed link_in.new ≡ false) × (L.failed link_out.new ≡ false)) }
     ensures err { IfErr result (λ fault. FailedAs fault false (L.failed link_out.new) (I.failed link_in.new) false) }
 {

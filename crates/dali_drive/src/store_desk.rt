@@ -7,7 +7,7 @@ use crate::link::exchange_noting;
 use crate::streams::{Sink, Source, put_all};
 use dali_frame::Frame;
 use dali_journal::Journal;
-use dali_store::{OpenFault, Store, keep, open};
+use dali_store::{OpenFault, Store, append_all, open};
 use dali_trace::DriveFault;
 use std::alloc::Global;
 
@@ -25,14 +25,20 @@ impl<I: Source, L: Sink, S: Store, O: Sink> Desk for StoreDesk<I, L, S, O> {
 
     ghost look = { store_look S.seen S.failed S.may_leave L.held L.failed I.left I.failed O.held O.failed };
 
+    ghost link_flushed = { λ desk. L.flushed desk.link_out };
+
     ghost moment = { λ desk. S.moment desk.journal };
 
     ghost left_since = { λ desk. S.left_since desk.journal };
 
     ghost same = { λ _ _. ⊤ };
 
-    fn keep(&mut self, bytes: &[u8]) -> bool {
-        keep(&mut self.journal, bytes)
+    fn put(&mut self, bytes: &[u8]) -> bool {
+        append_all(&mut self.journal, bytes)
+    }
+
+    fn settle(&mut self) -> bool {
+        self.journal.sync()
     }
 
     fn exchange(&mut self, frame: &Frame, text: &mut AnswerText) -> Result<Option<u8>, DriveFault> {

@@ -12,7 +12,7 @@ use Rattle.dali_trace.specs.declared.happening.Happening.TheVariants.{Sent, Powe
 use Rattle.dali_trace.specs.Trace.{Start}
 use Rattle.dali_trace.specs.Legal.{Legal}
 use Rattle.dali_trace.specs.Moves.{MovesBy, Moves}
-use Rattle.dali_trace.specs.Fits.{Fits, IsLockedAbove, OnlyNamed}
+use Rattle.dali_trace.specs.Fits.{Fits, OnlyNamed}
 use Rattle.dali_trace.specs.Moments.{IsRight}
 use Rattle.dali_trace.specs.Runs.{fresh, LeadsRight}
 use Rattle.dali_engine.specs.WriterState.{WriterState}
@@ -79,14 +79,15 @@ module _ {S : Type 0} (world : S → World) (step : S → BusEvent → S → Typ
       kept = shown_moments world (WhenKept (fresh limit pace)) past last chain.states
           (each_kept (fresh limit pace) (world first) past (world last) (map world chain.states) legal
           (shown_chain (MovesBy step) Moves world moves first past last chain.states chain.steps)).1;
-      right = λ none locked.
-          shown_moments world (IsRight (world first) [] (fresh limit pace)) past last chain.states (each none locked);
+      right = λ none.
+          shown_moments world (IsRight (world first) [] (fresh limit pace)) past last chain.states (each none);
     } where
       fits : Fits (world first) [] [] (world first)
       fits = record {
         places = λ address bank location. refl;
         bytes = λ address bank location one byte lock was is. same one byte was is;
-        locks = λ address closed. inl refl;
+        locks = λ address bank above closed. inl refl;
+        indicators = λ address closed. refl;
       } where
         same : {x : Option ℕ} (one byte : ℕ) → x ≡ Some one → x ≡ Some byte → byte ≡ one
         same one byte was is = cc
@@ -94,13 +95,12 @@ module _ {S : Type 0} (world : S → World) (step : S → BusEvent → S → Typ
       only : NoneEnabled (world first) → OnlyNamed [] (world first)
       only none address on = let off = none address in cc
 
-      each : NoneEnabled (world first) → IsLockedAbove (world first)
+      each : NoneEnabled (world first)
           → AtEachMoment (IsRight (world first) [] (fresh limit pace)) past (world last) (map world chain.states)
-      each none locked =
+      each none =
           every_moment (world first) [] (fresh limit pace) (world first) past (world last) (map world chain.states)
           legal
           (record {
-            locked = locked;
             fits = fits;
             only = only none;
             chain = shown_chain (MovesBy step) Moves world moves first past last chain.states chain.steps;

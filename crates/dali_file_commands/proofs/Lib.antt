@@ -6,3 +6,4 @@ pub mod RunLemmas
 pub mod NoteLemmas
 mod WorkedNoteLemmas
 mod WorkedKnownLemmas
+mod WorkedJournalLemmas

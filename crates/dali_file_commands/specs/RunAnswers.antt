@@ -7,7 +7,6 @@ use Rattle.dali_gear.specs.UnitState.{UnitState}
 use Rattle.dali_bus.specs.Unenabled.{NoneEnabled}
 use Rattle.dali_journal.specs.JournalState.{IsLimit}
 use Rattle.dali_trace.specs.declared.fault.RunFault.TheVariants.{Limit, NoMemory}
-use Rattle.dali_trace.specs.Fits.{IsLockedAbove}
 use Rattle.dali_trace.specs.declared.happening.Event.{Event}
 use Rattle.dali_trace.specs.declared.happening.Happening.{Happening}
 use Rattle.dali_trace.specs.Spared.{IsSimRun}
@@ -43,7 +42,6 @@ pub record IsScenarioRun (planned : Planned) (trace : List Happening) (journal :
   pub all : List Event
   pub ready : IsSetUp planned first.units first.fates all
   pub unenabled : NoneEnabled (world_of first.units)
-  pub locked : IsLockedAbove (world_of first.units)
   pub run : IsSimRun planned.limit planned.pace all first trace journal last
 
 -- what a run that was read, understood, set up and made gives

@@ -68,6 +68,10 @@ last_without_a_line_feed = ((λ none. cc), refl)
 pub no_line_behind_the_last : ¬ EndsUnended ([] ∷ codes "a" ∷ []) (codes "a\n")
 no_line_behind_the_last = λ unended. unended.0 refl
 
+-- nor behind no lines at all: such bytes belong to one
+pub no_bytes_without_a_line : ¬ EndsUnended [] (codes "a")
+no_bytes_without_a_line = λ never. never
+
 -- ---- what is submitted
 
 abbrev order_one : Data

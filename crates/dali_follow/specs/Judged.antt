@@ -57,8 +57,8 @@ abbrev pub JudgesValue : ℕ → Data → Outcome → Type 0
 JudgesValue moment json outcome = (IsNoSubmission json × (outcome ≡ Err (no_submission_on json)))
     ⊎ ((item : Data) × (at : ℕ) × IsSubmitted moment json item at × JudgesAt at item outcome)
 
--- what becomes of a line: it has no JSON (too many bytes, other bytes, or no memory, which may come at any line), or
--- what its value comes to
+-- what becomes of a line: it has no JSON (too many bytes, other bytes, or no memory, which may come at any line that
+-- has a byte and not too many), or what its value comes to
 abbrev pub JudgesLine : ℕ → List ℕ → Outcome → Type 0
 JudgesLine moment line outcome =
     ((fault : InputFault) × IsNoJson line_limit line fault × (outcome ≡ Err (no_json_on fault)))

@@ -123,6 +123,19 @@ selected_is unit is =
     let P : Bool → Type 0 = λ b. IsSome (if b then slice_get (bank_of unit unit.dtr1).bytes unit.dtr0 else None) in
     subst P (sym is.has) (is_some-within _ _ is.within)
 
+-- so it stores, and leaves its indicator byte alone
+stores_so : (unit : UnitState) (byte : ℕ) → IsStored unit
+    → Stores byte (gear_of unit) (gear_of (record (with_stored unit byte) { dtr0 = up unit.dtr0 }))
+stores_so unit byte is = (
+  is.enabled,
+  selected_is unit is,
+  (
+    stored (gear_of unit).memory unit.dtr1 unit.dtr0 byte,
+    (λ bank location. inl refl),
+    stored_shows unit byte (unit.dtr1 == 1) refl is.has is.within,
+  ),
+)
+
 -- a write, in the forms that it may take
 writing : (refuses : Bool) (unit : UnitState) (byte : ℕ) (carried done : Bool) → carries_out unit ≡ carried
     → stores refuses unit ≡ done
@@ -133,7 +146,7 @@ writing : (refuses : Bool) (unit : UnitState) (byte : ℕ) (carried done : Bool)
     ⊎ ((unit.enabled ≡ true) × PassesLeftOut (gear_of unit) (gear_of new))
 writing refuses unit byte true true c s =
     let is = stored_parts refuses unit s in
-    inl ((is.enabled, selected_is unit is, stored_shows unit byte (unit.dtr1 == 1) refl is.has is.within), refl)
+    inl (stores_so unit byte is, refl)
 writing refuses unit byte true false c s = inr (inl (up unit.dtr0, inl refl, refl, refl))
 writing refuses unit byte false true c s =
     let is = stored_parts refuses unit s in
@@ -148,7 +161,7 @@ silently : (refuses : Bool) (unit : UnitState) (byte : ℕ) (carried done : Bool
     Stores byte (gear_of unit) (gear_of new) ⊎ PassesBy (gear_of unit) None (gear_of new)
 silently refuses unit byte true true c s =
     let is = stored_parts refuses unit s in
-    inl (is.enabled, selected_is unit is, stored_shows unit byte (unit.dtr1 == 1) refl is.has is.within)
+    inl (stores_so unit byte is)
 silently refuses unit byte true false c s = inr (up unit.dtr0, inl refl, refl, refl)
 silently refuses unit byte false true c s =
     let is = stored_parts refuses unit s in

@@ -4,18 +4,22 @@ use Rattle.std.specs.Result.{result_ok}
 use Rattle.std.proofs.Common.{Result, Ok, Err, IfOk, OnOk, MatchOption, is_err, true}
 use Rattle.std.proofs.Common.{◌+◌, ◌++◌, option_and_then, refl, sym, ap, ◌∙◌, arith}
 use Rattle.std.proofs.lemmas.List.{length-append}
+use Rattle.json.specs.Lex.{lex, punctuate, tokens}
 use Rattle.json.specs.Token.{Token}
 use Rattle.json.specs.Json as json
 use Rattle.json.specs.Json.{Json, Parse, parse_map, after_end_array, items_step, items, value}
 use Rattle.json.proofs.Grammar.{left, Takes, skip_value-shorter, value-begin_array, value_is}
 use Rattle.serde_json.specs.Data.{Data, Items, array, no_items, item}
 use Rattle.serde_json.specs.Events.{items_len}
-use Rattle.serde_json.specs.Read.{of_json, of_items, converted}
+use Rattle.serde_json.specs.Read.{of_json, of_items, converted, read}
 use Rattle.serde_json.specs.View.{items_of}
 use Rattle.json.specs.Reads.{token_of}
 use Rattle.json.specs.declared.reader.Invalid.{Invalid}
 use Rattle.json.specs.declared.token.Token as reader_token
 use Rattle.dali_input.specs.declared.fault.InputFault.{InputFault}
+use Rattle.dali_input.specs.declared.fault.InputFault.TheVariants.{Memory}
+use Rattle.dali_input.specs.Input.{IsNoJson}
+use Rattle.dali_input.specs.Orders.{AreItems}
 use Rattle.dali_input.specs.declared.item.Item.{Item}
 use Rattle.dali_input.specs.declared.items.Items as reader
 use Rattle.dali_input.specs.ItemsLeft.{AreLeft, IsItem, if_last, item_depth, items_to_end, value_to_end}
@@ -230,3 +234,24 @@ counted_behind first rest (Err fault) begun none = tt
 
 pub nothing_there : (first : List Token) → first ≡ [] → value_to_end first ≡ None
 nothing_there first none = ap value_to_end none ∙ ap whole (value_is 127 [])
+
+-- ---- there is a byte
+
+no_tokens : tokens [] ≡ []
+unfolding lex punctuate
+no_tokens = refl
+
+pub begun_somewhere : (text : List ℕ) (rest : List Token) → tokens text ≡ Token.begin_array ∷ rest → 0 < length text
+begun_somewhere [] rest begun =
+    let clash : Token.begin_array ∷ rest ≡ [] = sym begun ∙ no_tokens in absurd (cc)
+begun_somewhere (byte ∷ bytes) rest begun = omega arith
+
+read_somewhere : (input : List ℕ) (json : Data) → read input ≡ Some json → 0 < length input
+read_somewhere [] json reads =
+    let clash : Some json ≡ None = sym reads ∙ nothing_there (tokens []) no_tokens in absurd (cc)
+read_somewhere (byte ∷ bytes) json reads = omega arith
+
+-- so memory may be wanted over such an input
+pub memory_over_items : (limit : ℕ) (input : List ℕ) (all : Items) → AreItems limit input all
+    → IsNoJson limit input Memory
+memory_over_items limit input all (json, (fits, (utf8, reads)), is) = (read_somewhere input json reads, fits)

@@ -1,5 +1,5 @@
 -- Lemmas on what a scenario sets up.
-use Rattle.std.proofs.Common.{◌≡◌, ◌≢◌, ◌<◌, ◌≤◌, ◌+◌, ℕ, suc, Bool, true, false, Option, Some, None, List, [], ◌∷◌, ◌++◌}
+use Rattle.std.proofs.Common.{◌≡◌, ◌≢◌, ◌<◌, ◌+◌, ℕ, suc, Bool, true, false, Option, Some, None, List, [], ◌∷◌, ◌++◌}
 use Rattle.std.proofs.Common.{length, get_or, map, take, drop, replicate, append_assoc, arith, refl, sym, subst, ap, ◌∙◌}
 use Rattle.std.specs.Prelude.{◌==◌, if◌then◌else◌}
 use Rattle.std.specs.List.{AllByRecursion}
@@ -12,10 +12,8 @@ use Rattle.dali_gear.specs.Faults.{IsUnitFault}
 use Rattle.dali_gear.specs.SimState.{world_of, AreApart}
 use Rattle.dali_bus.specs.Unenabled.{NoneEnabled}
 use Rattle.dali_gear.specs.UnitState.{UnitState, gear_of}
-use Rattle.dali_bus.specs.World.{Gear, byte_in, byte_at}
+use Rattle.dali_bus.specs.World.{Gear}
 use Rattle.dali_bus.proofs.OpenLemmas.{is_open}
-use Rattle.dali_trace.specs.Fits.{IsLockedAbove}
-use Rattle.dali_trace.proofs.NewUnitLemmas.{new_locked}
 use Rattle.dali_trace.specs.declared.happening.Event.{Event}
 use Rattle.dali_trace.specs.declared.happening.Event.TheVariants as events
 use Rattle.serde_json.specs.Data.{Data}
@@ -199,26 +197,6 @@ none_in : (units : List PlannedUnit) (address : ℕ) → is_open (world_of (map 
 none_in [] address = refl
 none_in (unit ∷ units) address =
     none_at unit (address == unit.address) (world_of (map made_unit units) address) (none_in units address)
-
-locked_at : (unit : PlannedUnit) (here : Bool) (rest : Option Gear) (bank byte : ℕ) → 2 ≤ bank
-    → (byte_in rest bank 2 ≡ Some byte → byte ≡ 0xFF)
-    → byte_in (if here then Some (gear_of (made_unit unit)) else rest) bank 2 ≡ Some byte → byte ≡ 0xFF
-locked_at unit true rest bank byte above locked is = new_locked (made_unit unit) bank byte refl above is
-locked_at unit false rest bank byte above locked is = locked is
-
-locked_in : (units : List PlannedUnit) (address bank byte : ℕ) → 2 ≤ bank
-    → byte_at (world_of (map made_unit units)) address bank 2 ≡ Some byte → byte ≡ 0xFF
-locked_in [] address bank byte above is = cc
-locked_in (unit ∷ units) address bank byte above is =
-    locked_at unit (address == unit.address) (world_of (map made_unit units) address) bank byte above
-    (locked_in units address bank byte above) is
-
--- the lock bytes of new units' banks from 2 up are FFh
-pub locked_above : (planned : List PlannedUnit) (units : List UnitState) → AreUnits planned units
-    → IsLockedAbove (world_of units)
-locked_above planned units are =
-    subst (λ (u : List UnitState). IsLockedAbove (world_of u)) (sym are.made)
-    (λ address bank byte above is. locked_in planned address bank byte above is)
 
 -- no new unit is write-enabled
 pub none_enabled : (planned : List PlannedUnit) (units : List UnitState) → AreUnits planned units

@@ -1,6 +1,7 @@
 -- What is read of an input and what JSON it is, and what of a list of orders is refused, by hand, on both sides of each
 -- rule.
-use Rattle.std.proofs.Common.{◌≡◌, ◌∙◌, refl, ap, inl, ℕ, true, false, List, [], ◌∷◌, Some}
+use Rattle.std.specs.declared.io.ErrorKind.TheVariants.{OutOfMemory, UnexpectedEof}
+use Rattle.std.proofs.Common.{◌≡◌, ◌∙◌, refl, ap, inl, inr, ℕ, true, false, List, [], ◌∷◌, Some}
 use Rattle.std.proofs.Common.{None, Ok, Err, length, codes, arith, append-nil}
 use Rattle.std.specs.Prelude.{IsUtf8}
 use Rattle.serde_json.specs.Data.{Data, Items, null, number, unsigned, no_items, item}
@@ -10,7 +11,8 @@ use Rattle.dali_input.specs.declared.fault.InputFault.TheVariants.{Json, Documen
 use Rattle.dali_input.specs.declared.item.ItemFault.{ItemFault}
 use Rattle.dali_input.specs.declared.item.ItemFault.TheVariants.{Shape}
 use Rattle.dali_input.specs.Input.{InputState, ReadsInput, ReadsAtMost, ReadsMore, IsReadFailure}
-use Rattle.dali_input.specs.Input.{IsReading, IsJson, IsNoJson}
+use Rattle.dali_input.specs.BankText.{IsTextFault}
+use Rattle.dali_input.specs.Input.{IsReading, IsJson, IsNoJson, IsReadFault}
 use Rattle.dali_input.specs.Orders.{AreItems, IsInputFault, Outcome, JudgesEach, AreRefused, refused_from}
 use Rattle.dali_input.specs.Values.{IsWhole, IsNoReading}
 
@@ -126,6 +128,35 @@ nothing_is_read_of_none input json none = λ is. let some = is.1 in cc
 
 pub too_big_before_json : (input : List ℕ) → length input ≡ 2 → ¬ IsNoJson 1 input Json
 too_big_before_json input two = λ refused. omega (arith, refused.0)
+
+-- memory may be wanted over any bytes that aren't too many, and not where there is none
+pub memory_over_as_many_bytes : IsNoJson 2 (codes "ab") Memory
+memory_over_as_many_bytes = (omega arith, omega arith)
+
+pub no_memory_over_no_byte : ¬ IsNoJson 2 [] Memory
+no_memory_over_no_byte = λ wanted. omega (arith, wanted.0)
+
+pub no_memory_over_one_byte_too_many : ¬ IsNoJson 2 (codes "abc") Memory
+no_memory_over_one_byte_too_many = λ wanted. omega (arith, wanted.1)
+
+pub no_memory_over_a_text_that_is_too_big : (text : List ℕ) → length text ≡ 4097 → ¬ IsTextFault text Memory
+no_memory_over_a_text_that_is_too_big text long = λ wanted. omega (arith, wanted)
+
+-- of a read that failed it is told just where the reader lacked memory
+pub lacked_memory : IsReadFault OutOfMemory Memory false false
+lacked_memory = inl (refl, refl, refl)
+
+pub lack_of_memory_is_no_failure : ¬ IsReadFault OutOfMemory File false true
+lack_of_memory_is_no_failure = λ is. by is where
+  by : IsReadFault OutOfMemory File false true → ⊥
+  by (inl (kind, fault, after)) = cc
+  by (inr (other, fault, after)) = other refl
+
+pub failure_is_no_lack_of_memory : ¬ IsReadFault UnexpectedEof Memory false false
+failure_is_no_lack_of_memory = λ is. by is where
+  by : IsReadFault UnexpectedEof Memory false false → ⊥
+  by (inl (kind, fault, after)) = cc
+  by (inr (other, fault, after)) = cc
 
 -- ---- which items are refused
 

@@ -1,5 +1,5 @@
 -- The bank that a text spells, and the text that is written of a bank.
-use Rattle.std.specs.Prelude.{◌≡◌, ◌==◌, ◌||◌, ◌⊎◌, ◌*◌, ◌<◌, ◌≤◌, ◌++◌, ℕ, List, [], ◌∷◌, Bool, not, Ok, ⊤}
+use Rattle.std.specs.Prelude.{◌≡◌, ◌==◌, ◌||◌, ◌⊎◌, ◌*◌, ◌<◌, ◌≤◌, ◌++◌, ℕ, List, [], ◌∷◌, Bool, not, Ok}
 use Rattle.std.specs.Prelude.{codes, drop, length, take}
 use Rattle.std.specs.Int.{div_ceil}
 use Rattle.std.specs.List.{filter, flat_map, join_by, range_with_len}
@@ -39,11 +39,11 @@ pub record SpellsTooMany (text : List ℕ) : Type 0 where
   pub spelled : SpellsBytes text bytes
   pub many : bank_limit < length bytes
 
--- why a text spells no bank; want of memory may come at any text
+-- why a text spells no bank; want of memory may come at any text of no more bytes than the limit
 abbrev pub IsTextFault : List ℕ → InputFault → Type 0
 IsTextFault text TooBig = (text_limit < length text) ⊎ SpellsTooMany text
 IsTextFault text Hex = (length text ≤ text_limit) × ((bytes : List ℕ) → ¬ SpellsBytes text bytes)
-IsTextFault text Memory = ⊤
+IsTextFault text Memory = length text ≤ text_limit
 IsTextFault text Json = ⊥
 IsTextFault text Document = ⊥
 IsTextFault text File = ⊥

@@ -1,6 +1,8 @@
 -- What is read of a reader, and the JSON in it.
-use Rattle.std.specs.Prelude.{◌≡◌, ◌+◌, ◌<◌, ◌≤◌, ℕ, Bool, true, List, ◌++◌, Option, Some, None, is_some, length, IsUtf8, ⊤}
+use Rattle.std.specs.Prelude.{◌≡◌, ◌≢◌, ◌⊎◌, ◌+◌, ◌<◌, ◌≤◌, ℕ, Bool, true, List, ◌++◌, Option, Some, None, is_some, length, IsUtf8}
 use Rattle.std.specs.Io.KnownBytes.{Consumes, IsAtEnd}
+use Rattle.std.specs.declared.io.ErrorKind.{ErrorKind}
+use Rattle.std.specs.declared.io.ErrorKind.TheVariants.{OutOfMemory}
 use Rattle.serde_json.specs.Data.{Data}
 use Rattle.serde_json.specs.Read.{read}
 use Rattle.dali_input.specs.declared.input.Input.{Input}
@@ -37,6 +39,12 @@ IsReadFailure before after Document = ⊥
 IsReadFailure before after TooBig = ⊥
 IsReadFailure before after Hex = ⊥
 
+-- the fault of a read that failed so, and how the reader stands then: it lacked memory, or it has failed
+abbrev pub IsReadFault : ErrorKind → InputFault → Bool → Bool → Type 0
+IsReadFault kind fault before after =
+    ((kind ≡ OutOfMemory) × (fault ≡ Memory) × (after ≡ before))
+    ⊎ ((kind ≢ OutOfMemory) × (fault ≡ File) × (after ≡ true))
+
 -- what JSON the bytes are, as `serde_json` reads them: a value, or none
 abbrev pub IsReading : List ℕ → Option Data → Type 0
 IsReading input (Some value) = IsUtf8 input × (read input ≡ Some value)
@@ -46,11 +54,11 @@ IsReading input None = IsUtf8 input → read input ≡ None
 abbrev pub IsJson : ℕ → List ℕ → Data → Type 0
 IsJson limit input json = (length input ≤ limit) × IsReading input (Some json)
 
--- why an input has no JSON; want of memory may come at any input
+-- why an input has no JSON; want of memory may come at any input that has a byte, and no more than the limit
 abbrev pub IsNoJson : ℕ → List ℕ → InputFault → Type 0
 IsNoJson limit input TooBig = limit < length input
 IsNoJson limit input Json = (length input ≤ limit) × IsReading input None
-IsNoJson limit input Memory = ⊤
+IsNoJson limit input Memory = (0 < length input) × (length input ≤ limit)
 IsNoJson limit input Document = ⊥
 IsNoJson limit input Hex = ⊥
 IsNoJson limit input File = ⊥

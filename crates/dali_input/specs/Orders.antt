@@ -17,7 +17,7 @@ orders_limit = 16777216
 abbrev pub AreItems : ℕ → List ℕ → Items → Type 0
 AreItems limit input items = (json : Data) × IsJson limit input json × (as_array json ≡ Some items)
 
--- why an input has no items; want of memory may come at any input
+-- why an input has no items; want of memory may come at any input that has a byte, and no more than the limit
 abbrev pub IsInputFault : ℕ → List ℕ → InputFault → Type 0
 IsInputFault limit input Document = (json : Data) × IsJson limit input json × (as_array json ≡ None)
 IsInputFault limit input fault = IsNoJson limit input fault

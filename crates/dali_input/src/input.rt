@@ -21,7 +21,7 @@ pub struct Input<R> {
 
 impl<R: Read> Input<R> {
     ghost use Rattle.std.specs.Prelude.{is_some};
-    ghost use Rattle.dali_input.specs.Input.{IsReadFailure, state_of};
+    ghost use Rattle.dali_input.specs.Input.{IsReadFailure, IsReadFault, state_of};
 
     /// An input from the reader, which hasn't failed.
     pub fn new(reader: R) -> Input<R>
@@ -41,6 +41,20 @@ impl<R: Read> Input<R> {
         self.cause
     }
 
+    // A read failed so: for want of memory, or the reader has failed from then on.
+    fn fail(&mut self, kind: ErrorKind) -> InputFault
+        ensures fault { IsReadFault kind result (is_some self.old.cause) (is_some self.new.cause) }
+        ensures kept { self.new.reader ≡ self.old.reader }
+    {
+        match kind {
+            ErrorKind::OutOfMemory => InputFault::Memory,
+            kind => {
+                self.cause = Some(kind);
+                InputFault::File
+            }
+        }
+    }
+
     // Reads once, over the chunk. A read that a signal interrupts is made again, so often that no program lives to
     // see the end of it. InputFault 20 Memory where the reader has no memory, else 21 File where it failed.
     fn read(&mut self, chunk: &mut [u8]) -> Result<usize, InputFault>
@@ -58,16 +72,11 @@ impl<R: Read> Input<R> {
                 Ok(count) => return Ok(count),
                 Err(error) => match error.kind() {
                     ErrorKind::Interrupted => {}
-                    ErrorKind::OutOfMemory => return Err(InputFault::Memory),
-                    kind => {
-                        self.cause = Some(kind);
-                        return Err(InputFault::File);
-                    }
+                    kind => return Err(self.fail(kind)),
                 },
             }
         }
-        self.cause = Some(ErrorKind::Interrupted);
-        Err(InputFault::File)
+        Err(self.fail(ErrorKind::Interrupted))
     }
 }
 

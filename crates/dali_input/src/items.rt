@@ -112,6 +112,7 @@ fn count_items(text: &str, scratch: &mut Scratch) -> Result<u64, InputFault>
     ensures json { result ≡ Err InputFault.Json → read_text text.now ≡ None }
     ensures faults { IfErr result (λ fault.
         (fault ≡ InputFault.Document) ⊎ ((fault ≡ InputFault.Json) ⊎ (fault ≡ InputFault.Memory))) }
+    ensures memory { result ≡ Err InputFault.Memory → 0 < length text.now }
 {
     let mut reader = Reader::new(text, scratch)?;
     match reader.next() {

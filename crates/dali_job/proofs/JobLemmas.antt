@@ -182,14 +182,26 @@ with_argument was argument app rule more (app_is, local) (rule_is, own) added = 
   added.globals ∙ ap₂ (λ old new. old || new) local own,
 )
 
--- where a command was made and added, the program is with it
-pub with_added : (E : Type 0) (made : Result Command E) (was all : Command) (before next : App)
-    → IfOk made (IsApp next) → app_of was ≡ before → IsOkAnd made (λ command. AddsSubcommand was command all)
-    → app_of all ≡ with_subcommand before next.top
-with_added E (Ok command) was all before next (is_next, local) was_is added =
+-- where a command was made and got one more argument, it is with it
+pub with_next : (E : Type 0) (made : Result Command E) (argument : Arg) (more : Result Command E) (app : App)
+    (rule : Rule) → IfOk made (IsApp app) → IsRule rule argument
+    → IfOk more (λ all. IsOkAnd made (λ command. AddsArg command argument all))
+    → IfOk more (IsApp (with_rule app rule))
+with_next E (Ok was) argument (Ok more) app rule is own added = with_argument was argument app rule more is own added
+with_next E (Err error) argument (Ok more) app rule is own added = absurd added
+with_next E made argument (Err error) app rule is own added = tt
+
+-- where a program and a command were made and joined, the program is with it
+pub with_added : (E : Type 0) (program made all : Result Command E) (before next : App)
+    → IfOk program (λ was. app_of was ≡ before) → IfOk made (IsApp next)
+    → IfOk all (λ all. IsOkAnd program (λ was. IsOkAnd made (λ command. AddsSubcommand was command all)))
+    → IfOk all (λ all. app_of all ≡ with_subcommand before next.top)
+with_added E (Ok was) (Ok command) (Ok all) before next was_is (is_next, local) added =
     added.shape local ∙ ap (λ app. with_subcommand app (app_of command).top) was_is
     ∙ ap (λ (app : App). with_subcommand before app.top) is_next
-with_added E (Err error) was all before next is_next was_is added = absurd added
+with_added E (Ok was) (Err error) (Ok all) before next was_is is_next added = absurd added
+with_added E (Err error) made (Ok all) before next was_is is_next added = absurd added
+with_added E program made (Err error) before next was_is is_next added = tt
 
 -- ---- jobs
 

@@ -204,7 +204,7 @@ driven options = entered_by (codes "drive" ∷ codes "o" ∷ codes "j" ∷ optio
 pub moment_0_where_none_is_given : HasNumber (driven []) (codes "drive") (codes "moment") 0
 unfolding clap_on_literals
 moment_0_where_none_is_given = (
-  rows_in (driven []),
+  _,
   codes "0",
   refl,
   refl,
@@ -231,4 +231,4 @@ older_not_turned = λ has. turned_is_another
 
 pub no_older_unasked : HasValues (driven []) (codes "drive") (codes "older") []
 unfolding clap_on_literals
-no_older_unasked = (rows_in (driven []), refl, refl)
+no_older_unasked = (_, refl, refl)

@@ -1,6 +1,6 @@
 // The program's commands, as `clap` takes them.
 ghost use Rattle.std.specs.Prelude.{◌≡◌, IfOk, IsOkAnd, codes};
-ghost use Rattle.clap.specs.Words.{AddsSubcommand, app_of, new_app};
+ghost use Rattle.clap.specs.Words.{AddsArg, AddsSubcommand, app_of, new_app};
 ghost use Rattle.dali_job.specs.Jobs.{IsApp, IsRule, address_rule, bench_app, check_app, command_app, drive_app};
 ghost use Rattle.dali_job.specs.Jobs.{flag_rule, journal_app, many_rule, number_rule, option_rule, read_app, run_app};
 ghost use Rattle.dali_job.specs.Jobs.{scan_app, unit_rule, units_rule, value_rule, verify_app};
@@ -24,28 +24,36 @@ pub(crate) fn bench_command<'a>(alloc: Global) -> Result<Command<'a>, AllocError
         .about(ABOUT)
         .after_help(TOP_HELP)
         .subcommand_required(true);
-    let checks = with_made(top, check_command(alloc))?;
-    let runs = with_made(checks, run_command(alloc))?;
-    let frames = with_made(runs, command_of(alloc, &FRAME, &FRAME_HEX))?;
-    let shows = with_made(frames, command_of(alloc, &SHOW, &SHOW_DUMP))?;
-    let journals = with_made(shows, journal_command(alloc))?;
-    let drives = with_made(journals, drive_command(alloc))?;
-    let reads = with_made(drives, read_command(alloc))?;
-    let verifies = with_made(reads, verify_command(alloc))?;
+    let checks = with_made(Ok(top), check_command(alloc));
+    let runs = with_made(checks, run_command(alloc));
+    let frames = with_made(runs, command_of(alloc, &FRAME, &FRAME_HEX));
+    let shows = with_made(frames, command_of(alloc, &SHOW, &SHOW_DUMP));
+    let journals = with_made(shows, journal_command(alloc));
+    let drives = with_made(journals, drive_command(alloc));
+    let reads = with_made(drives, read_command(alloc));
+    let verifies = with_made(reads, verify_command(alloc));
     with_made(verifies, scan_command(alloc))
 }
 
-// The program with one more command, where that one could be made.
+// The program with one more command, where both could be made.
 fn with_made<'a>(
-    program: Command<'a>,
+    program: Result<Command<'a>, AllocError>,
     made: Result<Command<'a>, AllocError>,
 ) -> Result<Command<'a>, AllocError>
-    ensures { IfOk result (λ all. IsOkAnd made.entry (λ command. AddsSubcommand program.entry command all)) }
+    ensures { IfOk result (λ all. IsOkAnd program.entry
+        (λ was. IsOkAnd made.entry (λ command. AddsSubcommand was command all))) }
 {
-    match made {
-        Ok(command) => program.subcommand(command),
-        Err(error) => Err(error),
-    }
+    program?.subcommand(made?)
+}
+
+// The command with one more argument, where it could be made.
+fn with_argument<'a>(
+    made: Result<Command<'a>, AllocError>,
+    argument: Arg<'a>,
+) -> Result<Command<'a>, AllocError>
+    ensures { IfOk result (λ more. IsOkAnd made.entry (λ command. AddsArg command argument.entry more)) }
+{
+    made?.arg(argument)
 }
 
 // The command that checks orders, with the journals that are asked.
@@ -75,19 +83,16 @@ fn journal_command<'a>(alloc: Global) -> Result<Command<'a>, AllocError>
 fn drive_command<'a>(alloc: Global) -> Result<Command<'a>, AllocError>
     ensures { IfOk result (IsApp drive_app) }
 {
-    let files = command_of(alloc, &DRIVE, &LINK_ORDERS)?.arg(value_argument(
-        alloc,
-        "JOURNAL",
-        DRIVE_JOURNAL_HELP,
-    ))?;
-    let timed = files.arg(moment_option(alloc))?;
-    let followed = timed.arg(flag_of(alloc, "follow", DRIVE_FOLLOW_HELP))?;
-    let planned = followed.arg(flag_of(alloc, "short-plan", DRIVE_SHORT_HELP))?;
-    let flagged = planned.arg(flag_of(alloc, "require-done", DRIVE_DONE_HELP))?;
-    let strict = flagged.arg(flag_of(alloc, "require-now", DRIVE_NOW_HELP))?;
-    let watched = strict.arg(flag_of(alloc, "progress", PROGRESS_HELP))?;
-    let reported = watched.arg(file_option(alloc, "report", DRIVE_REPORT_HELP))?;
-    reported.arg(older_option(alloc, DRIVE_OLDER_HELP))
+    let orders = command_of(alloc, &DRIVE, &LINK_ORDERS);
+    let files = with_argument(orders, value_argument(alloc, "JOURNAL", DRIVE_JOURNAL_HELP));
+    let timed = with_argument(files, moment_option(alloc));
+    let followed = with_argument(timed, flag_of(alloc, "follow", DRIVE_FOLLOW_HELP));
+    let planned = with_argument(followed, flag_of(alloc, "short-plan", DRIVE_SHORT_HELP));
+    let flagged = with_argument(planned, flag_of(alloc, "require-done", DRIVE_DONE_HELP));
+    let strict = with_argument(flagged, flag_of(alloc, "require-now", DRIVE_NOW_HELP));
+    let watched = with_argument(strict, flag_of(alloc, "progress", PROGRESS_HELP));
+    let reported = with_argument(watched, file_option(alloc, "report", DRIVE_REPORT_HELP));
+    with_argument(reported, older_option(alloc, DRIVE_OLDER_HELP))
 }
 
 // The command that compares units with orders, with its report and its flag.

@@ -21,3 +21,4 @@ pub mod MomentLemmas
 pub mod JoinLemmas
 pub mod WorkedRoomLemmas
 pub mod WorkedBehindLemmas
+mod WorkedSentenceLemmas

@@ -1,17 +1,15 @@
 -- A frame that may be sent keeps a world fitting, and enables no unit but the named one.
 use Rattle.std.proofs.Common.{◌≡◌, ◌⊎◌, inl, inr, refl, sym, ap, subst, ◌∙◌, ℕ, Bool, true, false, ◌==◌, List, [], ◌∷◌}
-use Rattle.std.proofs.Common.{Option, Some, None, IsSome, is_some, ◌≤◌, ◌&&◌, if◌then◌else◌, arith}
+use Rattle.std.proofs.Common.{Option, Some, None, IsSome, is_some, ◌≤◌, arith}
 use Rattle.std.proofs.lemmas.Bool.{eqb-true, eqb-false}
-use Rattle.std.proofs.Math.Nat.{eq-or-lt_of_le}
 use Rattle.dali_frame.specs.declared.forward.Frame.{Frame}
-use Rattle.dali_frame.specs.declared.forward.Frame.TheVariants.{Write, Enable}
+use Rattle.dali_frame.specs.declared.forward.Frame.TheVariants.{Dtr0, Dtr1, Write, Enable, AskDtr0, AskDtr1, Read}
 use Rattle.dali_bus.specs.World.{World, Gear, byte_at, is_enabled}
 use Rattle.dali_bus.proofs.OpenLemmas.{is_open}
-use Rattle.dali_bank.specs.Order.{Contents, update_at}
 use Rattle.dali_bus.specs.Carry.{Carry}
+use Rattle.dali_bus.specs.Hears.{IsIndicator}
 use Rattle.dali_bus.specs.Power.{relocked, LosesPower, MayRelock}
 use Rattle.dali_bus.proofs.UnenabledLemmas.{powered_at, relocked_twice}
-use Rattle.dali_journal.specs.declared.kept.Progress.{Progress}
 use Rattle.dali_journal.specs.declared.record.Record.{Record}
 use Rattle.dali_journal.specs.declared.standing.Standing.{Standing}
 use Rattle.dali_journal.specs.declared.standing.Standing.TheVariants as standings
@@ -26,8 +24,8 @@ use Rattle.dali_write.proofs.AskedLemmas.{passive_quiet}
 use Rattle.dali_write.proofs.PutLemmas.{NowOldOrNew, Puts, enable_safe, guarded_safe}
 use Rattle.dali_write.specs.Exchanges.{Exchange}
 use Rattle.dali_trace.specs.Legal.{MayPut}
-use Rattle.dali_trace.specs.Possible.{Mark, Applied, Untouched, InDoubt, mark_of, byte_for, MayHold, IsPossible}
-use Rattle.dali_trace.specs.Fits.{Fits, IsLockedAbove, OnlyNamed, HasBeenOpened, IsLockByte}
+use Rattle.dali_trace.specs.Possible.{InDoubt, byte_for, MayHold, IsPossible}
+use Rattle.dali_trace.specs.Fits.{Fits, OnlyNamed, HasBeenOpened, IsApart}
 use Rattle.dali_laws.proofs.StandingLemmas.{open_order, named_opened, byte_for_here}
 use Rattle.dali_laws.proofs.SafeLemmas.{IsSafeWrite, IsSafeFrame}
 use Rattle.dali_write.proofs.RunLemmas.{Leads, Stays}
@@ -73,9 +71,10 @@ same_bytes_fit zero old new records lost same fits = record {
   bytes =
       λ address bank location first byte lock was is.
       fits.bytes address bank location first byte lock was (sym (same address bank location) ∙ is);
-  locks = λ address closed.
-      relock_then (byte_at zero address 1 2) (byte_at old address 1 2) (byte_at new address 1 2)
-      (fits.locks address closed) (inl (same address 1 2));
+  locks = λ address bank above closed.
+      relock_then (byte_at zero address bank 2) (byte_at old address bank 2) (byte_at new address bank 2)
+      (fits.locks address bank above closed) (inl (same address bank 2));
+  indicators = λ address closed. same address 1 1 ∙ fits.indicators address closed;
 }
 
 after_passive : (zero old new : World) (records : List Record) (lost : List ℕ) (frame : Frame) (answer : Option ℕ)
@@ -100,22 +99,36 @@ record IsPut (writes : List (ℕ × ℕ)) (unit address bank location : ℕ) (ol
   was : IsSome (byte_at old address bank location)
   is : byte_at new address bank location ≡ Some byte
 
--- each place is as it was, or one of the writes was put there
+-- the indicator byte of the unit is one again
+record IsIndicated (unit address bank location : ℕ) (old new : World) : Type 0 where
+  here : address ≡ unit
+  is : IsIndicator bank location
+  some : is_some (byte_at new address bank location) ≡ is_some (byte_at old address bank location)
+
+-- each place is as it was, or one of the writes was put there, or it is the indicator byte
 changed : (writes : List (ℕ × ℕ)) (unit : ℕ) (old new : World) → Puts writes unit old new
     → (address bank location : ℕ)
     → (byte_at new address bank location ≡ byte_at old address bank location)
-    ⊎ IsPut writes unit address bank location old new
+    ⊎ IsPut writes unit address bank location old new ⊎ IsIndicated unit address bank location old new
 changed writes unit old new touches address bank location = by (address == unit) refl where
   by : (here : Bool) → (address == unit) ≡ here
       → (byte_at new address bank location ≡ byte_at old address bank location)
-      ⊎ IsPut writes unit address bank location old new
+      ⊎ IsPut writes unit address bank location old new ⊎ IsIndicated unit address bank location old new
   by true e =
       let here : address ≡ unit = eqb-true address unit e in
       let at : NowOldOrNew writes (old address) (new address) =
       subst (λ (a : ℕ). NowOldOrNew writes (old a) (new a)) (sym here) touches.here in
       elim (at bank location) [
         | inl same ↦ inl same
-        | inr put ↦ inr (record { byte = put.0; here = here; one = put.1; has = put.2; was = put.3; is = put.4 })
+        | inr (inl put) ↦ inr (inl (record {
+          byte = put.0;
+          here = here;
+          one = put.1;
+          has = put.2;
+          was = put.3;
+          is = put.4;
+        }))
+        | inr (inr set) ↦ inr (inr (record { here = here; is = set.0; some = set.1 }))
       ]
   by false e =
       inl
@@ -124,13 +137,14 @@ changed writes unit old new touches address bank location = by (address == unit)
 -- what may be put is possible, where it isn't a lock byte
 is_possible : (first unit location byte : ℕ) (records : List Record) (stands : Standing) → standing_of records ≡ stands
     → named_unit stands ≡ Some unit
-    → MayPut stands location byte → (IsLockByte 1 location → ⊥)
+    → MayPut stands location byte → (IsApart 1 location → ⊥)
     → IsPossible first unit 1 location (orders_of records) byte
 is_possible first unit location byte records standings.Idle at is_named may lock = absurd may
 is_possible first unit location byte records (standings.Began order) at is_named may lock = absurd may
 is_possible first unit location byte records (standings.Opened order) at is_named (inr opens) lock =
-    absurd (lock (refl, opens.0))
-is_possible first unit location byte records (standings.Left left) at is_named may lock = absurd (lock (refl, may.0))
+    absurd (lock (inl (omega arith, opens.0)))
+is_possible first unit location byte records (standings.Left left) at is_named may lock =
+    absurd (lock (inl (omega arith, may.0)))
 is_possible first unit location byte records (standings.Opened order) at is_named (inl update) lock =
     let newest = open_order records order at in
     let here : order.unit ≡ unit = cc in
@@ -153,43 +167,59 @@ after_touch zero old new records lost writes unit sentence is_named may touches 
     bytes =
         λ address bank location first byte lock was is.
         bytes address bank location first byte lock was is (changed writes unit old new touches address bank location);
-    locks = λ address closed. locks address closed (changed writes unit old new touches address 1 2);
+    locks = λ address bank above closed.
+        locks address bank above closed (changed writes unit old new touches address bank 2);
+    indicators = λ address closed. indicators address closed (changed writes unit old new touches address 1 1);
   };
   only = λ address on. enabled address on (address == unit) refl;
 } where
+  opened : (address : ℕ) → address ≡ unit → HasBeenOpened address records
+  opened address here = named_opened records address sentence (is_named ∙ ap Some (sym here))
+
   places : (address bank location : ℕ)
       → (byte_at new address bank location ≡ byte_at old address bank location)
-      ⊎ IsPut writes unit address bank location old new
+      ⊎ IsPut writes unit address bank location old new ⊎ IsIndicated unit address bank location old new
       → is_some (byte_at new address bank location) ≡ is_some (byte_at zero address bank location)
   places address bank location (inl same) = ap is_some same ∙ fine.fits.places address bank location
-  places address bank location (inr put) =
+  places address bank location (inr (inr set)) = set.some ∙ fine.fits.places address bank location
+  places address bank location (inr (inl put)) =
       let was : is_some (byte_at old address bank location) ≡ true = put.was in
       ap is_some put.is ∙ sym was ∙ fine.fits.places address bank location
 
-  bytes : (address bank location first byte : ℕ) → (IsLockByte bank location → ⊥)
+  bytes : (address bank location first byte : ℕ) → (IsApart bank location → ⊥)
       → byte_at zero address bank location ≡ Some first
       → byte_at new address bank location ≡ Some byte
       → (byte_at new address bank location ≡ byte_at old address bank location)
-      ⊎ IsPut writes unit address bank location old new
+      ⊎ IsPut writes unit address bank location old new ⊎ IsIndicated unit address bank location old new
       → IsPossible first address bank location (orders_of records) byte
   bytes address bank location first byte lock was is (inl same) =
       fine.fits.bytes address bank location first byte lock was (sym same ∙ is)
-  bytes address bank location first byte lock was is (inr put) =
+  bytes address bank location first byte lock was is (inr (inr set)) = absurd (lock (inr set.is))
+  bytes address bank location first byte lock was is (inr (inl put)) =
       let both : Some put.byte ≡ Some byte = sym put.is ∙ is in
       let same : put.byte ≡ byte = cc in
       let at : IsPossible first unit 1 location (orders_of records) put.byte =
       is_possible first unit location put.byte records (standing_of records) refl is_named
-      (may location put.byte put.has) (λ e. lock (put.one, e.1)) in
+      (may location put.byte put.has) (λ e. lock (subst (λ (b : ℕ). IsApart b location) (sym put.one) e)) in
       rw (put.here, put.one, ← same) at
 
-  locks : (address : ℕ) → (HasBeenOpened address records → ⊥)
-      → (byte_at new address 1 2 ≡ byte_at old address 1 2) ⊎ IsPut writes unit address 1 2 old new
-      → MayRelock (IsAmong lost address) 1 2 (byte_at zero address 1 2) (byte_at new address 1 2)
-  locks address closed (inl same) =
-      relock_then (byte_at zero address 1 2) (byte_at old address 1 2) (byte_at new address 1 2)
-      (fine.fits.locks address closed) (inl same)
-  locks address closed (inr put) =
-      absurd (closed (named_opened records address sentence (is_named ∙ ap Some (sym put.here))))
+  locks : (address bank : ℕ) → 1 ≤ bank → (bank ≡ 1 → HasBeenOpened address records → ⊥)
+      → (byte_at new address bank 2 ≡ byte_at old address bank 2)
+      ⊎ IsPut writes unit address bank 2 old new ⊎ IsIndicated unit address bank 2 old new
+      → MayRelock (IsAmong lost address) bank 2 (byte_at zero address bank 2) (byte_at new address bank 2)
+  locks address bank above closed (inl same) =
+      relock_then (byte_at zero address bank 2) (byte_at old address bank 2) (byte_at new address bank 2)
+      (fine.fits.locks address bank above closed) (inl same)
+  locks address bank above closed (inr (inl put)) = absurd (closed put.one (opened address put.here))
+  locks address bank above closed (inr (inr set)) = absurd (omega (arith, set.is.1))
+
+  indicators : (address : ℕ) → (HasBeenOpened address records → ⊥)
+      → (byte_at new address 1 1 ≡ byte_at old address 1 1)
+      ⊎ IsPut writes unit address 1 1 old new ⊎ IsIndicated unit address 1 1 old new
+      → byte_at new address 1 1 ≡ byte_at zero address 1 1
+  indicators address closed (inl same) = same ∙ fine.fits.indicators address closed
+  indicators address closed (inr (inl put)) = absurd (closed (opened address put.here))
+  indicators address closed (inr (inr set)) = absurd (closed (opened address set.here))
 
   enabled : (address : ℕ) → is_enabled new address ≡ true → (here : Bool) → (address == unit) ≡ here
       → named_unit (standing_of records) ≡ Some address
@@ -236,78 +266,36 @@ after_sent zero old new since records lost sent (Enable unit) answer sentence ru
     after_enable zero old new records lost unit answer sentence safe carry fine
 after_sent zero old new since records lost sent (Write byte) answer sentence run safe carry fine =
     after_write zero old new since records lost sent byte answer sentence run safe carry fine
-after_sent zero old new since records lost sent other answer sentence run safe carry fine =
-    after_passive zero old new records lost other answer safe carry fine
+after_sent zero old new since records lost sent (Dtr0 byte) answer sentence run safe carry fine =
+    after_passive zero old new records lost (Dtr0 byte) answer tt carry fine
+after_sent zero old new since records lost sent (Dtr1 byte) answer sentence run safe carry fine =
+    after_passive zero old new records lost (Dtr1 byte) answer tt carry fine
+after_sent zero old new since records lost sent (AskDtr0 asked) answer sentence run safe carry fine =
+    after_passive zero old new records lost (AskDtr0 asked) answer tt carry fine
+after_sent zero old new since records lost sent (AskDtr1 asked) answer sentence run safe carry fine =
+    after_passive zero old new records lost (AskDtr1 asked) answer tt carry fine
+after_sent zero old new since records lost sent (Read asked) answer sentence run safe carry fine =
+    after_passive zero old new records lost (Read asked) answer tt carry fine
+after_sent zero old new since records lost sent _ answer sentence run safe carry fine = absurd safe
 
 -- A loss of power
-
--- no order has a byte for another bank than bank 1
-no_byte : (order : Contents) (address bank location : ℕ) → 2 ≤ bank → byte_for order address bank location ≡ None
-no_byte order address bank location above = by (order.unit == address) (bank == 1) refl where
-  by : (here one : Bool) → (bank == 1) ≡ one
-      → (if here && one then update_at order.updates location else None) ≡ None
-  by here true e = let is : bank ≡ 1 = eqb-true bank 1 e in absurd (omega (arith, above, is))
-  by true false e = refl
-  by false false e = refl
-
-untouched : (mark : Mark) (found : Option ℕ) (before : ℕ → Type 0) (byte : ℕ) → found ≡ None → before byte
-    → MayHold mark found before byte
-untouched Applied None before byte none is = is
-untouched Untouched None before byte none is = is
-untouched InDoubt None before byte none is = is
-untouched mark (Some update) before byte none is = cc
-
-first_possible : (orders : List (Contents × Progress)) (first address bank location : ℕ) → 2 ≤ bank
-    → IsPossible first address bank location orders first
-first_possible [] first address bank location above = refl
-first_possible (newest ∷ older) first address bank location above =
-    untouched (mark_of newest.1) (byte_for newest.0 address bank location)
-    (IsPossible first address bank location older) first (no_byte newest.0 address bank location above)
-    (first_possible older first address bank location above)
-
--- and no other is possible there
-same_only : (mark : Mark) (found : Option ℕ) (before : ℕ → Type 0) (byte : ℕ) → found ≡ None
-    → MayHold mark found before byte → before byte
-same_only Applied None before byte none may = may
-same_only Untouched None before byte none may = may
-same_only InDoubt None before byte none may = may
-same_only mark (Some update) before byte none may = cc
-
-pub only_first : (orders : List (Contents × Progress)) (first address bank location byte : ℕ) → 2 ≤ bank
-    → IsPossible first address bank location orders byte → byte ≡ first
-only_first [] first address bank location byte above is = is
-only_first (newest ∷ older) first address bank location byte above is =
-    only_first older first address bank location byte above
-    (same_only (mark_of newest.1) (byte_for newest.0 address bank location)
-    (IsPossible first address bank location older) byte (no_byte newest.0 address bank location above) is)
-
--- past bank 1
-further : (bank : ℕ) → 1 ≤ bank → (bank ≡ 1 → ⊥) → 2 ≤ bank
-further bank some other = elim (eq-or-lt_of_le {n = 1} {m = bank} some) [
-  | inl is ↦ absurd (other (sym is))
-  | inr more ↦ omega (arith, more)
-]
-
--- a lock byte that is FFh since then
-relocked_is : (old : Option ℕ) (byte : ℕ) → relocked old ≡ Some byte → byte ≡ 0xFF
-relocked_is None byte is = cc
-relocked_is (Some was) byte is = cc
 
 same_some : (old : Option ℕ) → is_some (relocked old) ≡ is_some old
 same_some None = refl
 same_some (Some byte) = refl
 
-pub after_loss : (zero old new : World) (records : List Record) (lost : List ℕ) (unit : ℕ) → IsLockedAbove zero
+pub after_loss : (zero old new : World) (records : List Record) (lost : List ℕ) (unit : ℕ)
     → LosesPower old unit new → IsFine zero records lost old → IsFine zero records (unit ∷ lost) new
-after_loss zero old new records lost unit above loses fine = record {
+after_loss zero old new records lost unit loses fine = record {
   fits = record {
     places = λ address bank location.
         places address bank location ((powered_at old unit new loses address).bytes bank location);
     bytes = λ address bank location first byte lock was is.
         bytes address bank location first byte lock was is
         ((powered_at old unit new loses address).bytes bank location);
-    locks = λ address closed. locks address (fine.fits.locks address closed)
-        ((powered_at old unit new loses address).bytes 1 2);
+    locks = λ address bank above closed. locks address bank (fine.fits.locks address bank above closed)
+        ((powered_at old unit new loses address).bytes bank 2);
+    indicators = λ address closed. indicators address closed ((powered_at old unit new loses address).bytes 1 1);
   };
   only = λ address on. fine.only address (on_before address on (after_power old unit new loses address));
 } where
@@ -323,27 +311,27 @@ after_loss zero old new records lost unit above loses fine = record {
   places address bank location (inr (here, some, lock, is)) =
       ap is_some is ∙ same_some (byte_at old address bank location) ∙ fine.fits.places address bank location
 
-  bytes : (address bank location first byte : ℕ) → (IsLockByte bank location → ⊥)
+  bytes : (address bank location first byte : ℕ) → (IsApart bank location → ⊥)
       → byte_at zero address bank location ≡ Some first → byte_at new address bank location ≡ Some byte
       → Changes address bank location → IsPossible first address bank location (orders_of records) byte
   bytes address bank location first byte lock was is (inl same) =
       fine.fits.bytes address bank location first byte lock was (sym same ∙ is)
-  bytes address bank location first byte lock was is (inr (here, one, at, now)) =
-      let more : 2 ≤ bank = further bank one (λ e. lock (e, at)) in
-      let full : byte ≡ 0xFF = relocked_is (byte_at old address bank location) byte (sym now ∙ is) in
-      let start : first ≡ 0xFF =
-      above address bank first more (subst (λ (l : ℕ). byte_at zero address bank l ≡ Some first) at was) in
-      subst (λ (b : ℕ). IsPossible first address bank location (orders_of records) b) (start ∙ sym full)
-      (first_possible (orders_of records) first address bank location more)
+  bytes address bank location first byte lock was is (inr (here, some, at, now)) = absurd (lock (inl (some, at)))
 
-  locks : (address : ℕ) → MayRelock (IsAmong lost address) 1 2 (byte_at zero address 1 2) (byte_at old address 1 2)
-      → Changes address 1 2
-      → MayRelock (IsAmong (unit ∷ lost) address) 1 2 (byte_at zero address 1 2) (byte_at new address 1 2)
-  locks address (inl before) (inl same) = inl (same ∙ before)
-  locks address (inr (was, one, lock, is)) (inl same) = inr (inr was, one, lock, same ∙ is)
-  locks address (inl before) (inr (here, one, lock, is)) = inr (inl here, one, lock, is ∙ ap relocked before)
-  locks address (inr (was, more, again, is)) (inr (here, one, lock, now)) =
-      inr (inl here, one, lock, now ∙ ap relocked is ∙ relocked_twice (byte_at zero address 1 2))
+  indicators : (address : ℕ) → (HasBeenOpened address records → ⊥) → Changes address 1 1
+      → byte_at new address 1 1 ≡ byte_at zero address 1 1
+  indicators address closed (inl same) = same ∙ fine.fits.indicators address closed
+  indicators address closed (inr (here, some, at, now)) = absurd (omega (arith, at))
+
+  locks : (address bank : ℕ)
+      → MayRelock (IsAmong lost address) bank 2 (byte_at zero address bank 2) (byte_at old address bank 2)
+      → Changes address bank 2
+      → MayRelock (IsAmong (unit ∷ lost) address) bank 2 (byte_at zero address bank 2) (byte_at new address bank 2)
+  locks address bank (inl before) (inl same) = inl (same ∙ before)
+  locks address bank (inr (was, one, lock, is)) (inl same) = inr (inr was, one, lock, same ∙ is)
+  locks address bank (inl before) (inr (here, one, lock, is)) = inr (inl here, one, lock, is ∙ ap relocked before)
+  locks address bank (inr (was, more, again, is)) (inr (here, one, lock, now)) =
+      inr (inl here, one, lock, now ∙ ap relocked is ∙ relocked_twice (byte_at zero address bank 2))
 
   on_before : (address : ℕ) → is_enabled new address ≡ true
       → (new address ≡ old address) ⊎ ((is_open (new address) ≡ false) × (dtr1_in (new address) ≡ Some 1 → ⊥))

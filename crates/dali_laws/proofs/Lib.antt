@@ -23,8 +23,12 @@ pub mod SaidAsDueLemmas
 pub mod StepsLemmas
 pub mod AgreeLemmas
 pub mod PoweredLemmas
+pub mod AmongLemmas
+pub mod BareLemmas
 pub mod StayLemmas
+pub mod CameLemmas
 pub mod UnitLemmas
 pub mod JoinLemmas
 pub mod WorkedLawLemmas
 pub mod WorkedStayLemmas
+pub mod WorkedBesideLemmas

@@ -14,7 +14,7 @@ use Rattle.dali_trace.specs.Trace.{Start, records_of, standing_at, sent_of, powe
 use Rattle.dali_trace.specs.Legal.{Legal}
 use Rattle.dali_trace.specs.Grounds.{Grounds}
 use Rattle.dali_trace.specs.Moves.{Moves}
-use Rattle.dali_trace.specs.Fits.{Fits, IsLockedAbove, OnlyNamed}
+use Rattle.dali_trace.specs.Fits.{Fits, OnlyNamed}
 use Rattle.dali_trace.specs.WhenKept.{WhenKept}
 use Rattle.dali_trace.specs.Moments.{Along, IsRight}
 use Rattle.dali_laws.proofs.FrameLemmas.{IsFine, after_sent, after_loss}
@@ -110,12 +110,12 @@ abbrev FineAt : World → List ℕ → Start → List Happening → World → Ty
 FineAt zero lost start past now = IsFine zero (records_of start past) (powered_of lost past) now
 
 fine_step : (zero old new : World) (lost : List ℕ) (start : Start) (past : List Happening) (next : Happening)
-    → IsLockedAbove zero → IsSafe start past next → Moves old next new
+    → IsSafe start past next → Moves old next new
     → IsTold start past old → FineAt zero lost start past old → FineAt zero lost start (next ∷ past) new
-fine_step zero old new lost start past (Sent frame answer) locked safe carry told fine =
+fine_step zero old new lost start past (Sent frame answer) safe carry told fine =
     after_sent zero old new told.since (records_of start past) (powered_of lost past) (sent_of past) frame answer
     told.sentence (run_among WorldStep (sent_of past) told.since old (among_all lost past) told.run) safe carry fine
-fine_step zero old new lost start past (Kept entry) locked safe same told fine =
+fine_step zero old new lost start past (Kept entry) safe same told fine =
     let now : IsTold start past new = subst (IsTold start past) (sym same) told in
     let still : FineAt zero lost start past new = subst (FineAt zero lost start past) (sym same) fine in
     let so = rests_so new start past entry now safe in
@@ -126,9 +126,9 @@ fine_step zero old new lost start past (Kept entry) locked safe same told fine =
           so still.fits;
       only = keeps_only (powered_of [] past) new (standing_at start past) entry safe.0.1 so still.only;
     }
-fine_step zero old new lost start past (Powered address) locked safe loses told fine =
-    after_loss zero old new (records_of start past) (powered_of lost past) address locked loses fine
-fine_step zero old new lost start past _ locked safe same told fine =
+fine_step zero old new lost start past (Powered address) safe loses told fine =
+    after_loss zero old new (records_of start past) (powered_of lost past) address loses fine
+fine_step zero old new lost start past _ safe same told fine =
     subst (FineAt zero lost start past) (sym same) fine
 
 every_fine : (zero : World) (lost : List ℕ) (start : Start) (first : World) (past : List Happening) (last : World)
@@ -145,13 +145,12 @@ every_fine zero lost start first [] last (state ∷ states) safe along = absurd 
 every_fine zero lost start first (next ∷ past) last [] safe along = absurd along.chain
 every_fine zero lost start first (next ∷ past) last (state ∷ states) safe along =
     let before = every_fine zero lost start first past state states safe.0 (record {
-      locked = along.locked;
       fits = along.fits;
       only = along.only;
       chain = along.chain.1;
     }) in
     let told = (each_told start first past state states safe.0 along.chain.1).0 in
-    let now = fine_step zero state last lost start past next along.locked safe.1 along.chain.0 told before.0 in
+    let now = fine_step zero state last lost start past next safe.1 along.chain.0 told before.0 in
     let true_now = (told_step state last start past next safe.1 along.chain.0 told).1 in (
       now,
       (

@@ -1,5 +1,5 @@
 -- A record that may be kept leaves a world that fits.
-use Rattle.std.proofs.Common.{◌≡◌, ◌⊎◌, inl, inr, refl, sym, ap, subst, ◌∙◌, ℕ, Bool, true, false, ◌==◌, List, [], ◌∷◌}
+use Rattle.std.proofs.Common.{arith, ◌≡◌, ◌⊎◌, inl, inr, refl, sym, ap, subst, ◌∙◌, ℕ, Bool, true, false, ◌==◌, List, [], ◌∷◌}
 use Rattle.std.proofs.Common.{Option, Some, None}
 use Rattle.std.proofs.lemmas.Bool.{eqb-true}
 use Rattle.std.specs.List.{AllByRecursion}
@@ -22,7 +22,7 @@ use Rattle.dali_write.specs.declared.ask.Verdict.{Verdict}
 use Rattle.dali_write.proofs.RestLemmas.{Shown, rests_on_too}
 use Rattle.dali_trace.specs.Grounds.{verdict_of, IsSeen, RestsIfAny, Grounds}
 use Rattle.dali_trace.specs.Possible.{Applied, Untouched, InDoubt, byte_for, MayHold, IsPossible}
-use Rattle.dali_trace.specs.Fits.{Fits, HasBeenOpened, IsLockByte}
+use Rattle.dali_trace.specs.Fits.{Fits, HasBeenOpened, IsApart}
 use Rattle.dali_trace.specs.WhenKept.{Holds}
 use Rattle.dali_laws.proofs.StandingLemmas.{begun_order, open_order, HasByte, byte_for_or_none}
 
@@ -61,7 +61,7 @@ at_update P (update ∷ updates) location byte all e =
 
 -- more may be possible, and more opened
 changed_fits : (zero now : World) (records more : List Record) (been : List ℕ)
-    → ((address bank location first byte : ℕ) → (IsLockByte bank location → ⊥)
+    → ((address bank location first byte : ℕ) → (IsApart bank location → ⊥)
     → byte_at now address bank location ≡ Some byte
     → IsPossible first address bank location (orders_of records) byte
     → IsPossible first address bank location (orders_of more) byte)
@@ -72,7 +72,8 @@ changed_fits zero now records more been possible opened fits = record {
   bytes =
       λ address bank location first byte lock was is.
       possible address bank location first byte lock is (fits.bytes address bank location first byte lock was is);
-  locks = λ address closed. fits.locks address (λ was. closed (opened address was));
+  locks = λ address bank above closed. fits.locks address bank above (λ one was. closed one (opened address was));
+  indicators = λ address closed. fits.indicators address (λ was. closed (opened address was));
 }
 
 -- from untouched to in doubt
@@ -92,7 +93,7 @@ written (Some update) before byte is may = is update refl
 abbrev Comes : World → Progress → Progress → Contents → Type 0
 Comes now old new order =
     (older : List (Contents × Progress)) (address bank location first byte : ℕ)
-    → (IsLockByte bank location → ⊥) → byte_at now address bank location ≡ Some byte
+    → (IsApart bank location → ⊥) → byte_at now address bank location ≡ Some byte
     → IsPossible first address bank location ((order, old) ∷ older) byte
     → IsPossible first address bank location ((order, new) ∷ older) byte
 
@@ -124,7 +125,7 @@ done_comes lost now order done older address bank location first byte lock is po
       by update found (inr (other, has)) =
           let holds : byte_at now order.unit 1 location ≡ Some other =
           not_lock (IsAmong lost order.unit) location (Some other) (byte_at now order.unit 1 location)
-          (λ at. lock (has.one, at))
+          (λ at. lock (inl (omega (arith, has.one), at)))
           (shown_byte lost now order.unit location other
           (at_update (Shows (IsAmong lost) now order.unit) order.updates location other done.1 has.is)) in
           let there : byte_at now address bank location ≡ Some other =

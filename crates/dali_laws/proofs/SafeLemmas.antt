@@ -12,17 +12,18 @@ use Rattle.dali_journal.specs.declared.standing.Standing.{Standing}
 use Rattle.dali_journal.specs.declared.standing.Standing.TheVariants as standings
 use Rattle.dali_journal.specs.Sentence.{Allows, next_standing, standing_of, named_unit, is_begun, IsNew, IsSentence}
 use Rattle.dali_write.specs.Exchanges.{Exchange}
-use Rattle.dali_write.specs.Reads.{IsPassive, StillRead}
+use Rattle.dali_write.specs.Reads.{StillRead}
 use Rattle.dali_write.specs.Worlds.{Selects}
 use Rattle.dali_trace.specs.declared.happening.Happening.{Happening}
 use Rattle.dali_trace.specs.declared.happening.Happening.TheVariants.{Asked, Sent, Kept}
 use Rattle.dali_trace.specs.Cut.{kept_in}
 use Rattle.dali_trace.specs.Trace.{Start, records_of, standing_at, sent_of}
-use Rattle.dali_trace.specs.Legal.{Legal, MayFollow, MayKeep, MaySend, MayPut}
+use Rattle.dali_trace.specs.Legal.{Legal, MayFollow, MayKeep, MaySend, MayPut, Serves}
 use Rattle.dali_trace.specs.Grounds.{Grounds}
+use Rattle.dali_laws.specs.Stays.{unit_at_work}
 
--- What a frame may do behind these exchanges, where the records stand so: enable the named unit; put a byte there that
--- may be put, at a place that was made sure to be selected; or neither enable nor write.
+-- What a frame may do after these exchanges, where the records stand so: enable the named unit; put a byte there that
+-- may be put, at a place that was made sure to be selected; set DTR0 or DTR1; or ask or read the unit at work.
 pub record IsSafeWrite (sent : List Exchange) (stands : Standing) (byte : ℕ) : Type 0 where
   pub unit : ℕ
   pub location : ℕ
@@ -33,7 +34,12 @@ pub record IsSafeWrite (sent : List Exchange) (stands : Standing) (byte : ℕ) :
 abbrev pub IsSafeFrame : List Exchange → Standing → Frame → Type 0
 IsSafeFrame sent stands (Enable unit) = named_unit stands ≡ Some unit
 IsSafeFrame sent stands (Write byte) = IsSafeWrite sent stands byte
-IsSafeFrame sent stands frame = IsPassive frame
+IsSafeFrame sent stands (Dtr0 byte) = ⊤
+IsSafeFrame sent stands (Dtr1 byte) = ⊤
+IsSafeFrame sent stands (AskDtr0 unit) = unit_at_work stands ≡ Some unit
+IsSafeFrame sent stands (AskDtr1 unit) = unit_at_work stands ≡ Some unit
+IsSafeFrame sent stands (Read unit) = unit_at_work stands ≡ Some unit
+IsSafeFrame sent stands other = ⊥
 
 abbrev pub IsSafe : Start → List Happening → Happening → Type 0
 IsSafe start past (Sent frame answer) = IsSafeFrame (sent_of past) (standing_at start past) frame
@@ -59,13 +65,21 @@ pub may_send : (start : Start) (past : List Happening) (frame : Frame) (answer :
 may_send start (Asked order moment ∷ past) frame answer may = absurd may
 may_send start _ frame answer may = may
 
+-- the unit that frames may be sent to is the one at work
+served_works : (past : List Happening) (stands : Standing) (unit : ℕ) → Serves past stands unit
+    → unit_at_work stands ≡ Some unit
+served_works past standings.Idle unit serves = absurd serves
+served_works past (standings.Began order) unit serves = ap Some (sym serves)
+served_works past (standings.Opened order) unit serves = ap Some (sym serves)
+served_works past (standings.Left left) unit serves = ap Some (sym serves.0)
+
 pub safe_frame : (past : List Happening) (stands : Standing) (frame : Frame) → MaySend past stands frame
     → IsSafeFrame (sent_of past) stands frame
 safe_frame past stands (Dtr0 byte) may = tt
 safe_frame past stands (Dtr1 byte) may = tt
-safe_frame past stands (AskDtr0 unit) may = tt
-safe_frame past stands (AskDtr1 unit) may = tt
-safe_frame past stands (Read unit) may = tt
+safe_frame past stands (AskDtr0 unit) may = served_works past stands unit may
+safe_frame past stands (AskDtr1 unit) may = served_works past stands unit may
+safe_frame past stands (Read unit) may = served_works past stands unit may
 safe_frame past stands (Enable unit) may = may.1
 safe_frame past stands (Write byte) may = record {
   unit = may.unit;
@@ -93,7 +107,7 @@ legal_safe start (next ∷ past) legal = (legal_safe start past legal.0, safe_ne
 
 -- Behind records at rest, the own ones stand by themselves
 
-standing_joined : (own older : List Record) → standing_of older ≡ standings.Idle
+pub standing_joined : (own older : List Record) → standing_of older ≡ standings.Idle
     → standing_of (own ++ older) ≡ standing_of own
 standing_joined [] older rests = rests
 standing_joined (newest ∷ own) older rests =

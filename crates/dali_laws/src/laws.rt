@@ -1,7 +1,7 @@
 //! Laws of a writer, over its definitions alone. Each is the contract of a function that does nothing.
 
-ghost use Rattle.std.specs.Prelude.{◌≡◌, ◌+◌, ◌*◌, ◌<◌, ◌≤◌, ◌++◌, ℕ, List, [], length};
-ghost use Rattle.dali_bus.specs.World.{World};
+ghost use Rattle.std.specs.Prelude.{◌≡◌, ◌+◌, ◌*◌, ◌<◌, ◌≤◌, ◌++◌, ℕ, Bool, true, false, List, [], length};
+ghost use Rattle.dali_bus.specs.World.{World, is_enabled};
 ghost use Rattle.dali_bus.specs.Chain.{IsChain};
 ghost use Rattle.dali_journal.specs.declared.standing.Standing.TheVariants as standings;
 ghost use Rattle.dali_write.specs.declared.pace.Pace.{Pace};
@@ -9,30 +9,28 @@ ghost use Rattle.dali_write.specs.Plans.{rows_of, read_backs, greatest};
 ghost use Rattle.dali_write.specs.Counts.{jumps};
 ghost use Rattle.dali_trace.specs.Work.{work_limit, frames_from};
 ghost use Rattle.dali_trace.specs.declared.happening.Happening.{Happening};
-ghost use Rattle.dali_trace.specs.Trace.{Start};
+ghost use Rattle.dali_trace.specs.Trace.{Start, powered_of, is_at_work};
 ghost use Rattle.dali_trace.specs.Legal.{Legal, IsFinished};
 ghost use Rattle.dali_trace.specs.Steps.{IsSaidInTime};
 ghost use Rattle.dali_trace.specs.ByPlan.{ByPlan};
 ghost use Rattle.dali_laws.specs.Powered.{unpowered, IsPowerApart};
 ghost use Rattle.dali_laws.specs.Joined.{Sitting, joined, FollowOn, IsOneTrace};
-ghost use Rattle.dali_laws.specs.Stays.{Stay, IsAlong, IsRightThrough, Begins, IsStay, IsReady, IsReadyAtRest};
-ghost use Rattle.dali_laws.specs.Stays.{left_by, UnitFits};
+ghost use Rattle.dali_laws.specs.Stays.{Stay, among, MovesAmid, WorkStays, IsAlong, IsRightThrough, Begins, IsStay};
+ghost use Rattle.dali_laws.specs.Stays.{bare, IsReady, IsReadyAtRest, just, UnitFits};
 ghost use Rattle.dali_journal.specs.declared.record.Record.{Record};
 ghost use Rattle.dali_journal.specs.Sentence.{standing_of, IsSentence};
-ghost use Rattle.dali_trace.specs.Fits.{Fits, IsLockedAbove, OnlyNamed};
-ghost use Rattle.dali_bank.specs.Order.{Contents};
+ghost use Rattle.dali_trace.specs.Fits.{Fits};
 ghost use Rattle.dali_trace.specs.Next.{IsNext, IsSameBut};
 ghost use Rattle.dali_trace.specs.Work.{IsWorked};
-ghost use Rattle.dali_trace.specs.Moves.{Moves};
-ghost use Rattle.dali_trace.specs.Moments.{Along, Always, FitsAt, OnlyNamedAt, AppliedAt};
+ghost use Rattle.dali_write.specs.Worlds.{IsAmong, KeepsAt};
+ghost use Rattle.dali_trace.specs.Moments.{Always, FitsAt, OnlyNamedAt, AppliedAt};
 ghost use Rattle.dali_laws.specs.Law.{RecordsAreTrue, RecordsAreASentence, TakenOrdersAreKept, OneReplyIsDue};
 ghost use Rattle.dali_laws.specs.Law.{RepeatsAreAnswered, RepeatsAreQuiet, RefusedOrdersChangeNothing, QuietUntilTaken};
 
 pub use dali_write::laws::misses_are_those_of_the_tries;
 
 /// Along every chain of worlds of every legal trace, whichever units lose their power, from a world that fits the start
-/// world and the start records and in which no unit is write-enabled but the one that they name. In the start world the
-/// lock bytes of the banks from 2 up are FFh.
+/// world and the start records and in which no unit is write-enabled but the one that they name.
 pub fn every_moment_fits()
     // each moment fits;
     ensures fits { Always FitsAt }
@@ -46,8 +44,8 @@ pub fn kept_records_are_true()
     ensures { RecordsAreTrue }
 {}
 
-/// With the same premises: every place but the lock bytes of bank 1 that no order leaves in doubt holds what it held
-/// at the start, with the done orders applied once each in journal order.
+/// With the same premises: every place but the lock bytes and the indicator byte that no order leaves in doubt holds
+/// what it held at the start, with the done orders applied once each in journal order.
 pub fn done_orders_are_applied_once()
     ensures { Always AppliedAt }
 {}
@@ -132,12 +130,14 @@ pub fn sittings_are_one_trace()
     ensures { (start : Start) (sittings : List Sitting) → FollowOn start sittings → IsOneTrace start sittings }
 {}
 
-/// A stay is a part of what happened, over one set of units; before it and behind it the units may be any others, or
-/// used by anyone. Units may lose their power in it at any moment. It begins with the trace, or at rest: where the
+/// A stay is a part of what happened, told of the luminaires that stand on the bus from its first moment to its last;
+/// before it and after it the units may be any others, or used by anyone. At the other short addresses luminaires may
+/// come and go in it at any moment, though not at that of the order at work or of a left unit, and who comes isn't
+/// write-enabled. Units may lose their power in it at any moment. It begins with the trace, or at rest: where the
 /// journal stands idle, or nothing is to be done or said. From the start on it is told by all records, as the laws
-/// above; from a moment on at which the journal stands idle it may be told by none, against the world of that moment,
-/// as if the journal had been empty. Either way each moment fits, no unit but the named one is enabled, every place
-/// that is in no doubt is as the journal says, and when a record is kept, what it says is so.
+/// above; from a moment at rest on it may be told against the world of that moment, as if the orders of before had no
+/// bytes. Either way each moment fits, no unit but the named one is enabled, every place that is in no doubt is as the
+/// journal says, and when a record is kept, what it says is so.
 pub fn every_moment_of_a_stay_is_right()
     // a legal trace from its start on, whether it keeps to the plans or not;
     ensures trace { (start : Start) (stay : Stay) → Legal start stay.past → Begins start [] stay → IsAlong stay
@@ -150,34 +150,39 @@ pub fn every_moment_of_a_stay_is_right()
         → IsStay start (joined sittings) stay → IsRightThrough stay }
 {}
 
-/// Where the journal stands idle in a stay, that is behind each end but one that leaves its unit open, no unit is
-/// write-enabled and the lock bytes of the banks from 2 up are FFh: the units are as the next stay wants them.
+/// Where nothing is at work in a stay, no unit is write-enabled but a left one: the units are as the next stay wants
+/// them.
 pub fn each_rest_suits_the_next_stay()
-    ensures ready { (stay : Stay) → IsAlong stay → IsRightThrough stay → IsReadyAtRest stay }
-    // A stay wants no more of the units that it begins with, told by no records and against what they hold;
-    ensures begins { (first last : World) (past : List Happening) (states : List World) (limit : ℕ) (pace : Pace)
-        → IsReady first → IsChain Moves first past last states
-        → Along first [] (record { records = []; limit = limit; pace = pace }) first past last states }
-    // and where a unit is left, told by its order's records, that no other is write-enabled.
-    ensures left { (first last : World) (past : List Happening) (states : List World) (order : Contents)
-        (moment unit limit : ℕ) (pace : Pace) → IsLockedAbove first → OnlyNamed (left_by order moment unit) first
-        → IsChain Moves first past last states
-        → Along first [] (record { records = left_by order moment unit; limit = limit; pace = pace }) first past last
-        states }
+    ensures ready { (stay : Stay) → IsRightThrough stay → IsReadyAtRest stay }
+    // A stay that begins at rest wants no more of the units that it begins with. It is told against what those hold
+    // that stay, by records of orders that have no bytes.
+    ensures begins { (stay : Stay) (records : List Record) → stay.zero ≡ among stay.staying stay.first
+        → stay.start.records ≡ bare records → IsReady (standing_of records) stay.first → WorkStays stay
+        → IsChain (MovesAmid stay.staying) stay.first stay.past stay.last stay.states → IsAlong stay }
 {}
 
-/// A luminaire that nobody touched between two stays fits over both: what its memory was when the first began, with the
-/// orders done in both applied once each in journal order. So it may be told of by one stay, whatever came and went at
-/// other short addresses.
+/// A luminaire that was only read between two stays, or lost its power, fits over both: its memory is what it was when
+/// the first began, with the orders done in both applied once each in journal order. So it may be told of by one stay,
+/// whatever came and went at other short addresses.
 pub fn a_unit_left_standing_fits_over_both()
-    // a world that fits, fits at each address;
-    ensures each { (address : ℕ) (zero now : World) (records : List Record) (lost : List ℕ)
-        → Fits zero records lost now → UnitFits address zero records lost now }
-    // behind records that stand idle what fitted fits on.
-    ensures both { (address : ℕ) (zero middle first now : World) (older own : List Record) (before lost : List ℕ)
-        → standing_of older ≡ standings.Idle → IsSentence (own ++ older)
-        → UnitFits address zero older before middle → first address ≡ middle address
-        → UnitFits address first own lost now → UnitFits address zero (own ++ older) (lost ++ before) now }
+    // a world that fits, fits at each address of those who stay;
+    ensures each { (staying : ℕ → Bool) (address : ℕ) (zero now : World) (records : List Record) (lost : List ℕ)
+        → staying address ≡ true → Fits zero records lost (among staying now)
+        → UnitFits address zero records lost now }
+    // after records at rest what fitted fits on: after those that stand idle, and after those of an order that left
+    // another unit.
+    ensures both { (address : ℕ) (zero middle first now : World) (oldest newest own : List Record)
+        (before gone lost : List ℕ)
+        → standing_of oldest ≡ standings.Idle → is_at_work (standing_of newest) ≡ false
+        → IsSentence (own ++ (newest ++ oldest)) → UnitFits address zero (newest ++ oldest) before middle
+        → KeepsAt (IsAmong gone) middle first address → UnitFits address first (own ++ bare newest) lost now
+        → UnitFits address zero (own ++ (newest ++ oldest)) (lost ++ (gone ++ before)) now }
+    // One that comes in a stay, at an address that isn't at work in it, keeps its memory from then on.
+    ensures came { (start : Start) (happened : List Happening) (stay : Stay) (older newer : List Happening)
+        (address : ℕ) (came last : World) (states : List World) → Legal start happened → ByPlan start happened
+        → IsStay start happened stay → stay.past ≡ newer ++ older → stay.staying address ≡ false
+        → is_enabled came address ≡ false → IsChain (MovesAmid (just address)) came newer last states
+        → KeepsAt (IsAmong (powered_of [] newer)) came last address }
 {}
 
 /// After a legal trace one thing is next at most: one record, one frame, one saying, or the reply that is due.

@@ -1,5 +1,6 @@
 -- Lemmas on how a drive behind older journals ended.
-use Rattle.std.proofs.Common.{◌≡◌, ◌≢◌, Bool, ℕ, List, [], ◌∷◌, ◌++◌, Option, Some, None, IfSome, ap, inl, inr, refl, subst}
+use Rattle.std.proofs.Common.{◌≡◌, ◌≢◌, Bool, ℕ, List, [], ◌∷◌, ◌++◌, Option, ap, inl, inr, refl}
+use Rattle.std.specs.Borrow.{Bor}
 use Rattle.dali_journal.specs.declared.record.Record.{Record}
 use Rattle.dali_journal.specs.declared.standing.Standing.TheVariants.{Idle}
 use Rattle.dali_journal.specs.JournalState.{JournalState}
@@ -12,8 +13,9 @@ use Rattle.dali_drive.specs.Desks.{Look}
 use Rattle.dali_report.specs.declared.report.Report.{Report}
 use Rattle.dali_report.specs.Told.{IsTold, IsToldEnd}
 use Rattle.dali_faults.specs.declared.fault.Status.{Status}
-use Rattle.dali_link_commands.specs.BehindAnswers.{BreaksBehind, IsBehindNamed, IsBreakTold}
+use Rattle.dali_link_commands.specs.BehindAnswers.{BreaksBehind, IsBreakTold}
 use Rattle.dali_link_commands.specs.Benches.{with_lines}
+use Rattle.dali_link_commands.specs.Older.{held_under}
 use Rattle.dali_faults.specs.JournalInput.{journal_limit, order_limit}
 use Rattle.dali_write.specs.declared.pace.Pace.{Pace}
 
@@ -38,17 +40,8 @@ pub standing_behind : (own older : List Record) → standing_of older ≡ Idle
 standing_behind [] older rests = rests
 standing_behind (newest ∷ own) older rests = ap (λ st. next_standing st newest) (standing_behind own older rests)
 
--- there is an older journal just where one is named
-pub behind_named : {A : Type 0} (names : List A) (older : Option JournalState)
-    (answers : Option JournalState → Type 0) (refused : Type 0) → (names ≡ [] → older ≡ None)
-    → (older ≡ None → names ≡ []) → IfSome older (λ journal. standing_of journal.records ≡ Idle) → answers older
-    → IsBehindNamed names answers refused
-behind_named [] older answers refused none some rests answered = subst answers (none refl) answered
-behind_named (name ∷ names) None answers refused none some rests answered = let never = some refl in cc
-behind_named (name ∷ names) (Some older) answers refused none some rests answered = inl (older, rests, answered)
-
--- where one is named that can't be used
-pub behind_refused : {A : Type 0} (names : List A) (answers : Option JournalState → Type 0) (refused : Type 0)
-    → names ≢ [] → refused → IsBehindNamed names answers refused
-behind_refused [] answers refused some is = absurd (some refl)
-behind_refused (name ∷ names) answers refused some is = inr is
+-- something is known of some files where some are named
+pub some_held : (has : List ℕ → Option (List ℕ)) (names : List (Bor (List ℕ))) → names ≢ []
+    → held_under has names ≢ []
+some_held has [] some none = some refl
+some_held has (name ∷ names) some none = cc

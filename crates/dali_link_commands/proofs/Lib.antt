@@ -16,3 +16,4 @@ mod WorkedReadLemmas
 mod WorkedReportLemmas
 pub mod ReadLemmas
 mod WorkedOlderLemmas
+mod WorkedUnreadLemmas

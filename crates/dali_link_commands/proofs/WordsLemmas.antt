@@ -12,7 +12,8 @@ use Rattle.dali_faults.specs.declared.fault.Fault.{Fault}
 use Rattle.dali_faults.specs.declared.fault.Status.{Status}
 use Rattle.dali_faults.specs.Faults.{status_of, told_line}
 use Rattle.dali_text.specs.declared.output.OutputFailed.{OutputFailed}
-use Rattle.dali_link_commands.specs.Told.{IsPlain, TellsWorded, error_line, is_plain, shown_letter}
+use Rattle.dali_text.specs.Escaped.{is_plain, shown_letter}
+use Rattle.dali_link_commands.specs.Told.{IsPlain, TellsWorded, error_line}
 
 plain_append : (xs ys : List ℕ) → IsPlain xs → IsPlain ys → IsPlain (xs ++ ys)
 plain_append [] ys first second = second

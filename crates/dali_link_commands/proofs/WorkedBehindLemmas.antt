@@ -1,15 +1,16 @@
 -- What is answered behind older journals, on both sides of each rule.
-use Rattle.std.proofs.Common.{◌≡◌, refl, ℕ, [], ◌∷◌, None, codes, inl, inr}
+use Rattle.std.proofs.Common.{◌≡◌, refl, ℕ, List, [], ◌∷◌, Option, None, codes, inl, inr}
 use Rattle.std.specs.Prelude.{⊤}
 use Rattle.dali_journal.specs.declared.behind.JoinFault.TheVariants as joins
 use Rattle.dali_journal.specs.declared.fault.JournalFault.TheVariants as journals
+use Rattle.dali_journal.specs.JournalState.{JournalState}
 use Rattle.dali_input.specs.declared.fault.InputFault.TheVariants.{Memory, File, TooBig}
 use Rattle.dali_faults.specs.declared.fault.Fault.TheVariants.{Input, Journal, Older}
 use Rattle.dali_faults.specs.declared.fault.Status.TheVariants.{Refused}
 use Rattle.dali_link_commands.specs.declared.older.OlderFault.TheVariants.{Unloaded, AtWork, Join}
 use Rattle.dali_link_commands.specs.BehindAnswers.{IsBehindNamed, fault_unjoined}
 use Rattle.dali_faults.specs.Faults.{status_of, told_line}
-use Rattle.dali_link_commands.specs.Older.{fault_older}
+use Rattle.dali_link_commands.specs.Older.{AreOne, AreReadAtRest, fault_older}
 
 -- what is no journal, isn't at rest, or has a number of another one, is told as 15 Older
 pub told_as_older :
@@ -32,15 +33,19 @@ pub older_is_refused : (status_of Older ≡ Refused) × (told_line Older ≡ cod
 older_is_refused = (refl, refl)
 
 -- without names it is answered as behind none; behind names never, and there it may be refused
-pub behind_none : IsBehindNamed {A = ℕ} [] (λ older. older ≡ None) ⊥
-behind_none = refl
+pub behind_none : IsBehindNamed [] (λ older. older ≡ None) ⊥
+behind_none = inl (None, record { owns = []; at_rest = tt; are_one = refl }, refl)
 
-pub none_refused_without_names : IsBehindNamed {A = ℕ} [] (λ older. ⊥) ⊤ → ⊥
-none_refused_without_names answered = answered
+pub none_refused_without_names : IsBehindNamed [] (λ older. ⊥) ⊤ → ⊥
+none_refused_without_names (inl (older, joined, never)) = never
+none_refused_without_names (inr (some, refused)) = some refl
 
-pub never_behind_none : IsBehindNamed {A = ℕ} (1 ∷ []) (λ older. older ≡ None) ⊥ → ⊥
-never_behind_none (inl (older, rests, is)) = cc
-never_behind_none (inr refused) = refused
+pub never_behind_none : (known : Option (List ℕ)) → IsBehindNamed (known ∷ []) (λ older. older ≡ None) ⊥ → ⊥
+never_behind_none known (inl (older, joined, is)) = none joined.owns joined.at_rest (rw is at joined.are_one) where
+  none : (owns : List JournalState) → AreReadAtRest (known ∷ []) owns → AreOne owns None → ⊥
+  none [] never one = never
+  none (own ∷ owns) read never = never
+never_behind_none known (inr (some, never)) = never
 
-pub refused_behind_names : IsBehindNamed {A = ℕ} (1 ∷ []) (λ older. ⊥) ⊤
-refused_behind_names = inr tt
+pub refused_behind_names : (known : Option (List ℕ)) → IsBehindNamed (known ∷ []) (λ older. ⊥) ⊤
+refused_behind_names known = inr (λ none. cc, tt)

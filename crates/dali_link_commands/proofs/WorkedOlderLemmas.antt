@@ -1,5 +1,7 @@
 -- Two journals that are one, in the order in which they are named, and what is near that and is not so.
-use Rattle.std.proofs.Common.{◌≡◌, ◌+◌, refl, ℕ, length, Option, List, [], ◌∷◌, ◌++◌, Some, None, inl, inr, true, false, arith}
+use Rattle.std.proofs.Common.{◌≡◌, ◌+◌, refl, ℕ, Bool, length, Option, List, [], ◌∷◌, ◌++◌, Some, None, inl, inr, true, false}
+use Rattle.std.proofs.Common.{arith}
+use Rattle.std.specs.Borrow.{Bor}
 use Rattle.dali_bank.specs.Order.{Contents}
 use Rattle.dali_journal.specs.declared.behind.JoinFault.TheVariants.{Repeated, NoMemory}
 use Rattle.dali_journal.specs.declared.record.Code.TheVariants.{Done, Silent}
@@ -7,15 +9,13 @@ use Rattle.dali_journal.specs.declared.record.Record.{Record}
 use Rattle.dali_journal.specs.declared.record.Record.TheVariants.{Began, Ended}
 use Rattle.dali_journal.specs.declared.version.Version.{Version}
 use Rattle.dali_journal.specs.JournalState.{JournalState}
-use Rattle.dali_input.specs.declared.fault.InputFault.TheVariants.{File, Json, Memory}
-use Rattle.dali_input.specs.Input.{InputState, ReadsAtMost, ReadsInput}
+use Rattle.dali_input.specs.declared.fault.InputFault.TheVariants.{File, Json, Memory, TooBig}
 use Rattle.dali_faults.specs.declared.fault.Fault.TheVariants.{Input, Older}
-use Rattle.dali_faults.specs.JournalInput.{IsJournalIn, journal_limit}
+use Rattle.dali_faults.specs.JournalInput.{IsJournalIn}
 use Rattle.dali_link_commands.specs.declared.older.OlderFault.TheVariants.{Unloaded, Cut, Join}
-use Rattle.dali_link_commands.specs.BehindAnswers.{MayBeUnusable, fault_unjoined}
-use Rattle.dali_link_commands.specs.Older.{AreJoined, AreOne, AreReadAtRest, HasJournal, IsFirstUnusable, IsReadAtRest}
-use Rattle.dali_link_commands.specs.Older.{IsOlderFault, IsUnusable, fault_older}
-use Rattle.dali_link_commands.proofs.OlderLemmas.{first_unusable}
+use Rattle.dali_link_commands.specs.BehindAnswers.{IsOneUnusable, MayBeUnusable, fault_unjoined}
+use Rattle.dali_link_commands.specs.Older.{AreJoined, AreOne, AreReadAtRest, HasJournal, IsReadAtRest}
+use Rattle.dali_link_commands.specs.Older.{IsOlderFault, IsUnusable, fault_older, held_under}
 
 -- orders 1 and 2, and the journals of each, which are at rest; one of order 1 that is at work
 abbrev order : ℕ → Contents
@@ -56,54 +56,119 @@ no_journal_of_none is = cc
 pub not_none_of_one : AreOne (first ∷ []) None → ⊥
 not_none_of_one never = never
 
--- each is at rest, and each input has its own
-pub not_at_work : (before after : InputState) → IsReadAtRest before after at_work → ⊥
-not_at_work before after read = let rests = read.rests in cc
+-- each is at rest, and each file has its own
+pub not_at_work : (known : Option (List ℕ)) → IsReadAtRest known at_work → ⊥
+not_at_work known read = let rests = read.rests in cc
 
-pub no_input_without_a_journal : (before after : InputState) → AreReadAtRest (before ∷ []) (after ∷ []) [] → ⊥
-no_input_without_a_journal before after never = never
+pub no_file_without_a_journal : (known : Option (List ℕ)) → AreReadAtRest (known ∷ []) [] → ⊥
+no_file_without_a_journal known never = never
 
-pub no_journal_without_an_input : (own : JournalState) → AreReadAtRest [] [] (own ∷ []) → ⊥
-no_journal_without_an_input own never = never
+pub no_journal_without_a_file : (own : JournalState) → AreReadAtRest [] (own ∷ []) → ⊥
+no_journal_without_a_file own never = never
+
+-- What is known of two files is that of their journals, in the order of their names: the first named is the oldest.
+module _ (one other : List ℕ) (version : Version) (loaded : IsJournalIn one first (length one) version)
+    (other_loaded : IsJournalIn other second (length other) version) where
+  of_first : IsReadAtRest (Some one) first
+  of_first = record { bytes = one; version = version; shown = refl; loaded = loaded; rests = refl }
+
+  of_second : IsReadAtRest (Some other) second
+  of_second = record { bytes = other; version = version; shown = refl; loaded = other_loaded; rests = refl }
+
+  pub both_named : AreJoined (Some one ∷ Some other ∷ []) (Some (journal_of (second.records ++ first.records)))
+  both_named = record { owns = first ∷ second ∷ []; at_rest = (of_first, (of_second, tt)); are_one = (refl, refl) }
+
+-- and of others it says nothing: neither bytes of none nor bytes of another are those of a journal that is known
+pub other_bytes_arent_read : (own : JournalState) (read : IsReadAtRest (Some (0x44 ∷ [])) own) → read.bytes ≡ [] → ⊥
+other_bytes_arent_read own read none = let shown = read.shown in cc
+
+-- Where each of two files has at most the journal of these bytes, it is no one else's: the last alone, the first twice
+-- and the first alone are no journal of both.
+module _ (one other : List ℕ)
+    (is_first : (own : JournalState) → IsReadAtRest (Some one) own → own.records ≡ first.records)
+    (is_second : (own : JournalState) → IsReadAtRest (Some other) own → own.records ≡ second.records) where
+  records_of_both : (whole : JournalState) → AreJoined (Some one ∷ Some other ∷ []) (Some whole)
+      → whole.records ≡ second.records ++ first.records
+  records_of_both whole joined = are joined.owns joined.at_rest joined.are_one where
+    are : (owns : List JournalState) → AreReadAtRest (Some one ∷ Some other ∷ []) owns → AreOne owns (Some whole)
+        → whole.records ≡ second.records ++ first.records
+    are [] never is = absurd never
+    are (a ∷ []) never is = absurd never.1
+    are (a ∷ b ∷ []) at_rest is = cc (is.0, is_first a at_rest.0, is_second b at_rest.1.0)
+    are (a ∷ b ∷ c ∷ owns) never is = absurd never.1.1
+
+  pub last_alone_isnt_both : AreJoined (Some one ∷ Some other ∷ []) (Some second) → ⊥
+  last_alone_isnt_both joined = let same = records_of_both second joined in cc
+
+  pub first_alone_isnt_both : AreJoined (Some one ∷ Some other ∷ []) (Some first) → ⊥
+  first_alone_isnt_both joined = let same = records_of_both first joined in cc
+
+  pub first_twice_isnt_both : AreJoined (Some one ∷ Some other ∷ [])
+      (Some (journal_of (first.records ++ first.records))) → ⊥
+  first_twice_isnt_both joined = let same = records_of_both (journal_of (first.records ++ first.records)) joined in cc
+
+  pub turned_round_isnt_both : AreJoined (Some one ∷ Some other ∷ [])
+      (Some (journal_of (first.records ++ second.records))) → ⊥
+  turned_round_isnt_both joined = let same = records_of_both (journal_of (first.records ++ second.records)) joined in cc
+
+-- what is known goes by the names, in their order
+pub known_by_name : (one other : Bor (List ℕ)) → held_under Some (one ∷ other ∷ []) ≡ Some one.now ∷ Some other.now ∷ []
+known_by_name one other = refl
 
 -- A second journal that has the number of the first can't be used, whatever stands behind it, which isn't read.
-pub number_of_the_first : (before after other later other_after : InputState) (bytes : List ℕ) (counted : ℕ)
-    (version : Version) → IsReadAtRest before after first → ReadsInput journal_limit other other_after bytes
-    → ReadsAtMost journal_limit other other_after → IsJournalIn bytes first counted version
-    → IsFirstUnusable (before ∷ other ∷ later ∷ []) (after ∷ other_after ∷ later ∷ []) 1
-    (Join (Repeated 1))
-number_of_the_first before after other later other_after bytes counted version read other_read at_most loaded =
-    let joined : AreJoined (before ∷ []) (after ∷ []) (Some first) =
+pub number_of_the_first : (one other later : List ℕ) (counted : ℕ) (version : Version)
+    → IsReadAtRest (Some one) first → IsJournalIn other first counted version
+    → IsOneUnusable (Some one ∷ Some other ∷ Some later ∷ []) (Join (Repeated 1))
+number_of_the_first one other later counted version read loaded =
+    let joined : AreJoined (Some one ∷ []) (Some first) =
     record { owns = first ∷ []; at_rest = (read, tt); are_one = (refl, refl) } in
-    let has : HasJournal bytes = record { own = first; counted = counted; version = version; loaded = loaded } in
-    first_unusable (λ (input : InputState). input) (before ∷ other ∷ later ∷ []) (after ∷ other ∷ later ∷ []) 1 other
-    other_after (Some first) (Join (Repeated 1))
-    (before ∷ [], after ∷ [], other ∷ later ∷ [], refl, refl, refl, refl, joined) (omega arith) refl
-    (inr (bytes, other_read, (has, (refl, refl)))) at_most
+    let has : HasJournal other = record { own = first; counted = counted; version = version; loaded = loaded } in
+    record {
+      earlier = Some one ∷ [];
+      known = Some other;
+      later = Some later ∷ [];
+      are = refl;
+      older = Some first;
+      joined = joined;
+      failed = false;
+      failed_now = false;
+      unusable = inr (other, refl, (has, (refl, refl)));
+    }
 
-pub no_number_that_the_first_lacks : (before after : InputState)
-    → IsUnusable (Some first) before after (Join (Repeated 2)) → ⊥
-no_number_that_the_first_lacks before after unusable = grind arith
+pub no_number_that_the_first_lacks : (known : Option (List ℕ)) (failed failed_now : Bool)
+    → IsUnusable (Some first) known failed failed_now (Join (Repeated 2)) → ⊥
+no_number_that_the_first_lacks known failed failed_now unusable = grind arith
 
--- a reading that has failed is told as that, where the input knows that it has
-pub failed_to_read : (left left_then : InputState) → left_then.failed ≡ true
-    → IsUnusable (Some first) left left_then (Unloaded (Input File))
-failed_to_read left left_then failed = inl (File, refl, failed)
+-- a call that has failed is told as that, where the store knows that it has
+pub failed_to_read : (known : Option (List ℕ)) → IsUnusable (Some first) known false true (Unloaded (Input File))
+failed_to_read known = inl (File, refl, refl)
 
-pub not_failed_to_read : (before after : InputState) → after.failed ≡ false
-    → IsUnusable None before after (Unloaded (Input File)) → ⊥
-not_failed_to_read before after unfailed (inl (File, is, failed)) = cc
-not_failed_to_read before after unfailed (inl (_, is, failed)) = cc
-not_failed_to_read before after unfailed (inr (bytes, read, never)) = never
+pub not_failed_to_read : (known : Option (List ℕ)) → IsUnusable None known false false (Unloaded (Input File)) → ⊥
+not_failed_to_read known (inl (File, is, failed)) = cc
+not_failed_to_read known (inl (_, is, failed)) = cc
+not_failed_to_read known (inr (bytes, shown, never)) = never
 
--- an older journal that isn't read, and what is no fault of one: it isn't read as JSON
-pub unread_is_unusable : MayBeUnusable (Unloaded (Input File))
-unread_is_unusable = inl (File, refl, inl refl)
+-- more than a journal may have is told of what has more
+pub too_big_to_read : IsUnusable None None false false (Unloaded (Input TooBig))
+too_big_to_read = inl (TooBig, refl, (tt, refl))
 
-pub json_is_no_older_fault : MayBeUnusable (Unloaded (Input Json)) → ⊥
-json_is_no_older_fault (inl (failure, is, inl file)) = cc
-json_is_no_older_fault (inl (failure, is, inr memory)) = cc
-json_is_no_older_fault (inr (older, bytes, never)) = never
+pub not_too_big_to_read : IsUnusable None (Some []) false false (Unloaded (Input TooBig)) → ⊥
+not_too_big_to_read (inl (TooBig, is, longer)) = omega (arith, longer.0)
+not_too_big_to_read (inl (_, is, failed)) = cc
+not_too_big_to_read (inr (bytes, shown, never)) = grind arith
+
+-- an older journal that isn't opened, and what is no fault of one: it isn't read as JSON
+pub unopened_is_unusable : (knowns : List (Option (List ℕ))) → MayBeUnusable knowns (Unloaded (Input File))
+unopened_is_unusable knowns = inl (File, refl, inl refl)
+
+pub json_is_no_older_fault : (knowns : List (Option (List ℕ))) → MayBeUnusable knowns (Unloaded (Input Json)) → ⊥
+json_is_no_older_fault knowns (inl (failure, is, inl file)) = cc
+json_is_no_older_fault knowns (inl (failure, is, inr memory)) = cc
+json_is_no_older_fault knowns (inr one) = so one.unusable where
+  so : IsUnusable one.older one.known one.failed one.failed_now (Unloaded (Input Json)) → ⊥
+  so (inl (Json, is, never)) = never
+  so (inl (_, is, never)) = cc
+  so (inr (bytes, shown, never)) = never
 
 -- a journal whose end is cut can't be used, and a whole one isn't told as cut
 pub cut_is_unusable : (older : Option JournalState) (bytes : List ℕ) (has : HasJournal bytes)

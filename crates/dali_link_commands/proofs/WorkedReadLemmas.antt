@@ -44,3 +44,8 @@ module _ (unit : ℕ) (first : Look) (status : Status) (last : Look) (other : Li
   pub unkept_and_another_left : (e : EndsUnkept unit Leaves first status last) → (first.may_leave other → ⊥)
       → other ≢ rows_text e.bytes → ⊥
   unkept_and_another_left e never differs = elim e.leaves [ inl left ↦ never left | inr is ↦ differs is ]
+
+  pub unkept_and_another_text : (e : EndsUnkept unit Leaves first status last) → first.streams.journal ≡ Some []
+      → last.streams.journal ≡ Some other → other ≢ [] → other ≢ rows_text e.bytes → ⊥
+  unkept_and_another_text e empty holds some differs =
+      let file = rw (empty, holds) at e.file in elim file [ inl keeps ↦ some keeps | inr becomes ↦ differs becomes ]

@@ -1,7 +1,6 @@
 -- Words on a stream of replies, and the end of a command whose report is lost, on both sides of each rule.
 use Rattle.std.proofs.Common.{◌≡◌, refl, inl, inr, ℕ, ◌++◌, [], ◌∷◌, List, Option, Some, codes, true, false, arith}
 use Rattle.std.proofs.lemmas.List.{append_cancel_right}
-use Rattle.std.specs.Fmt.{digits}
 use Rattle.dali_input.specs.declared.fault.InputFault.TheVariants.{File}
 use Rattle.dali_faults.specs.declared.fault.Fault.TheVariants.{Input}
 use Rattle.dali_faults.specs.declared.fault.Status.TheVariants.{Good, Failed}
@@ -9,7 +8,7 @@ use Rattle.dali_faults.specs.Faults.{told_line}
 use Rattle.dali_report.specs.declared.report.Report.{Report}
 use Rattle.dali_report.specs.Told.{has_failed}
 use Rattle.dali_link_commands.specs.LinkCommands.{EndsReported, is_lost}
-use Rattle.dali_link_commands.specs.Told.{IsPlain, TellsWorded, error_line, shown_letter}
+use Rattle.dali_link_commands.specs.Told.{IsPlain, TellsWorded, error_line}
 
 -- from the space to the tilde, the backslash too
 pub ends_are_plain : IsPlain (codes " ~\\")
@@ -24,14 +23,6 @@ below_is_not (one, none) = omega (arith, one.0)
 
 pub above_is_not : IsPlain (0x7F ∷ []) → ⊥
 above_is_not (one, none) = omega (arith, one.1)
-
--- each is shown by plain characters: itself, or its number
-pub shown_as_itself : (shown_letter 65 ≡ codes "A") × (shown_letter 92 ≡ codes "\\")
-shown_as_itself = (refl, refl)
-
-pub shown_by_its_number : (shown_letter 10 ≡ codes "\\u{a}") × (shown_letter 0x20AC ≡ codes "\\u{20ac}")
-unfolding digits
-shown_by_its_number = (refl, refl)
 
 -- no reply stands behind a line feed in the words
 forged : (words : List ℕ) → error_line (codes "x\n{}") ≡ error_line words → IsPlain words → ⊥

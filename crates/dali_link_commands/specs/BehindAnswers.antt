@@ -1,10 +1,8 @@
 -- What `drive` answers and writes behind older journals: of its journal, and of what was followed over its streams.
-use Rattle.std.specs.Prelude.{◌≡◌, ◌⊎◌, ℕ, Bool, List, [], ◌∷◌, Option, Some, None}
+use Rattle.std.specs.Prelude.{◌≡◌, ◌≢◌, ◌⊎◌, ◌++◌, ℕ, Bool, List, [], ◌∷◌, Option}
 use Rattle.dali_bank.specs.Order.{Contents}
 use Rattle.dali_journal.specs.declared.behind.JoinFault.{JoinFault}
-use Rattle.dali_journal.specs.declared.standing.Standing.TheVariants.{Idle}
 use Rattle.dali_journal.specs.JournalState.{JournalState}
-use Rattle.dali_journal.specs.Sentence.{standing_of}
 use Rattle.dali_input.specs.declared.fault.InputFault.{InputFault}
 use Rattle.dali_store.specs.declared.opening.OpenFault.{OpenFault}
 use Rattle.dali_trace.specs.declared.fault.DriveFault.{DriveFault}
@@ -37,7 +35,7 @@ use Rattle.dali_link_commands.specs.Bare.{TellsEnded}
 use Rattle.dali_link_commands.specs.declared.required.Required.{Required}
 use Rattle.dali_link_commands.specs.FollowAnswers.{AreUnread, TellsFollowed}
 use Rattle.dali_faults.specs.JournalInput.{journal_limit, order_limit}
-use Rattle.dali_link_commands.specs.Older.{IsOlderFault, fault_older}
+use Rattle.dali_link_commands.specs.Older.{AreJoined, IsUnusable, fault_older}
 use Rattle.dali_link_commands.specs.Benches.{IsUndriven, with_lines}
 use Rattle.dali_link_commands.specs.OrdersAnswers.{EndsUndriven, IsUnread}
 use Rattle.dali_link_commands.specs.Told.{IsFaultTold, IsFileFaultTold}
@@ -150,23 +148,36 @@ module _ {N : Type 0} (older : Option JournalState) (contents : N → Option (Li
       ⊎ ((listed : ListedOrders) × (left : ListedOrders) × (state_of listed ≡ record { rest = orders; moment = moment })
       × BreaksBehind GaveListed contents older pace before after listed left first status last)
 
--- what is answered where older journals of these names are read: behind what they hold, which is at rest, or that one
--- can't be used; where there are no names, behind none
-abbrev pub IsBehindNamed : {A : Type 0} → List A → (Option JournalState → Type 0) → Type 0 → Type 0
-IsBehindNamed [] answers refused = answers None
-IsBehindNamed (name ∷ names) answers refused =
-    ((older : JournalState) × (standing_of older.records ≡ Idle) × answers (Some older)) ⊎ refused
+-- a file isn't opened, or there is no memory for it
+abbrev pub IsUnopened : OlderFault → Type 0
+IsUnopened fault = (failure : InputFault) × (fault ≡ Unloaded (Input failure)) × IsUnread failure
 
--- why a file of which nothing is known can't be used as an older journal: it isn't read, or some bytes can't be used so
-abbrev pub MayBeUnusable : OlderFault → Type 0
-MayBeUnusable fault =
-    ((failure : InputFault) × (fault ≡ Unloaded (Input failure)) × IsUnread failure)
-    ⊎ ((older : Option JournalState) × (bytes : List ℕ) × IsOlderFault older bytes fault)
+-- One of the known ones can't be used behind those before it, which are one. Whether a file failed isn't known.
+pub record IsOneUnusable (knowns : List (Option (List ℕ))) (fault : OlderFault) : Type 0 where
+  pub earlier : List (Option (List ℕ))
+  pub known : Option (List ℕ)
+  pub later : List (Option (List ℕ))
+  pub are : knowns ≡ earlier ++ (known ∷ later)
+  pub older : Option JournalState
+  pub joined : AreJoined earlier older
+  pub failed : Bool
+  pub failed_now : Bool
+  pub unusable : IsUnusable older known failed failed_now fault
+
+-- why the files of which this is known aren't older journals of one drive: one isn't opened, or can't be used
+abbrev pub MayBeUnusable : List (Option (List ℕ)) → OlderFault → Type 0
+MayBeUnusable knowns fault = IsUnopened fault ⊎ IsOneUnusable knowns fault
+
+-- what is answered where older journals are read, of whose files this is known, in the order of their names: behind the
+-- one that they are, or that one can't be used; where there are none, behind none
+abbrev pub IsBehindNamed : List (Option (List ℕ)) → (Option JournalState → Type 0) → Type 0 → Type 0
+IsBehindNamed knowns answers refused =
+    ((older : Option JournalState) × AreJoined knowns older × answers older) ⊎ ((knowns ≢ []) × refused)
 
 -- an older journal can't be used, which is told, and nothing else was done
-abbrev pub EndsUnread : {N : Type 0} → Report N → Report N → Look → Status → Look → Type 0
-EndsUnread before after first status last =
-    (fault : OlderFault) × MayBeUnusable fault × IsUndriven first last
+abbrev pub EndsUnread : {N : Type 0} → List (Option (List ℕ)) → Report N → Report N → Look → Status → Look → Type 0
+EndsUnread knowns before after first status last =
+    (fault : OlderFault) × MayBeUnusable knowns fault × IsUndriven first last
     × IsFileFaultTold (fault_older fault) status first.streams.out last.streams.out × (after ≡ before)
 
 -- The same of a file of lines, of which nothing is known: of what it gave, or of one that isn't opened.

@@ -3,7 +3,6 @@ use Rattle.std.specs.Prelude.{◌≡◌, ◌≤◌, ◌⊎◌, ◌&&◌, ◌||�
 use Rattle.std.specs.Io.KnownBytes.{Appends}
 use Rattle.std.specs.List.{AllByRecursion}
 use Rattle.std.specs.declared.fs.File.{File}
-use Rattle.dali_bank.specs.Order.{Contents}
 use Rattle.dali_drive.specs.Desks.{Look}
 use Rattle.dali_store.specs.Files.{IsIn}
 use Rattle.dali_store.specs.declared.file_store.FileStore.{FileStore}
@@ -19,6 +18,7 @@ use Rattle.dali_link_commands.specs.declared.link_command.LinkCommand.TheVariant
 use Rattle.dali_link_commands.specs.BehindAnswers.{IsAnswerBehind, IsBehindNamed, IsFileFollow, EndsUnread}
 use Rattle.dali_journal.specs.JournalState.{JournalState}
 use Rattle.dali_link_commands.specs.Benches.{with_lines}
+use Rattle.dali_link_commands.specs.Older.{held_under}
 use Rattle.dali_link_commands.specs.OrdersAnswers.{IsFileAnswer}
 use Rattle.dali_link_commands.specs.ReadAnswers.{IsReadAnswer, IsScanAnswer, IsVerifyAnswer, asked_addresses}
 use Rattle.dali_link_commands.specs.Told.{IsPlain, error_line}
@@ -84,15 +84,17 @@ Drives false task contents older before after first status last =
     IsFileAnswer (IsAnswerBehind older contents task.moment task.pace task.required before after) (after ≡ before)
     first status last
 
--- each command does what its own function promises; of what a stop may leave of the file of a bank nothing is known
-abbrev pub IsLinkAnswer : LinkCommand → Look → Status → Look → Type 0
-IsLinkAnswer (Drive task) first status last =
-    IsReported (is_some task.report) (λ before after begun ended behind. IsBehindNamed task.older.now
+-- each command does what its own function promises, where this is known of the files of older journals, by their names;
+-- of what a stop may leave of the file of a bank nothing is known
+abbrev pub IsLinkAnswer : (List ℕ → Option (List ℕ)) → LinkCommand → Look → Status → Look → Type 0
+IsLinkAnswer has (Drive task) first status last =
+    IsReported (is_some task.report) (λ before after begun ended behind.
+    IsBehindNamed (held_under has task.older.now)
     (λ older. Drives task.follow task report_contents older before after begun ended behind)
-    (EndsUnread before after begun ended behind)) first status last
-IsLinkAnswer (Read unit bank) first status last = IsReadAnswer unit (λ leaves. ⊤) first status last
-IsLinkAnswer (Verify orders report) first status last =
+    (EndsUnread (held_under has task.older.now) before after begun ended behind)) first status last
+IsLinkAnswer has (Read unit bank) first status last = IsReadAnswer unit (λ leaves. ⊤) first status last
+IsLinkAnswer has (Verify orders report) first status last =
     IsReported (is_some report) (λ before after. IsFileAnswer (IsVerifyAnswer report_contents before after)
     (after ≡ before)) first status last
-IsLinkAnswer (Scan addresses sought) first status last =
+IsLinkAnswer has (Scan addresses sought) first status last =
     IsScanAnswer sought (asked_addresses addresses.now) first status last

@@ -1,6 +1,7 @@
 -- Older journals: which one journal they make, and why they make none.
-use Rattle.std.specs.Prelude.{◌≡◌, ◌≢◌, ◌++◌, ◌⊎◌, ℕ, List, [], ◌∷◌, length, Option, Some, None, IsSomeAnd, ⊤}
-use Rattle.std.specs.List.{AllByRecursion}
+use Rattle.std.specs.Prelude.{◌≡◌, ◌≢◌, ◌++◌, ◌⊎◌, ℕ, Bool, true, List, [], ◌∷◌, length, map, Option, Some, None, IsSomeAnd}
+use Rattle.std.specs.Prelude.{⊤}
+use Rattle.std.specs.Borrow.{Bor}
 use Rattle.dali_journal.specs.declared.behind.JoinFault.TheVariants.{NoMemory}
 use Rattle.dali_journal.specs.declared.fault.JournalFault.TheVariants as journals
 use Rattle.dali_journal.specs.declared.record.Record.{Record}
@@ -10,8 +11,8 @@ use Rattle.dali_journal.specs.Behind.{IsJoinFault}
 use Rattle.dali_journal.specs.JournalState.{JournalState}
 use Rattle.dali_journal.specs.Sentence.{standing_of}
 use Rattle.dali_input.specs.declared.fault.InputFault.{InputFault}
-use Rattle.dali_input.specs.declared.fault.InputFault.TheVariants.{Memory, File}
-use Rattle.dali_input.specs.Input.{InputState, IsReadFailure, ReadsAtMost, ReadsInput}
+use Rattle.dali_input.specs.declared.fault.InputFault.TheVariants.{Memory, File, TooBig}
+use Rattle.dali_store.specs.Stores.{IsLonger, Shows}
 use Rattle.dali_faults.specs.declared.fault.Fault.{Fault}
 use Rattle.dali_faults.specs.declared.fault.Fault.TheVariants as faults
 use Rattle.dali_link_commands.specs.declared.older.OlderFault.{OlderFault}
@@ -59,31 +60,38 @@ IsOlderFault older bytes AtWork = (has : HasJournal bytes) × (standing_of has.o
 IsOlderFault older bytes (Join fault) =
     (has : HasJournal bytes) × IsJoinFault fault has.own.records (records_in older)
 
--- what an input had is a journal, which is at rest, and stands so behind the older one
-abbrev pub IsReadBehind : Option JournalState → InputState → InputState → JournalState → Type 0
-IsReadBehind older before after journal =
-    (bytes : List ℕ) × ReadsInput journal_limit before after bytes × IsJoinedBehind older bytes journal
+-- the bytes that are known of a store are a journal's, which is at rest, and stands so behind the older one
+abbrev pub IsReadBehind : Option JournalState → Option (List ℕ) → JournalState → Type 0
+IsReadBehind older known journal = (bytes : List ℕ) × Shows known bytes × IsJoinedBehind older bytes journal
 
--- why an input can't be used behind the older one: its reading failed, or its bytes can't be used so
-abbrev pub IsUnusable : Option JournalState → InputState → InputState → OlderFault → Type 0
-IsUnusable older before after fault =
-    ((failure : InputFault) × (fault ≡ Unloaded (faults.Input failure)) × IsReadFailure before after failure)
-    ⊎ ((bytes : List ℕ) × ReadsInput journal_limit before after bytes × IsOlderFault older bytes fault)
+-- why no bytes of a store are durable: it has more than a journal may, memory ran out, which may come at any store, or
+-- it has failed
+abbrev pub IsStoreFailure : Option (List ℕ) → Bool → Bool → InputFault → Type 0
+IsStoreFailure known failed failed_now TooBig = IsLonger journal_limit known × (failed_now ≡ failed)
+IsStoreFailure known failed failed_now Memory = failed_now ≡ failed
+IsStoreFailure known failed failed_now File = failed_now ≡ true
+IsStoreFailure known failed failed_now other = ⊥
 
--- what an input had is this journal, which is at rest
-pub record IsReadAtRest (before after : InputState) (own : JournalState) : Type 0 where
+-- why a store can't be used behind the older one: it gave no bytes, or they can't be used so
+abbrev pub IsUnusable : Option JournalState → Option (List ℕ) → Bool → Bool → OlderFault → Type 0
+IsUnusable older known failed failed_now fault =
+    ((failure : InputFault) × (fault ≡ Unloaded (faults.Input failure))
+    × IsStoreFailure known failed failed_now failure)
+    ⊎ ((bytes : List ℕ) × Shows known bytes × IsOlderFault older bytes fault)
+
+-- the bytes that are known are those of this journal, which is at rest
+pub record IsReadAtRest (known : Option (List ℕ)) (own : JournalState) : Type 0 where
   pub bytes : List ℕ
   pub version : Version
-  pub read : ReadsInput journal_limit before after bytes
+  pub shown : Shows known bytes
   pub loaded : IsJournalIn bytes own (length bytes) version
   pub rests : standing_of own.records ≡ Idle
 
--- the same of each of these inputs and of each of these journals, in order
-abbrev pub AreReadAtRest : List InputState → List InputState → List JournalState → Type 0
-AreReadAtRest [] [] [] = ⊤
-AreReadAtRest (before ∷ befores) (after ∷ afters) (own ∷ owns) =
-    IsReadAtRest before after own × AreReadAtRest befores afters owns
-AreReadAtRest befores afters owns = ⊥
+-- the same of each of these and of each of these journals, in order
+abbrev pub AreReadAtRest : List (Option (List ℕ)) → List JournalState → Type 0
+AreReadAtRest [] [] = ⊤
+AreReadAtRest (known ∷ others) (own ∷ owns) = IsReadAtRest known own × AreReadAtRest others owns
+AreReadAtRest others owns = ⊥
 
 -- the records of journals that are named in this order, the newest first: so those of the last one are in front
 abbrev pub records_named : List JournalState → List Record
@@ -96,31 +104,30 @@ AreOne [] whole = whole ≡ None
 AreOne (oldest ∷ newer) whole = IsSomeAnd whole
     (λ journal. (journal.records ≡ records_named (oldest ∷ newer)) × (standing_of journal.records ≡ Idle))
 
--- each of the inputs is read and has a journal at rest, and these are one
-pub record AreJoined (befores afters : List InputState) (whole : Option JournalState) : Type 0 where
+-- each of the known ones is that of a journal at rest, and these are one
+pub record AreJoined (knowns : List (Option (List ℕ))) (whole : Option JournalState) : Type 0 where
   pub owns : List JournalState
-  pub at_rest : AreReadAtRest befores afters owns
+  pub at_rest : AreReadAtRest knowns owns
   pub are_one : AreOne owns whole
 
--- The first of the inputs that can't be used, counted from 0. Those before it are read, and their journals are one. Of
--- it not much more is read than a journal may have, and of those behind it nothing.
-pub record IsFirstUnusable (befores afters : List InputState) (index : ℕ) (fault : OlderFault) : Type 0 where
-  pub earlier : List InputState
-  pub read : List InputState
-  pub before : InputState
-  pub after : InputState
-  pub later : List InputState
+-- The first of the stores that can't be used, counted from 0. Those before it are read, and their journals are one.
+-- Those behind it are left alone.
+pub record IsFirstUnusable {S : Type 0} (seen : S → Option (List ℕ)) (failed : S → Bool) (befores afters : List S)
+    (index : ℕ) (fault : OlderFault) : Type 0 where
+  pub earlier : List S
+  pub read : List S
+  pub before : S
+  pub after : S
+  pub later : List S
   pub befores_are : befores ≡ earlier ++ (before ∷ later)
   pub afters_are : afters ≡ read ++ (after ∷ later)
   pub index_is : index ≡ length earlier
   pub older : Option JournalState
-  pub joined : AreJoined earlier read older
-  pub unusable : IsUnusable older before after fault
-  pub at_most : ReadsAtMost journal_limit before after
+  pub joined : AreJoined (map seen earlier) older
+  pub unusable : IsUnusable older (seen before) (failed before) (failed after) fault
 
--- so many journals, each at rest, are one
-pub record AreSoMany (count : ℕ) (whole : Option JournalState) : Type 0 where
-  pub owns : List JournalState
-  pub count_is : length owns ≡ count
-  pub rest : AllByRecursion (λ own. standing_of own.records ≡ Idle) owns
-  pub are_one : AreOne owns whole
+-- Of files by their names
+
+-- what the files of these names have, where that is known
+abbrev pub held_under : (List ℕ → Option (List ℕ)) → List (Bor (List ℕ)) → List (Option (List ℕ))
+held_under has names = map (λ (name : Bor (List ℕ)). has name.now) names

@@ -1,7 +1,6 @@
 -- How refused items and faults are told behind a command's lines.
-use Rattle.std.specs.Prelude.{◌≡◌, ◌≢◌, ◌⊎◌, ◌++◌, ◌&&◌, ℕ, Bool, true, false, List, [], ◌∷◌, Option, codes}
-use Rattle.std.specs.Prelude.{chars, nat_le, if◌then◌else◌, IfOk, Result}
-use Rattle.std.specs.Fmt.{digits}
+use Rattle.std.specs.Prelude.{◌≡◌, ◌≢◌, ◌⊎◌, ◌++◌, ℕ, Bool, true, false, List, Option, codes}
+use Rattle.std.specs.Prelude.{IfOk, Result}
 use Rattle.std.specs.List.{AllByRecursion, flat_map}
 use Rattle.std.specs.Io.KnownBytes.{Appends}
 use Rattle.dali_bank.specs.Spelling.{IsTextByte}
@@ -29,21 +28,9 @@ use Rattle.dali_link_commands.specs.Older.{fault_older}
 abbrev pub refused_lines : List (ℕ × ItemFault) → List ℕ
 refused_lines refused = flat_map (λ item. item_line item.0 item.1) refused
 
--- a character of 20h to 7Eh: none of these ends a line
-abbrev pub is_plain : ℕ → Bool
-is_plain letter = nat_le 0x20 letter && nat_le letter 0x7E
-
--- words of these alone, which stand on one line
+-- words of characters of 20h to 7Eh alone, none of which ends a line
 abbrev pub IsPlain : List ℕ → Type 0
 IsPlain words = AllByRecursion IsTextByte words
-
--- a character as words show it: one that isn't plain by its hexadecimal number
-abbrev pub shown_letter : ℕ → List ℕ
-shown_letter letter = if is_plain letter then letter ∷ [] else codes "\\u{" ++ digits 16 false letter ++ codes "}"
-
--- a text so
-abbrev pub shown_text : List ℕ → List ℕ
-shown_text text = flat_map shown_letter (chars text)
 
 -- a line in words for a person
 abbrev pub error_line : List ℕ → List ℕ

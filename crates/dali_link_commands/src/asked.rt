@@ -1,21 +1,20 @@
 // The journal that is asked what it says of orders: nothing of it is changed, and no lock is waited for.
-ghost use Rattle.std.specs.Prelude.{◌≡◌, IfErr, IfOk, IfSome, length};
+ghost use Rattle.std.specs.Prelude.{◌≡◌, IfErr, IfOk, IfSome, OnOk};
 ghost use Rattle.dali_journal.specs.declared.standing.Standing.TheVariants.{Idle};
 ghost use Rattle.dali_journal.specs.Sentence.{standing_of};
-ghost use Rattle.dali_input.specs.Input.{ReadsAtMost, state_of};
-ghost use Rattle.dali_faults.specs.JournalInput.{journal_limit};
-ghost use Rattle.dali_link_commands.specs.Asked.{IsAskedBehind, IsReadAsked, IsSomeAsked, IsUnasked};
-ghost use Rattle.dali_link_commands.specs.Asked.{fault_asked};
+ghost use Rattle.dali_store.specs.Stores.{IsDurable};
+ghost use Rattle.dali_link_commands.specs.Asked.{IsAskedAmong, IsReadAsked, IsUnasked, fault_asked};
+ghost use Rattle.dali_link_commands.specs.Older.{held_under};
 
-use crate::older::{OlderFault, Unopened, failure_words, opened_regular, read_older};
+use crate::journal_files::{JournalFiles, Unopened};
+use crate::older::{OlderFault, cause_words, read_older, read_settled};
 use crate::older_lines::older_words;
 use crate::words::plain_words;
-use dali_faults::{Fault, JOURNAL_LIMIT, journal_in};
-use dali_input::{Input, InputFault, read_input};
+use dali_faults::{Fault, journal_in};
+use dali_input::InputFault;
 use dali_journal::{JoinFault, Journal};
+use dali_store::Store;
 use std::alloc::Global;
-use std::fs::{File, Files};
-use std::io::Read;
 
 /// Why the journal of an input can't be asked.
 #[derive(Clone, Copy)]
@@ -38,23 +37,22 @@ impl AskedFault {
     }
 }
 
-/// The journal that an input has, of either version, behind the older one where there is one, as a drive has it: all
-/// their orders. A record that is cut at its end doesn't count.
+/// The journal that a store has, of either version, behind the older one where there is one, as a drive has it: all
+/// their orders. A record that is cut at its end doesn't count. It is durable before it counts.
 ///
 /// The older one has to be at rest.
-pub fn asked_in<R: Read>(
+pub fn asked_in<S: Store>(
     alloc: Global,
     older: Option<Journal>,
-    input: &mut Input<R>,
+    store: &mut S,
 ) -> Result<Journal, AskedFault>
     requires rests { IfSome older (λ journal. standing_of journal.records ≡ Idle) }
-    ensures ok { IfOk result
-        (IsReadAsked older (state_of R.remaining input.old) (state_of R.remaining input.new)) }
-    ensures err { IfErr result
-        (IsUnasked older (state_of R.remaining input.old) (state_of R.remaining input.new)) }
-    ensures read { ReadsAtMost journal_limit (state_of R.remaining input.old) (state_of R.remaining input.new) }
+    ensures ok { IfOk result (IsReadAsked older (S.seen store.old)) }
+    ensures settled { OnOk result (IsDurable (S.seen store.new) (S.may_leave store.new)) }
+    ensures same { S.seen store.new ≡ S.seen store.old }
+    ensures err { IfErr result (IsUnasked older (S.seen store.old) (S.failed store.old) (S.failed store.new)) }
 {
-    let bytes = match read_input(alloc, input, JOURNAL_LIMIT) {
+    let bytes = match read_settled(alloc, store) {
         Ok(bytes) => bytes,
         Err(fault) => return Err(AskedFault::Unloaded(Fault::Input(fault))),
     };
@@ -85,14 +83,12 @@ pub struct Unasked {
 
 /// The journal of a file behind those of older files, which are read as a drive reads them: each has to be at rest, and
 /// none may be in use. Its own file may be in use.
-///
-/// No contract tells what a file holds.
-pub fn read_asked<'a, R: Files<File = File> + AllocGlobal>(
+pub fn read_asked<'a, R: JournalFiles + AllocGlobal>(
     rt: &R,
     name: &str,
     older: &'a [&'a str],
 ) -> Result<Journal, Unasked>
-    ensures { IfOk result (IsSomeAsked (length older.entry.now)) }
+    ensures { IfOk result (IsAskedAmong (R.has rt.now name.now) (held_under (R.has rt.now) older.entry.now)) }
 {
     let whole = match read_older(rt, older) {
         Ok(whole) => whole,
@@ -104,37 +100,40 @@ pub fn read_asked<'a, R: Files<File = File> + AllocGlobal>(
             });
         }
     };
-    match opened_regular(rt, name) {
-        Ok(file) => read_behind(rt.alloc(), name, whole, &mut Input::new(file)),
+    match rt.open_asked(name) {
+        Ok(store) => {
+            let mut store = store;
+            read_behind(rt.alloc(), name, whole, &mut store)
+        }
         Err(unopened) => Err(unopened_journal(rt.alloc(), name, &unopened)),
     }
 }
 
-// The journal of this file behind the older one.
-fn read_behind(
+// The journal of this store behind the older one.
+fn read_behind<S: Store>(
     alloc: Global,
     name: &str,
     older: Option<Journal>,
-    input: &mut Input<File>,
+    store: &mut S,
 ) -> Result<Journal, Unasked>
     requires rests { IfSome older (λ journal. standing_of journal.records ≡ Idle) }
-    ensures { IfOk result (λ journal. IsAskedBehind older journal) }
+    ensures { IfOk result (IsReadAsked older (S.seen store.old)) }
 {
-    match asked_in(alloc, older, input) {
+    match asked_in(alloc, older, store) {
         Ok(journal) => Ok(journal),
         Err(fault) => Err(Unasked {
             fault: fault.fault(),
-            words: unasked_words(alloc, name, fault, input),
+            words: unasked_words(alloc, name, fault, store),
         }),
     }
 }
 
 // Words for a journal that can't be asked.
-fn unasked_words(
+fn unasked_words<S: Store>(
     alloc: Global,
     name: &str,
     fault: AskedFault,
-    input: &Input<File>,
+    store: &S,
 ) -> Option<String> {
     match fault {
         AskedFault::Unjoined(fault) => older_words(alloc, name, OlderFault::Join(fault), None),
@@ -142,7 +141,7 @@ fn unasked_words(
             let made = format!(in alloc; "memory ran out: {name}").ok();
             plain_words(alloc, made)
         }
-        AskedFault::Unloaded(_) => unusable_words(alloc, name, failure_words(alloc, input)),
+        AskedFault::Unloaded(_) => unusable_words(alloc, name, cause_words(alloc, store)),
     }
 }
 

@@ -3,13 +3,14 @@ ghost use Rattle.dali_drive.specs.Desks.{IsUnfailed};
 ghost use Rattle.dali_text.specs.Output.{has_failed, held};
 ghost use Rattle.dali_link_commands.specs.Benches.{TellsUnwritten, std_bench};
 ghost use Rattle.dali_link_commands.specs.BehindAnswers.{IsAnswerBehind, IsBehindNamed, EndsUnread};
-ghost use Rattle.dali_link_commands.specs.Older.{fault_older};
+ghost use Rattle.dali_link_commands.specs.Older.{fault_older, held_under};
 ghost use Rattle.dali_link_commands.specs.OrdersAnswers.{IsFileAnswer, IsUnread};
 ghost use Rattle.dali_link_commands.specs.Told.{IsFileFaultTold};
 ghost use Rattle.dali_input.specs.declared.fault.InputFault.{InputFault};
 
 use crate::drive::{DriveTask, drive_input};
 use crate::drive_lines::{FileFault, tell_file};
+use crate::journal_files::JournalFiles;
 use crate::lines::Lines;
 use crate::older::{Unjoined, read_older};
 use dali_drive::{StdSink, StdSource, StoreDesk};
@@ -26,10 +27,10 @@ use std::{fs, io};
 
 /// Carries out the orders of a file over a link, with the journal that another file holds, as `drive_input` does.
 ///
-/// No contract tells what a file holds. Whatever the orders' gave, the drive is that of the orders which these bytes
-/// spell, on these terms.
+/// No contract tells what the file of the orders holds: the drive is that of the orders which its bytes spell, on these
+/// terms, behind what is known of the older journals' files.
 pub fn drive_files<
-    R: Files<File = File> + AllocGlobal,
+    R: Files<File = File> + AllocGlobal + JournalFiles,
     I: Read,
     L: Write,
     O: Write,
@@ -41,12 +42,13 @@ pub fn drive_files<
     report: &mut Report<N>,
 ) -> Status
     requires unfailed { IsUnfailed (std_bench L.contents I.remaining O.contents desk.old).failed }
-    ensures driven { IsBehindNamed task.entry.older.now
+    ensures driven { IsBehindNamed (held_under (R.has rt.now) task.entry.older.now)
         (λ older. IsFileAnswer
         (IsAnswerBehind older N.contents task.entry.moment task.entry.pace task.entry.required report.old report.new)
         (report.new ≡ report.old) (std_bench L.contents I.remaining O.contents desk.old) result
         (std_bench L.contents I.remaining O.contents desk.new))
-        (EndsUnread report.old report.new (std_bench L.contents I.remaining O.contents desk.old) result
+        (EndsUnread (held_under (R.has rt.now) task.entry.older.now) report.old report.new
+        (std_bench L.contents I.remaining O.contents desk.old) result
         (std_bench L.contents I.remaining O.contents desk.new))
         × TellsUnwritten result (std_bench L.contents I.remaining O.contents desk.new) }
 {

@@ -94,6 +94,7 @@ fn tell_text<W: Write>(lines: &mut Lines<W>, fault: DriveFault, text: &str) -> S
     requires text { IsFaultText fault text.now }
     ensures told { IsFaultTold fault result (held W.contents lines.old.output) (held W.contents lines.new.output)
         × (result ≡ Status.Unwritten ↔ has_failed lines.new.output ≡ true) }
+    ensures flushed { result ≢ Status.Unwritten → is_flushed lines.new.output ≡ true }
 {
     if !put_all(lines, text.as_bytes()) {
         return Status::Unwritten;

@@ -3,10 +3,12 @@ ghost use Rattle.dali_drive.specs.Desks.{IsUnfailed};
 ghost use Rattle.dali_link_commands.specs.Benches.{TellsUnwritten, std_bench};
 ghost use Rattle.dali_link_commands.specs.BehindAnswers.{IsBehindNamed, IsFileFollow, EndsUnread};
 ghost use Rattle.dali_link_commands.specs.LinkCommands.{file_contents};
+ghost use Rattle.dali_link_commands.specs.Older.{held_under};
 
 use crate::drive::DriveTask;
 use crate::drive_files::{opened, tell_unjoined, tell_unopened};
 use crate::follow::follow_lines;
+use crate::journal_files::JournalFiles;
 use crate::lines::Lines;
 use crate::older::read_older;
 use dali_drive::{StdSink, StdSource, StoreDesk};
@@ -23,10 +25,10 @@ use std::io::{Read, Write};
 /// Its bytes are read one by one, with no buffer: so no byte of a line is taken out of a pipe before it is its turn.
 /// The older journals are read before it is opened.
 ///
-/// No contract tells what a file holds. Whatever the orders' gave, just what these lines give is followed, on these
-/// terms.
+/// No contract tells what the file of the orders holds: just what its lines give is followed, on these terms, behind
+/// what is known of the older journals' files.
 pub fn follow_file<
-    R: Files<File = File> + AllocGlobal,
+    R: Files<File = File> + AllocGlobal + JournalFiles,
     I: Read,
     L: Write,
     O: Write,
@@ -38,12 +40,13 @@ pub fn follow_file<
     report: &mut Report<N>,
 ) -> Status
     requires unfailed { IsUnfailed (std_bench L.contents I.remaining O.contents desk.old).failed }
-    ensures followed { IsBehindNamed task.entry.older.now
+    ensures followed { IsBehindNamed (held_under (R.has rt.now) task.entry.older.now)
         (λ older. IsFileFollow older file_contents N.contents task.entry.moment task.entry.pace task.entry.required
         report.old report.new
         (std_bench L.contents I.remaining O.contents desk.old) result
         (std_bench L.contents I.remaining O.contents desk.new))
-        (EndsUnread report.old report.new (std_bench L.contents I.remaining O.contents desk.old) result
+        (EndsUnread (held_under (R.has rt.now) task.entry.older.now) report.old report.new
+        (std_bench L.contents I.remaining O.contents desk.old) result
         (std_bench L.contents I.remaining O.contents desk.new))
         × TellsUnwritten result (std_bench L.contents I.remaining O.contents desk.new) }
 {

@@ -9,6 +9,7 @@ pub mod drive_files;
 mod drive_lines;
 pub mod follow;
 pub mod follow_files;
+pub mod journal_files;
 pub mod lines;
 mod link_command;
 pub mod older;

@@ -1,6 +1,8 @@
 // Where a drive's lines go: its replies, and then its fault.
-ghost use Rattle.std.specs.Prelude.{None};
-ghost use Rattle.dali_text.specs.Output.{has_failed, held};
+ghost use Rattle.std.specs.Prelude.{◌≡◌, ◌||◌, None, not, true};
+ghost use Rattle.std.specs.Io.KnownBytes.{Keeps};
+ghost use Rattle.dali_drive.specs.Streams.{Flushes};
+ghost use Rattle.dali_text.specs.Output.{has_failed, held, is_flushed};
 
 use dali_drive::Sink;
 use dali_text::Output;
@@ -25,7 +27,12 @@ impl<W: Write> Sink for Lines<W> {
         self.output.write(bytes).ok()
     }
 
-    fn flush(&mut self) -> bool {
+    fn flush(&mut self) -> bool
+        ensures bytes { Keeps (held W.contents self.old.output) (held W.contents self.new.output) }
+        ensures flushed { Flushes result (held W.contents self.new.output) None None }
+        ensures failed { has_failed self.new.output ≡ (has_failed self.old.output || not result) }
+        ensures output { result ≡ true → is_flushed self.new.output ≡ true }
+    {
         self.output.flush().is_ok()
     }
 

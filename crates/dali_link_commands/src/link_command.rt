@@ -3,11 +3,13 @@ ghost use Rattle.dali_drive.specs.Desks.{IsUnfailed};
 ghost use Rattle.dali_link_commands.specs.Benches.{TellsUnwritten, std_bench};
 ghost use Rattle.dali_link_commands.specs.BehindAnswers.{EndsUnread, IsBehindNamed};
 ghost use Rattle.dali_link_commands.specs.LinkCommands.{Drives, HasStore, IsLinkAnswer, IsShort, watched_of};
+ghost use Rattle.dali_link_commands.specs.Older.{held_under};
 ghost use Rattle.dali_link_commands.specs.ReadAnswers.{asked_addresses};
 
 use crate::drive::DriveTask;
 use crate::drive_files::drive_files;
 use crate::follow_files::follow_file;
+use crate::journal_files::JournalFiles;
 use crate::lines::Lines;
 use crate::read::read_bank;
 use crate::report_file::{Others, ReportFile};
@@ -69,14 +71,21 @@ impl<'a> LinkCommand<'a> {
 
     /// Carries the command out at a desk whose streams haven't failed, and whose store is its own (`store`). Each short
     /// address that it names has to be at most 63. Whoever watches is told of its orders, and changes nothing.
-    pub fn carry_out<R: Files<File = File> + AllocGlobal, I: Read, L: Write, O: Write>(
+    pub fn carry_out<
+        R: Files<File = File> + AllocGlobal + JournalFiles,
+        I: Read,
+        L: Write,
+        O: Write,
+    >(
         &self,
         rt: &R,
         desk: &mut StoreDesk<StdSource<I>, StdSink<L>, FileStore<'_, R>, Lines<O>>,
         progress: Option<&Progress>,
     ) -> Status
         requires ready { IsShort self.now × IsUnfailed (std_bench L.contents I.remaining O.contents desk.old).failed }
-        ensures carried_out { IsLinkAnswer self.now (std_bench L.contents I.remaining O.contents desk.old) result
+        requires store { HasStore self.now desk.old.journal }
+        ensures carried_out { IsLinkAnswer (R.has rt.now) self.now
+            (std_bench L.contents I.remaining O.contents desk.old) result
             (std_bench L.contents I.remaining O.contents desk.new) }
         ensures unwritten { TellsUnwritten result (std_bench L.contents I.remaining O.contents desk.new) }
     {
@@ -103,18 +112,25 @@ impl<'a> LinkCommand<'a> {
 }
 
 // Drives the orders of a file: all of them, or line by line.
-fn drive_task<R: Files<File = File> + AllocGlobal, I: Read, L: Write, O: Write, N: Write + Drop>(
+fn drive_task<
+    R: Files<File = File> + AllocGlobal + JournalFiles,
+    I: Read,
+    L: Write,
+    O: Write,
+    N: Write + Drop,
+>(
     rt: &R,
     task: DriveTask<'_>,
     desk: &mut StoreDesk<StdSource<I>, StdSink<L>, FileStore<'_, R>, Lines<O>>,
     report: &mut Report<N>,
 ) -> Status
     requires unfailed { IsUnfailed (std_bench L.contents I.remaining O.contents desk.old).failed }
-    ensures driven { IsBehindNamed task.entry.older.now
+    ensures driven { IsBehindNamed (held_under (R.has rt.now) task.entry.older.now)
         (λ older. Drives task.entry.follow task.entry N.contents older report.old report.new
         (std_bench L.contents I.remaining O.contents desk.old) result
         (std_bench L.contents I.remaining O.contents desk.new))
-        (EndsUnread report.old report.new (std_bench L.contents I.remaining O.contents desk.old) result
+        (EndsUnread (held_under (R.has rt.now) task.entry.older.now) report.old report.new
+        (std_bench L.contents I.remaining O.contents desk.old) result
         (std_bench L.contents I.remaining O.contents desk.new)) }
     ensures unwritten { TellsUnwritten result (std_bench L.contents I.remaining O.contents desk.new) }
 {

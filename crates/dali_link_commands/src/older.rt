@@ -1,21 +1,19 @@
 // Older journals: those that are full or retired, whose orders still count as begun.
-ghost use Rattle.std.specs.Prelude.{◌≡◌, ◌≢◌, ◌<◌, [], IfErr, IfOk, IfSome, None, OnErr, length, map};
+ghost use Rattle.std.specs.Prelude.{◌≡◌, ◌≢◌, ◌<◌, [], IfErr, IfOk, IfSome, OnErr, OnOk, length, map};
+ghost use Rattle.std.specs.List.{AllByRecursion};
 ghost use Rattle.dali_journal.specs.declared.standing.Standing.TheVariants.{Idle};
 ghost use Rattle.dali_journal.specs.Sentence.{standing_of};
-ghost use Rattle.dali_input.specs.Input.{ReadsAtMost, state_of};
-ghost use Rattle.dali_faults.specs.JournalInput.{journal_limit};
-ghost use Rattle.dali_link_commands.specs.BehindAnswers.{MayBeUnusable};
-ghost use Rattle.dali_link_commands.specs.OrdersAnswers.{IsUnread};
-ghost use Rattle.dali_link_commands.specs.Older.{AreJoined, AreSoMany, IsFirstUnusable, IsJoinedBehind, IsOlderFault};
-ghost use Rattle.dali_link_commands.specs.Older.{IsReadBehind, IsUnusable, fault_older};
+ghost use Rattle.dali_store.specs.Stores.{IsDurable, Shows};
+ghost use Rattle.dali_link_commands.specs.Older.{AreJoined, IsFirstUnusable, IsJoinedBehind, IsOlderFault, IsReadBehind};
+ghost use Rattle.dali_link_commands.specs.Older.{IsStoreFailure, IsUnusable, fault_older, held_under};
+ghost use Rattle.dali_link_commands.specs.BehindAnswers.{IsUnopened, MayBeUnusable};
 
+use crate::journal_files::JournalFiles;
 use dali_faults::{Fault, JOURNAL_LIMIT, journal_in};
-use dali_input::{Input, InputFault, read_input};
+use dali_input::InputFault;
 use dali_journal::{JoinFault, Journal, JournalFault, Standing};
+use dali_store::{Store, StoreFault};
 use std::alloc::Global;
-use std::fs::{File, Files, TryLockError};
-use std::io::{ErrorKind, Read};
-use std::{fs, io};
 
 /// Why a file can't be used as an older journal.
 #[derive(Clone, Copy, PartialEq, Eq)]
@@ -78,30 +76,29 @@ pub fn joined_behind(
     }
 }
 
-/// Which of the inputs can't be used as an older journal, counted from 0, and why.
+/// Which of the stores can't be used as an older journal, counted from 0, and why.
 #[derive(Clone, Copy, PartialEq, Eq)]
 pub struct Unusable {
     pub index: usize,
     pub fault: OlderFault,
 }
 
-/// The journals of these inputs as one, each behind those that are named before it; none where there are no inputs.
+/// The journals of these stores as one, each behind those that are named before it; none where there are no stores.
 ///
-/// Each has to be at rest. Behind the first one that can't be used no input is read.
-pub fn joined_older<R: Read>(
-    alloc: Global,
-    inputs: &mut [Input<R>],
-) -> Result<Option<Journal>, Unusable>
-    ensures ok { IfOk result
-        (AreJoined (map (state_of R.remaining) inputs.old) (map (state_of R.remaining) inputs.new)) }
-    ensures err { IfErr result (λ unusable. IsFirstUnusable
-        (map (state_of R.remaining) inputs.old) (map (state_of R.remaining) inputs.new)
-        unusable.index unusable.fault) }
-    ensures within { IfErr result (λ unusable. unusable.index < length inputs.old) }
+/// Each has to be at rest, and is durable before it counts. Behind the first one that can't be used no store is
+/// touched.
+pub fn joined_older<S: Store>(alloc: Global, stores: &mut [S]) -> Result<Option<Journal>, Unusable>
+    ensures ok { IfOk result (AreJoined (map S.seen stores.old)) }
+    ensures settled { OnOk result
+        (AllByRecursion (λ store. IsDurable (S.seen store) (S.may_leave store)) stores.new) }
+    ensures same { OnOk result (map S.seen stores.new ≡ map S.seen stores.old) }
+    ensures err { IfErr result (λ unusable.
+        IsFirstUnusable S.seen S.failed stores.old stores.new unusable.index unusable.fault) }
+    ensures within { IfErr result (λ unusable. unusable.index < length stores.old) }
 {
     let mut older = None;
-    for (index, input) in inputs.iter_mut().enumerate() {
-        match joined_input(alloc, older, input) {
+    for (index, store) in stores.iter_mut().enumerate() {
+        match joined_store(alloc, older, store) {
             Ok(journal) => older = Some(journal),
             Err(fault) => return Err(Unusable { index, fault }),
         }
@@ -109,22 +106,38 @@ pub fn joined_older<R: Read>(
     Ok(older)
 }
 
-// The journal of this input behind the older one.
-fn joined_input<R: Read>(
+// The journal of this store behind the older one. It is synced once it is read: what a program that was killed has
+// written may be lost until then.
+fn joined_store<S: Store>(
     alloc: Global,
     older: Option<Journal>,
-    input: &mut Input<R>,
+    store: &mut S,
 ) -> Result<Journal, OlderFault>
     requires rests { IfSome older (λ journal. standing_of journal.records ≡ Idle) }
-    ensures ok { IfOk result
-        (IsReadBehind older (state_of R.remaining input.old) (state_of R.remaining input.new)) }
+    ensures ok { IfOk result (IsReadBehind older (S.seen store.old)) }
+    ensures settled { OnOk result (IsDurable (S.seen store.new) (S.may_leave store.new)) }
+    ensures same { S.seen store.new ≡ S.seen store.old }
     ensures err { IfErr result
-        (IsUnusable older (state_of R.remaining input.old) (state_of R.remaining input.new)) }
-    ensures read { ReadsAtMost journal_limit (state_of R.remaining input.old) (state_of R.remaining input.new) }
+        (IsUnusable older (S.seen store.old) (S.failed store.old) (S.failed store.new)) }
 {
-    match read_input(alloc, input, JOURNAL_LIMIT) {
+    match read_settled(alloc, store) {
         Ok(bytes) => joined_behind(alloc, older, bytes),
         Err(fault) => Err(OlderFault::Unloaded(Fault::Input(fault))),
+    }
+}
+
+/// All the bytes of a store, which are durable then.
+pub(crate) fn read_settled<S: Store>(alloc: Global, store: &mut S) -> Result<Vec<u8>, InputFault>
+    ensures ok { IfOk result (λ bytes. Shows (S.seen store.old) bytes.items) }
+    ensures settled { OnOk result (IsDurable (S.seen store.new) (S.may_leave store.new)) }
+    ensures same { S.seen store.new ≡ S.seen store.old }
+    ensures err { IfErr result (IsStoreFailure (S.seen store.old) (S.failed store.old) (S.failed store.new)) }
+{
+    match store.read(alloc, JOURNAL_LIMIT as usize) {
+        Ok(bytes) if store.sync() => Ok(bytes),
+        Ok(_) | Err(StoreFault::Failed) => Err(InputFault::File),
+        Err(StoreFault::TooBig) => Err(InputFault::TooBig),
+        Err(StoreFault::NoMemory) => Err(InputFault::Memory),
     }
 }
 
@@ -146,46 +159,43 @@ impl<'a> Unjoined<'a> {
     }
 }
 
-/// The journals of these files as one, each behind those that are named before it; none where none is named. All are
-/// open, and no drive can open one, before the first of them is read.
-///
-/// No contract tells what a file holds.
-pub(crate) fn read_older<'a, R: Files<File = File> + AllocGlobal>(
+/// The journals of the files of these names as one, each behind those that are named before it; none where none is
+/// named. All are open, and no drive can open one, before the first of them is read.
+pub(crate) fn read_older<'a, R: JournalFiles + AllocGlobal>(
     rt: &R,
     names: &'a [&'a str],
 ) -> Result<Option<Journal>, Unjoined<'a>>
-    ensures all { IfOk result (AreSoMany (length names.entry.now)) }
+    ensures ok { IfOk result (AreJoined (held_under (R.has rt.now) names.entry.now)) }
     ensures rests { IfOk result (λ older. IfSome older (λ journal. standing_of journal.records ≡ Idle)) }
-    ensures none { IfOk result (λ older. names.entry.now ≡ [] → older ≡ None) }
-    ensures some { IfOk result (λ older. older ≡ None → names.entry.now ≡ []) }
     ensures err { OnErr result (names.entry.now ≢ []) }
-    ensures why { IfErr result (λ unjoined. MayBeUnusable unjoined.fault) }
+    ensures why { IfErr result (λ unjoined. MayBeUnusable (held_under (R.has rt.now) names.entry.now) unjoined.fault) }
 {
-    let mut inputs = all_opened(rt, names)?;
-    match joined_older(rt.alloc(), &mut inputs) {
+    let mut stores = all_opened(rt, names)?;
+    match joined_older(rt.alloc(), &mut stores) {
         Ok(older) => Ok(older),
         Err(unusable) => Err(Unjoined {
             name: names[unusable.index],
             fault: unusable.fault,
-            words: failure_words(rt.alloc(), &inputs[unusable.index]),
+            words: cause_words(rt.alloc(), &stores[unusable.index]),
         }),
     }
 }
 
 // The files of these names, each of which no drive has open.
-fn all_opened<'a, R: Files<File = File> + AllocGlobal>(
+fn all_opened<'a, R: JournalFiles + AllocGlobal>(
     rt: &R,
     names: &'a [&'a str],
-) -> Result<Vec<Input<File>>, Unjoined<'a>>
-    ensures all { IfOk result (λ inputs. length inputs.items ≡ length names.entry.now) }
+) -> Result<Vec<R::Opened>, Unjoined<'a>>
+    ensures all { IfOk result (λ stores.
+        map R.Opened.seen stores.items ≡ held_under (R.has rt.now) names.entry.now) }
     ensures err { OnErr result (names.entry.now ≢ []) }
-    ensures why { IfErr result (λ unjoined. MayBeUnusable unjoined.fault) }
+    ensures why { IfErr result (λ unjoined. IsUnopened unjoined.fault) }
 {
-    let mut inputs = Vec::new(rt.alloc());
+    let mut stores = Vec::new(rt.alloc());
     for &name in names {
-        match opened(rt, name) {
-            Ok(file) => {
-                if inputs.push(Input::new(file)).is_err() {
+        match rt.open_older(name) {
+            Ok(store) => {
+                if stores.push(store).is_err() {
                     return Err(Unjoined::unread(name, InputFault::Memory, None));
                 }
             }
@@ -195,66 +205,13 @@ fn all_opened<'a, R: Files<File = File> + AllocGlobal>(
             }
         }
     }
-    Ok(inputs)
+    Ok(stores)
 }
 
-// Words for why the reading of an input has failed, where it has.
-pub(crate) fn failure_words(alloc: Global, input: &Input<File>) -> Option<String> {
-    match input.cause() {
-        Some(cause) => format!(in alloc; "{cause}").ok(),
+// Words for why a call of a store has failed, where one has.
+pub(crate) fn cause_words<S: Store>(alloc: Global, store: &S) -> Option<String> {
+    match store.cause() {
+        Some(cause) => String::from_str(alloc, cause).ok(),
         None => None,
-    }
-}
-
-// Why a file isn't opened.
-#[derive(Drop)]
-pub(crate) enum Unopened {
-    // Nobody knows when a pipe ends.
-    NotRegular,
-    // A drive has it: its orders aren't all there yet.
-    InUse,
-    Refused(io::Error),
-}
-
-impl Unopened {
-    pub(crate) fn fault(&self) -> InputFault
-        ensures { IsUnread result }
-    {
-        match self {
-            Unopened::Refused(error) if error.kind() == ErrorKind::OutOfMemory =>
-                InputFault::Memory,
-            _ => InputFault::File,
-        }
-    }
-
-    pub(crate) fn words(&self, alloc: Global) -> Option<String> {
-        match self {
-            Unopened::NotRegular => String::from_str(alloc, "it is no regular file").ok(),
-            Unopened::InUse => String::from_str(alloc, "it is in use").ok(),
-            Unopened::Refused(error) => format!(in alloc; "{error}").ok(),
-        }
-    }
-}
-
-// Opens a regular file.
-pub(crate) fn opened_regular<R: Files<File = File>>(rt: &R, name: &str) -> Result<File, Unopened> {
-    match fs::metadata(rt, name) {
-        Ok(found) if !found.is_file() => return Err(Unopened::NotRegular),
-        Ok(_) => {}
-        Err(error) => return Err(Unopened::Refused(error)),
-    }
-    match fs::open(rt, name) {
-        Ok(file) => Ok(file),
-        Err(error) => Err(Unopened::Refused(error)),
-    }
-}
-
-// Opens a regular file that no drive has open.
-fn opened<R: Files<File = File>>(rt: &R, name: &str) -> Result<File, Unopened> {
-    let file = opened_regular(rt, name)?;
-    match file.try_lock_shared() {
-        Ok(()) => Ok(file),
-        Err(TryLockError::WouldBlock) => Err(Unopened::InUse),
-        Err(TryLockError::Error(error)) => Err(Unopened::Refused(error)),
     }
 }

@@ -23,9 +23,18 @@ pub(crate) fn write_older<W: Write>(
 ) -> Result<Status, OutputFailed>
     ensures { IsFaultWritten (fault_older fault) result W.contents output.old output.new }
 {
-    match older_words(alloc, name, fault, words) {
-        Some(words) => write_worded(output, words.as_str(), fault.fault()),
-        None => write_worded(output, "an older journal can't be used", fault.fault()),
+    let words = older_words(alloc, name, fault, words);
+    write_worded(output, said(&words), fault.fault())
+}
+
+// The words, or plain ones where there is no memory for them.
+fn said(words: &Option<String>) -> &str
+    requires { IfSome words.now (λ words. IsPlain (string_bytes words)) }
+    ensures { IsPlain result.now }
+{
+    match words {
+        Some(words) => words.as_str(),
+        None => "an older journal can't be used",
     }
 }
 

@@ -1,6 +1,6 @@
 // What has to be so at the end of a drive, and how it is told that nothing was done.
 ghost use Rattle.std.specs.Prelude.{◌≡◌, ◌≢◌, ◌↔◌, false, true};
-ghost use Rattle.dali_text.specs.Output.{has_failed, held};
+ghost use Rattle.dali_text.specs.Output.{has_failed, held, is_flushed};
 ghost use Rattle.dali_link_commands.specs.Bare.{TellsBare, TellsEnded, is_bare as nothing_done, is_met as met};
 ghost use Rattle.dali_link_commands.specs.Bare.{nothing_line, required_by};
 ghost use Rattle.dali_link_commands.specs.Told.{TellsLine};
@@ -104,6 +104,7 @@ fn tell_nothing<W: Write>(lines: &mut Lines<W>) -> Status
     ensures told { TellsLine nothing_line Status.Refused result
         (held W.contents lines.old.output) (held W.contents lines.new.output) }
     ensures unwritten { result ≡ Status.Unwritten ↔ has_failed lines.new.output ≡ true }
+    ensures flushed { result ≢ Status.Unwritten → is_flushed lines.new.output ≡ true }
 {
     if !put_all(lines, NOTHING.as_bytes()) {
         return Status::Unwritten;

@@ -1,7 +1,9 @@
 // Words for a person on a stream that others read too: plain characters on one line.
 ghost use Rattle.std.specs.Prelude.{◌≡◌, ◌++◌, IfOk, OnOk, IfSome, string_bytes};
-ghost use Rattle.dali_link_commands.specs.Told.{IsPlain, shown_letter, shown_text};
+ghost use Rattle.dali_text.specs.Escaped.{shown_text};
+ghost use Rattle.dali_link_commands.specs.Told.{IsPlain};
 
+use dali_text::Escaped;
 use std::alloc::{AllocError, Global};
 
 // What the system's words end with where the command may open no more files, and what to do then.
@@ -26,27 +28,6 @@ pub(crate) fn shown(alloc: Global, text: &str) -> Result<String, AllocError>
     ensures text { IfOk result (λ words. string_bytes words ≡ shown_text text.now) }
     ensures plain { IfOk result (λ words. IsPlain (string_bytes words)) }
 {
-    let words = all_shown(alloc, text)?;
-    Ok(words)
-}
-
-fn all_shown(alloc: Global, text: &str) -> Result<String, AllocError>
-    ensures { IfOk result (λ words. string_bytes words ≡ shown_text text.now) }
-{
-    let mut words = String::new(alloc);
-    for letter in text.chars() {
-        push_shown(alloc, &mut words, letter)?;
-    }
-    Ok(words)
-}
-
-fn push_shown(alloc: Global, words: &mut String, letter: char) -> Result<(), AllocError>
-    ensures { OnOk result (string_bytes words.new ≡ string_bytes words.old ++ shown_letter letter) }
-{
-    if (' '..='~').contains(&letter) {
-        return words.push(letter);
-    }
-    let number = u32::from(letter);
-    let told = format!(in alloc; "\\u{{{number:x}}}")?;
-    words.push_str(told.as_str())
+    let shown = Escaped::Whole(text);
+    format!(in alloc; "{shown}")
 }

@@ -15,7 +15,7 @@ impl fmt::Display for Described<'_> {
             Some(Shallow::Bool(false)) => f.write_str("false"),
             Some(Shallow::Number(number)) => write!(f, "the number {number}"),
             Some(Shallow::Text(text)) => {
-                let text = Escaped::cut(text);
+                let text = Escaped::Cut(text);
                 write!(f, "the text \"{text}\"")
             }
             Some(Shallow::Array) => f.write_str("an array"),

@@ -7,7 +7,7 @@ pub(crate) struct ToldKey<'a>(pub &'a str);
 
 impl fmt::Display for ToldKey<'_> {
     fn fmt<W: fmt::Write>(&self, f: &mut fmt::Formatter<W>) -> fmt::Result {
-        let key = Escaped::cut(self.0);
+        let key = Escaped::Cut(self.0);
         if self.0.is_empty() || self.0.as_bytes().contains(&b' ') {
             write!(f, "\"{key}\"")
         } else {

@@ -5,7 +5,7 @@ use std::alloc::Global;
 /// Why an argument is no word of a frame: the first character that is no hexadecimal digit, or how many it has.
 pub fn note_of_word(alloc: Global, argument: &str) -> Note {
     let mut note = Note::new(alloc);
-    let told = Escaped::cut(argument);
+    let told = Escaped::Cut(argument);
     for (count, letter) in argument.chars().enumerate() {
         if !letter.is_ascii_hexdigit() {
             let (number, letter) = (count.saturating_add(1), Letter(letter));

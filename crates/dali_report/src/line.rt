@@ -1,5 +1,5 @@
 // The lines of a report: values of JSON.
-ghost use Rattle.std.specs.Prelude.{◌≡◌, IfOk, List, false, string_bytes};
+ghost use Rattle.std.specs.Prelude.{◌≡◌, IfOk, IsOkAnd, List, false, string_bytes};
 ghost use Rattle.serde_json.specs.View.{view, members_view};
 ghost use Rattle.serde_json.specs.Data.{string, put};
 ghost use Rattle.serde_json.specs.Written.{has_float};
@@ -55,17 +55,22 @@ impl LastReply {
     {
         let reply = self.reply;
         let reply = format!(in alloc; "{reply}")?;
-        let members = with(Map::new(alloc), alloc, "unit", byte_or_null(self.unit))?;
-        let members = with(members, alloc, "run", Value::from(self.run))?;
-        let members = with(members, alloc, "reply", Value::from(reply))?;
-        let members = with(members, alloc, "order", Value::from(self.order))?;
-        let members = with(members, alloc, "name", self.name(alloc)?)?;
-        let members = with(members, alloc, "moment", number_or_null(self.moment))?;
-        let members = with(members, alloc, "misses", Value::from(self.misses))?;
-        let members = with(members, alloc, "frames", Value::from(self.frames))?;
-        let members = with(members, alloc, "ended", self.ended(alloc)?)?;
-        let members = with(members, alloc, "code", self.code())?;
-        let members = with(members, alloc, "cause", cause_value(alloc, self.cause)?)?;
+        let members = with_made(
+            Ok(Map::new(alloc)),
+            alloc,
+            "unit",
+            Ok(byte_or_null(self.unit)),
+        );
+        let members = with_made(members, alloc, "run", Ok(Value::from(self.run)));
+        let members = with_made(members, alloc, "reply", Ok(Value::from(reply)));
+        let members = with_made(members, alloc, "order", Ok(Value::from(self.order)));
+        let members = with_made(members, alloc, "name", self.name(alloc));
+        let members = with_made(members, alloc, "moment", Ok(number_or_null(self.moment)));
+        let members = with_made(members, alloc, "misses", Ok(Value::from(self.misses)));
+        let members = with_made(members, alloc, "frames", Ok(Value::from(self.frames)));
+        let members = with_made(members, alloc, "ended", self.ended(alloc));
+        let members = with_made(members, alloc, "code", Ok(self.code()));
+        let members = with_made(members, alloc, "cause", cause_value(alloc, self.cause))?;
         Ok(Value::Object(members))
     }
 
@@ -133,6 +138,19 @@ pub(crate) fn with(
 {
     serde_json::put(&mut members, alloc, key, value)?;
     Ok(members)
+}
+
+// The same, where both could be made.
+fn with_made(
+    members: Result<Map<String, Value>, AllocError>,
+    alloc: Global,
+    key: &str,
+    value: Result<Value, AllocError>,
+) -> Result<Map<String, Value>, AllocError>
+    ensures { IfOk result (λ more. IsOkAnd members (λ was. IsOkAnd value
+        (λ value. members_view more.entries ≡ put key.now (view value) (members_view was.entries)))) }
+{
+    with(members?, alloc, key, value?)
 }
 
 // The line of a value that has no float.

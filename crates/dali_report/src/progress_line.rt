@@ -99,22 +99,13 @@ pub(crate) struct Totals {
 
 impl fmt::Display for Totals {
     fn fmt<W: fmt::Write>(&self, f: &mut fmt::Formatter<W>) -> fmt::Result {
-        let frames = self.state.frames;
         match self.watched {
-            Watched::Drive(_) => {
-                self.write_undone(f, "not done")?;
-                let good = self.state.good;
-                let known = self.state.known;
-                let misses = self.state.misses;
-                write!(f, "written now {good}, known before {known}, ")?;
-                write!(f, "frames {frames}, misses {misses}")?;
+            Watched::Drive(_) => self.write_driven(f)?,
+            Watched::Verify => self.write_verified(f)?,
+            Watched::Read | Watched::Scan(_) => {
+                let frames = self.state.frames;
+                write!(f, "frames {frames}")?;
             }
-            Watched::Verify => {
-                self.write_undone(f, "not the same")?;
-                let good = self.state.good;
-                write!(f, "the same {good}, frames {frames}")?;
-            }
-            Watched::Read | Watched::Scan(_) => write!(f, "frames {frames}")?,
         }
         match self.state.meter.seconds() {
             Some(seconds) => {
@@ -127,6 +118,27 @@ impl fmt::Display for Totals {
 }
 
 impl Totals {
+    fn write_driven<W: fmt::Write>(&self, f: &mut fmt::Formatter<W>) -> fmt::Result {
+        self.write_undone(f, "not done")?;
+        let WatchState {
+            good,
+            known,
+            frames,
+            misses,
+            ..
+        } = self.state;
+        write!(
+            f,
+            "written now {good}, known before {known}, frames {frames}, misses {misses}"
+        )
+    }
+
+    fn write_verified<W: fmt::Write>(&self, f: &mut fmt::Formatter<W>) -> fmt::Result {
+        self.write_undone(f, "not the same")?;
+        let WatchState { good, frames, .. } = self.state;
+        write!(f, "the same {good}, frames {frames}")
+    }
+
     // How many orders are so, which ones, and how many weren't reached.
     fn write_undone<W: fmt::Write>(&self, f: &mut fmt::Formatter<W>, name: &str) -> fmt::Result {
         let count = self.state.undone.count;

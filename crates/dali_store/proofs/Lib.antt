@@ -4,3 +4,4 @@ mod MemoryLemmas
 pub mod Betweens
 mod WorkedStoreLemmas
 mod WorkedOpenLemmas
+mod WorkedFaultLemmas

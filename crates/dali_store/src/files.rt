@@ -59,7 +59,40 @@ pub(crate) fn lock(
     }
 }
 
+// Why the bytes of a file aren't read.
+#[derive(Drop)]
+pub(crate) enum Unread {
+    TooBig,
+    NoMemory,
+    Failed(io::Error),
+}
+
 // All the bytes that a file gives from here on, where there are no more than the limit.
+pub(crate) fn bytes_up_to(alloc: Global, file: &mut File, limit: usize) -> Result<Vec<u8>, Unread>
+    ensures { IfOk result (λ bytes. length bytes.items ≤ limit) }
+{
+    let mut bytes = Vec::new(alloc);
+    let mut piece = [0u8; CHUNK];
+    for _ in 0..u64::MAX {
+        match file.read(&mut piece) {
+            Ok(0) => break,
+            Ok(count) if count > limit - bytes.len() => return Err(Unread::TooBig),
+            Ok(count) => {
+                if bytes.extend_from_slice(&piece[..count]).is_err() {
+                    return Err(Unread::NoMemory);
+                }
+            }
+            Err(error) => match error.kind() {
+                ErrorKind::Interrupted => {}
+                ErrorKind::OutOfMemory => return Err(Unread::NoMemory),
+                _ => return Err(Unread::Failed(error)),
+            },
+        }
+    }
+    Ok(bytes)
+}
+
+// The same of the file of this name, with the words for a person where that fails.
 pub(crate) fn read_up_to(
     alloc: Global,
     name: &str,
@@ -68,20 +101,10 @@ pub(crate) fn read_up_to(
 ) -> Result<Vec<u8>, Hindrance>
     ensures { IfOk result (λ bytes. length bytes.items ≤ limit) }
 {
-    let mut bytes = Vec::new(alloc);
-    let mut piece = [0u8; CHUNK];
-    for _ in 0..u64::MAX {
-        match file.read(&mut piece) {
-            Ok(0) => break,
-            Ok(count) if count > limit - bytes.len() => return Err(Hindrance::TooBig),
-            Ok(count) => {
-                if bytes.extend_from_slice(&piece[..count]).is_err() {
-                    return Err(Hindrance::NoMemory);
-                }
-            }
-            Err(error) if error.kind() == ErrorKind::Interrupted => {}
-            Err(cause) => return Err(unusable(alloc, name, cause)),
-        }
+    match bytes_up_to(alloc, file, limit) {
+        Ok(bytes) => Ok(bytes),
+        Err(Unread::TooBig) => Err(Hindrance::TooBig),
+        Err(Unread::NoMemory) => Err(Hindrance::NoMemory),
+        Err(Unread::Failed(cause)) => Err(unusable(alloc, name, cause)),
     }
-    Ok(bytes)
 }

@@ -8,10 +8,12 @@ mod memory;
 mod new_file;
 mod opening;
 mod place;
+mod read_file;
 mod store;
 mod text_file;
 
 pub use file_store::FileStore;
 pub use memory::MemoryStore;
 pub use opening::{OpenFault, open};
-pub use store::{Store, StoreFault, keep};
+pub use read_file::{ReadFile, settle_read};
+pub use store::{Store, StoreFault, append_all};

@@ -131,8 +131,10 @@ pub trait Store {
     ghost only_now: { (store : Self) (c : List ℕ) → left_since store (moment store) c → may_leave store c };
 }
 
-// Puts all the bytes. Where that fails a first part of them was put.
-fn append_all<S: Store>(store: &mut S, bytes: &[u8]) -> bool
+/// Puts all the bytes behind those that are there. Where that fails a first part of them was put.
+///
+/// Where a stop left all that was there before, at each moment it leaves that with a first part of what was put.
+pub fn append_all<S: Store>(store: &mut S, bytes: &[u8]) -> bool
     ensures whole { result ≡ true → Appends (S.seen store.old) (S.seen store.new) bytes.now }
     ensures cut { result ≡ false
         → (k : ℕ) × (k ≤ length bytes.now) × Appends (S.seen store.old) (S.seen store.new) (take k bytes.now) }
@@ -150,22 +152,4 @@ fn append_all<S: Store>(store: &mut S, bytes: &[u8]) -> bool
         }
     }
     true
-}
-
-/// Puts all the bytes behind those that are there, and sees to it that a stop leaves them. Where that fails a first
-/// part of them was put, perhaps all.
-///
-/// Where a stop left all that was there before, at each moment it leaves that with a first part of what was put.
-pub fn keep<S: Store>(store: &mut S, bytes: &[u8]) -> bool
-    ensures whole { result ≡ true → Appends (S.seen store.old) (S.seen store.new) bytes.now }
-    ensures settled { result ≡ true → IsDurable (S.seen store.new) (S.may_leave store.new) }
-    ensures cut { result ≡ false
-        → (k : ℕ) × (k ≤ length bytes.now) × Appends (S.seen store.old) (S.seen store.new) (take k bytes.now) }
-    ensures stop { IsDurable (S.seen store.old) (S.may_leave store.old)
-        → (c : List ℕ) → S.may_leave store.new c → IsBetween (S.seen store.old) (S.seen store.new) c }
-    ensures any_moment { IsDurable (S.seen store.old) (S.may_leave store.old)
-        → LeavesOnly S.moment S.left_since store.old store.new (IsBetween (S.seen store.old) (S.seen store.new)) }
-    ensures failed { S.failed store.new ≡ (S.failed store.old || not result) }
-{
-    append_all(store, bytes) && store.sync()
 }

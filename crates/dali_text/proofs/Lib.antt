@@ -3,3 +3,5 @@ pub mod BankLinesLemmas
 pub mod RunTextLemmas
 pub mod JournalLinesLemmas
 pub mod WorkedLinesLemmas
+mod EscapedLemmas
+mod WorkedEscapedLemmas

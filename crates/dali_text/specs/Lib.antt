@@ -1,5 +1,6 @@
 pub mod Output
 pub mod Digits
+pub mod Escaped
 pub mod OrderLines
 pub mod FaultLines
 pub mod FrameLine

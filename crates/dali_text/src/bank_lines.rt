@@ -63,7 +63,6 @@ pub fn write_bank<W: Write>(output: &mut Output<W>, bank: &[u8]) -> Result<(), O
 }
 
 // Writes a row.
-#[tactic(auto, using(crate::proofs::StreamLemmas::appends_both))]
 fn write_row<W: Write>(output: &mut Output<W>, bank: &[u8], row: Row) -> Result<(), OutputFailed>
     ensures text { OnOk result ((text : List ℕ) × IsRowText bank.now row text
         × Takes W.contents output.old output.new (row_word row ++ codes " " ++ text ++ codes "\n")) }
@@ -72,7 +71,7 @@ fn write_row<W: Write>(output: &mut Output<W>, bank: &[u8], row: Row) -> Result<
     let word = word_of(row);
     write!(output, "{word} ")?;
     write_text(output, bank, row)?;
-    writeln!(output)
+    output.write_all(b"\n")
 }
 
 // A row's word.
@@ -122,7 +121,6 @@ fn write_plain<W: Write>(
 }
 
 // Writes a field that is shown in this way.
-#[tactic(auto, using(crate::proofs::StreamLemmas::appends_both))]
 fn write_field<W: Write>(
     output: &mut Output<W>,
     bank: &[u8],
@@ -135,16 +133,16 @@ fn write_field<W: Write>(
     ensures failed { TellsFailure result output.old output.new }
 {
     match shown {
-        Shown::Absent => write!(output, "absent"),
-        Shown::Unknown => write!(output, "unknown"),
+        Shown::Absent => output.write_all(b"absent"),
+        Shown::Unknown => output.write_all(b"unknown"),
         Shown::Number(number) => write_number(output, field, number),
         Shown::Hex => write_bytes(output, part(bank, field)),
         Shown::Text(count) => {
-            write!(output, "text ")?;
+            output.write_all(b"text ")?;
             output.write_all(&part(bank, field)[..count as usize])
         }
         Shown::Raw => {
-            write!(output, "raw ")?;
+            output.write_all(b"raw ")?;
             write_bytes(output, part(bank, field))
         }
     }

@@ -46,8 +46,7 @@ pub fn write_bytes<W: Write>(output: &mut Output<W>, bytes: &[u8]) -> Result<(),
     ensures failed { TellsFailure result output.old output.new }
 {
     for &byte in bytes {
-        let digits = ByteDigits(byte);
-        write!(output, "{digits}")?;
+        output.write_fmt(ByteDigits(byte))?;
     }
     Ok(())
 }

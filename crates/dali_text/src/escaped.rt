@@ -1,3 +1,7 @@
+ghost use Rattle.std.specs.Prelude.{chars};
+ghost use Rattle.std.specs.Fmt.{WritesOnOk};
+ghost use Rattle.dali_text.specs.Escaped.{shown_front, shown_text};
+
 use std::fmt;
 
 // The most characters that are told of a value.
@@ -8,6 +12,11 @@ const MOST: usize = 40;
 pub struct Letter(pub char);
 
 impl fmt::Display for Letter {
+    ghost use Rattle.std.specs.Prelude.{Some};
+    ghost use Rattle.dali_text.specs.Escaped.{shown_letter};
+
+    ghost output = { λ letter. Some (shown_letter letter.0) };
+
     fn fmt<W: fmt::Write>(&self, f: &mut fmt::Formatter<W>) -> fmt::Result {
         let letter = self.0;
         if (' '..='~').contains(&letter) {
@@ -21,36 +30,47 @@ impl fmt::Display for Letter {
 
 /// A text as a terminal may show it: each character that isn't from 20h to 7Eh by its number.
 #[derive(Clone, Copy)]
-pub struct Escaped<'a> {
-    text: &'a str,
-    // How many characters are told; where there are more, three dots stand for them.
-    most: usize,
-}
-
-impl<'a> Escaped<'a> {
-    /// All of a text.
-    pub fn whole(text: &'a str) -> Escaped<'a> {
-        Escaped {
-            text,
-            most: usize::MAX,
-        }
-    }
-
-    /// The first 40 characters of a text.
-    pub fn cut(text: &'a str) -> Escaped<'a> {
-        Escaped { text, most: MOST }
-    }
+pub enum Escaped<'a> {
+    /// All of it.
+    Whole(&'a str),
+    /// Its first 40 characters; where there are more, three dots stand for them.
+    Cut(&'a str),
 }
 
 impl fmt::Display for Escaped<'_> {
+    ghost use Rattle.std.specs.Prelude.{Some};
+    ghost use Rattle.dali_text.specs.Escaped.{escaped_text};
+
+    ghost output = { λ escaped. Some (escaped_text escaped) };
+
     fn fmt<W: fmt::Write>(&self, f: &mut fmt::Formatter<W>) -> fmt::Result {
-        for (count, letter) in self.text.chars().enumerate() {
-            if count == self.most {
-                return f.write_str("...");
-            }
-            let letter = Letter(letter);
-            write!(f, "{letter}")?;
+        match *self {
+            Escaped::Whole(text) => write_whole(f, text),
+            Escaped::Cut(text) => write_front(f, text),
         }
+    }
+}
+
+fn write_whole<W: fmt::Write>(f: &mut fmt::Formatter<W>, text: &str) -> fmt::Result
+    ensures { WritesOnOk W.write_str_gives f.old result (shown_text text.now) f.new }
+{
+    for letter in text.chars() {
+        let letter = Letter(letter);
+        write!(f, "{letter}")?;
+    }
+    Ok(())
+}
+
+fn write_front<W: fmt::Write>(f: &mut fmt::Formatter<W>, text: &str) -> fmt::Result
+    ensures { WritesOnOk W.write_str_gives f.old result (shown_front 40 (chars text.now)) f.new }
+{
+    for letter in text.chars().take(MOST) {
+        let letter = Letter(letter);
+        write!(f, "{letter}")?;
+    }
+    if text.chars().count() > MOST {
+        f.write_str("...")
+    } else {
         Ok(())
     }
 }

@@ -5,14 +5,13 @@ pub mod WorkedPlanLemmas
 pub mod WorkedWorkLemmas
 pub mod WorkedShortLemmas
 pub mod WorkedStepLemmas
-pub mod NewUnitLemmas
 pub mod WorkedLossLemmas
 pub mod WorkedBusLemmas
 pub mod WorkedEndLemmas
 pub mod WorkedCauseLemmas
 pub mod RefusedLemmas
 pub mod WorkedLeftLemmas
-pub mod BlankLemmas
+pub mod WorkedBlankLemmas
 pub mod WorkedPartLemmas
 pub mod WorkedEndingLemmas
 pub mod WorkedWorldLemmas

@@ -30,7 +30,7 @@ use Rattle.dali_trace.specs.Worked.{another_code_said, blocked_by_no_unit, silen
 use Rattle.dali_trace.specs.Worked.{second_order, another_number_said, blocked_under_another_number}
 use Rattle.dali_trace.specs.Worked.{frame_to_another_unit_once_opened, frame_past_the_left_unit, another_lock_byte}
 use Rattle.dali_trace.specs.Worked.{opened_after_a_stop, written_after_a_stop, said_after_a_stop, closed_by_an_old_read}
-use Rattle.dali_trace.specs.Worked.{asked, begun, said, select_at, short_after_six_frames}
+use Rattle.dali_trace.specs.Worked.{asked, begun, said, select_at, short_after_six_frames, silent_once_opened}
 use Rattle.dali_write.specs.declared.pace.Pace.TheVariants.{Checked}
 
 -- the newest exchange and the third newest of those that select
@@ -336,6 +336,10 @@ not_another_lock_byte legal =
 
 pub not_opened_after_a_stop : Legal empty opened_after_a_stop → ⊥
 not_opened_after_a_stop legal = legal.1.grounds.1
+
+-- an order that was opened ends as no fresh one, also after a stop
+pub not_silent_once_opened : Legal empty silent_once_opened → ⊥
+not_silent_once_opened legal = legal.1.whole.0.1
 
 -- nothing is selected where no frame was sent
 none_selected : (unit location : ℕ) → Selects unit location [] → ⊥

@@ -2,11 +2,9 @@
 use Rattle.std.proofs.Common.{◌≡◌, refl, ap, ℕ, Bool, true, false, ◌==◌, ◌&&◌, not, if◌then◌else◌}
 use Rattle.std.proofs.Common.{List, [], ◌∷◌, Option, Some, None}
 use Rattle.std.proofs.lemmas.Bool.{eqb-true}
-use Rattle.std.specs.Prelude.{replicate, ⊤}
-use Rattle.std.specs.List.{filter_map}
+use Rattle.std.specs.List.{AllByRecursion, filter_map}
 use Rattle.std.specs.Prelude.{drop}
 use Rattle.dali_bus.specs.Chain.{IsChain}
-use Rattle.dali_bus.specs.World.{byte_in}
 use Rattle.dali_bus.proofs.OpenLemmas.{is_open}
 use Rattle.dali_bus.specs.Unenabled.{NoneEnabled}
 use Rattle.dali_gear.specs.declared.fate.Fate.{Fate}
@@ -19,11 +17,9 @@ use Rattle.dali_gear.proofs.SimLemmas.{AreApart-map}
 use Rattle.dali_trace.specs.declared.happening.Reply.TheVariants as replies
 use Rattle.dali_trace.specs.declared.happening.Happening.{Happening}
 use Rattle.dali_trace.specs.declared.happening.Happening.TheVariants.{Answered, Sent, Stopped, Powered}
-use Rattle.dali_trace.specs.Fits.{IsLockedAbove}
 use Rattle.dali_trace.specs.Moves.{MovesBy}
 use Rattle.dali_trace.specs.Spared.{UnrefusedSince}
 use Rattle.dali_trace.specs.WorkedLosses.{bus_after, buses_along}
-use Rattle.dali_trace.proofs.NewUnitLemmas.{new_locked}
 use Rattle.dali_journal.proofs.PairLemmas.{and-parts}
 
 -- each answer in the trace is the one that the bus gives
@@ -120,28 +116,15 @@ none_refused first (Sent frame answer ∷ past) kind =
     ((next_kind (bus_after first past).fates (kind_after first past kind)).0, none_refused first past kind)
 none_refused first (_ ∷ past) kind = none_refused first past kind
 
--- units that are new: none is enabled, and the lock bytes of the banks from 2 up are FFh
-abbrev pub AreNew : List UnitState → Type 0
-AreNew [] = ⊤
-AreNew (unit ∷ units) =
-    (unit.enabled ≡ false) × (unit.bank2.bytes ≡ 0x0F ∷ replicate 15 0xFF) × AreNew units
+-- where no unit is enabled
+abbrev pub AreOff : List UnitState → Type 0
+AreOff units = AllByRecursion (λ (unit : UnitState). unit.enabled ≡ false) units
 
-pub new_off : (units : List UnitState) → AreNew units → NoneEnabled (world_of units)
-new_off [] new address = refl
-new_off (unit ∷ units) new address = by (address == unit.address) (new_off units new.2)
+pub none_on : (units : List UnitState) → AreOff units → NoneEnabled (world_of units)
+none_on [] off address = refl
+none_on (unit ∷ units) off address = by (address == unit.address) (none_on units off.1)
   where
     by : (here : Bool) → NoneEnabled (world_of units)
         → is_open (if here then Some (gear_of unit) else world_of units address) ≡ false
-    by true rest = new.0
+    by true rest = off.0
     by false rest = rest address
-
-pub new_lock_bytes : (units : List UnitState) → AreNew units → IsLockedAbove (world_of units)
-new_lock_bytes [] new address bank byte above is = cc
-new_lock_bytes (unit ∷ units) new address bank byte above is =
-    by (address == unit.address) (new_lock_bytes units new.2) is
-  where
-    by : (here : Bool) → IsLockedAbove (world_of units)
-        → byte_in (if here then Some (gear_of unit) else world_of units address) bank 2 ≡ Some byte
-        → byte ≡ 0xFF
-    by true rest is = new_locked unit bank byte new.1 above is
-    by false rest is = rest address bank byte above is

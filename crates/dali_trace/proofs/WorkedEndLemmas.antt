@@ -24,7 +24,7 @@ use Rattle.dali_trace.specs.WorkedLosses.{sixth_closing, sixth_closed, sixth_beg
 use Rattle.dali_trace.proofs.WorkedLemmas.{enable_legal, read_legal, write_legal, read_stands, reads_behind}
 use Rattle.dali_trace.proofs.WorkedLemmas.{reads_stand}
 use Rattle.dali_trace.proofs.WorkedEndingLemmas.{third_begun_legal, format_legal}
-use Rattle.dali_trace.proofs.WorkedBusLemmas.{bus_chain, none_refused, new_off, new_lock_bytes}
+use Rattle.dali_trace.proofs.WorkedBusLemmas.{bus_chain, none_refused, none_on}
 use Rattle.dali_trace.proofs.WorkedPlanLemmas.{Onset, Keeps, wants_so, frames_planned, frames_go_on}
 use Rattle.dali_write.specs.declared.pace.Pace.TheVariants.{Checked}
 
@@ -79,8 +79,7 @@ ends_short = record {
   legal = (short_legal, (refl, (refl, refl)));
   planned = (short_planned, tt);
   chain = bus_chain short_bus short_order_ended (refl, (refl, tt)) (is_small, (is_small, tt)) refl;
-  none = new_off small_units (refl, refl, (refl, refl, tt));
-  locked = new_lock_bytes small_units (refl, refl, (refl, refl, tt));
+  none = none_on small_units (refl, (refl, tt));
   valid = year;
   hand = refl;
   little = record {
@@ -116,8 +115,7 @@ ends_format = record {
   legal = (format_legal, (refl, (refl, refl)));
   planned = (format_planned, tt);
   chain = bus_chain format_bus format_ended (refl, tt) (is_long, tt) refl;
-  none = new_off format_bus.units (refl, refl, tt);
-  locked = new_lock_bytes format_bus.units (refl, refl, tt);
+  none = none_on format_bus.units (refl, tt);
   valid = year;
   hand = refl;
   little = record {
@@ -213,8 +211,7 @@ ends_done = record {
   legal = (fourth_ended_legal, (refl, (refl, refl)));
   planned = (fourth_ended_planned, tt);
   chain = bus_chain done_bus fourth_ended (refl, (refl, tt)) (is_small, (is_small, tt)) refl;
-  none = new_off small_units (refl, refl, (refl, refl, tt));
-  locked = new_lock_bytes small_units (refl, refl, (refl, refl, tt));
+  none = none_on small_units (refl, (refl, tt));
   valid = record {
     some = omega arith;
     few = omega arith;
@@ -303,8 +300,7 @@ ends_behind_a_left_unit = record {
   legal = (sixth_ended_legal, (refl, (refl, refl)));
   planned = (sixth_ended_planned, tt);
   chain = bus_chain left_bus sixth_ended (refl, (refl, tt)) (is_small, (is_small, tt)) refl;
-  none = new_off small_units (refl, refl, (refl, refl, tt));
-  locked = new_lock_bytes small_units (refl, refl, (refl, refl, tt));
+  none = none_on small_units (refl, (refl, tt));
   valid = year;
   hand = refl;
   little = record {

@@ -11,7 +11,6 @@ use Rattle.dali_trace.specs.declared.happening.Event.{Event}
 use Rattle.dali_trace.specs.declared.happening.Happening.{Happening}
 use Rattle.dali_trace.specs.declared.happening.Happening.TheVariants.{Sent, Stopped, Powered}
 use Rattle.dali_trace.specs.Trace.{Start}
-use Rattle.dali_trace.specs.Fits.{IsLockedAbove}
 use Rattle.dali_trace.specs.Moves.{MovesBy}
 use Rattle.dali_trace.specs.Runs.{fresh}
 use Rattle.dali_trace.specs.Spared.{state_at_start, losses_since, UnrefusedSince, due_code, NoneFixed, IsSpared}
@@ -116,24 +115,24 @@ spared_before start next past last state states each = each
 
 pub leads_spared : (limit : ℕ) (pace : Pace) (all : List Event) (first : SimState) (past : List Happening)
     (last : SimState) (leads : LeadsSpared limit pace all first past last)
-    → NoneEnabled (world_of first.units) → IsLockedAbove (world_of first.units)
+    → NoneEnabled (world_of first.units)
     → IsChain (MovesBy SimStep) first past last leads.states
     × AtEachState (IsSpared (fresh limit pace)) past last leads.states
-leads_spared limit pace all first past last leads none locked = (leads.chain, leads.spared none locked)
+leads_spared limit pace all first past last leads none = (leads.chain, leads.spared none)
 
 -- an order that is given steps enough is said as it is to end, if little befalls it
 pub leads_said : (limit : ℕ) (pace : Pace) (all newer middle older : List Event) (first : SimState)
     (past : List Happening)
     (last : SimState) (leads : LeadsSpared limit pace all first past last)
-    → NoneEnabled (world_of first.units) → IsLockedAbove (world_of first.units)
+    → NoneEnabled (world_of first.units)
     → reverse all ≡ newer ++ (middle ++ older)
     → (cut : IsCut (fresh limit pace) newer middle older past)
     × ((order : Contents) (bank : BankState) → HasStepsEnough (fresh limit pace) cut.before middle order
     → (so : IsSaidAsDue (fresh limit pace) order cut.before cut.behind leads.states)
     × (LosesLittle (fresh limit pace) order bank (so.said.since ++ cut.before) so.state so.older
     → so.said.reply ≡ replies.Kept (due_code bank.bytes order.updates)))
-leads_said limit pace all newer middle older first past last leads none locked same =
-    let says = leads.said none locked newer middle older same in (
+leads_said limit pace all newer middle older first past last leads none same =
+    let says = leads.said none newer middle older same in (
       says.0,
       λ order bank enough. let so = says.1 order enough in (so, λ little. (so.due bank little).reply_is),
     )

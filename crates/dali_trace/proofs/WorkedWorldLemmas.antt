@@ -1,7 +1,7 @@
 -- What records say of worlds and what they don't, near the edges: what a weaker definition would let through.
 use Rattle.std.proofs.Common.{◌≡◌, ◌≤◌, ◌<◌, inl, inr, refl, arith, ap, true, false, ℕ, Bool, List, [], ◌∷◌, Option}
-use Rattle.std.proofs.Common.{Some, None, ◌==◌, if◌then◌else◌}
-use Rattle.dali_bus.specs.World.{Gear, World, is_enabled}
+use Rattle.std.proofs.Common.{Some, None, ◌==◌, ◌&&◌, if◌then◌else◌}
+use Rattle.dali_bus.specs.World.{Gear, World, is_enabled, byte_at}
 use Rattle.dali_journal.specs.declared.kept.Progress.{Progress}
 use Rattle.dali_journal.specs.declared.kept.Progress.TheVariants as reached
 use Rattle.dali_journal.specs.declared.record.Code.TheVariants.{Done, Short, Format, Silent, Doubt, DoubtOpen}
@@ -15,7 +15,7 @@ use Rattle.dali_write.specs.Worlds.{IsAmong}
 use Rattle.dali_bus.specs.Power.{MayRelock}
 use Rattle.dali_trace.specs.declared.happening.Happening.TheVariants.{Kept, Powered}
 use Rattle.dali_trace.specs.Possible.{IsPossible, IsCertain, applied}
-use Rattle.dali_trace.specs.Fits.{HasBeenOpened, IsLockByte, Fits, OnlyNamed, IsApplied}
+use Rattle.dali_trace.specs.Fits.{HasBeenOpened, IsLockByte, IsApart, Fits, OnlyNamed, IsApplied}
 use Rattle.dali_trace.specs.Moments.{FitsAt}
 use Rattle.dali_trace.specs.Moves.{Moves}
 use Rattle.dali_trace.specs.WhenKept.{Holds, IsLetGo, WhenKept}
@@ -171,17 +171,31 @@ no_other_lock_byte_by_a_loss_of_power (inl is) = omega (arith, ap (λ (byte : Op
 no_other_lock_byte_by_a_loss_of_power (inr relocks) =
     omega (arith, ap (λ (byte : Option ℕ). or_none byte) relocks.3)
 
+-- A place past the lock byte isn't one that a unit sets by itself
+
+pub past_apart : {bank location : ℕ} → 3 ≤ location → IsApart bank location → ⊥
+past_apart past (inl lock) = omega (arith, past, lock.1)
+past_apart past (inr indicator) = omega (arith, past, indicator.1)
+
+pub indicator_apart : IsApart 1 1
+indicator_apart = inr (refl, refl)
+
 -- A world that doesn't fit
 
 pub not_written_when_begun : Fits before records_begun [] after → ⊥
-not_written_when_begun fits = omega (arith, fits.bytes 5 1 8 0xFF 0xAB (λ lock. omega (arith, lock.1)) refl refl)
+not_written_when_begun fits = omega (arith, fits.bytes 5 1 8 0xFF 0xAB (past_apart (omega arith)) refl refl)
 
 pub not_unwritten_when_done : Fits before records_done [] before → ⊥
-not_unwritten_when_done fits = omega (arith, fits.bytes 5 1 8 0xFF 0xFF (λ lock. omega (arith, lock.1)) refl refl)
+not_unwritten_when_done fits = omega (arith, fits.bytes 5 1 8 0xFF 0xFF (past_apart (omega arith)) refl refl)
+
+-- the lock byte of bank 1 where no unit was opened
+lock_of_5 : {zero now : World} {records : List Record} {lost : List ℕ} → (HasBeenOpened 5 records → ⊥)
+    → Fits zero records lost now → MayRelock (IsAmong lost 5) 1 2 (byte_at zero 5 1 2) (byte_at now 5 1 2)
+lock_of_5 none fits = fits.locks 5 1 (omega arith) (λ one. none)
 
 pub not_unlocked_when_begun : Fits before records_begun [] (world_with false 0x77 0x55 0x00 0xFF) → ⊥
 not_unlocked_when_begun fits =
-    omega (arith, ap (λ (byte : Option ℕ). or_none byte) (unlost 5 1 2 _ _ (fits.locks 5 (λ is. is))))
+    omega (arith, ap (λ (byte : Option ℕ). or_none byte) (unlost 5 1 2 _ _ (lock_of_5 (λ is. is) fits)))
 
 pub not_a_unit_more : Fits (λ address. None) records_begun [] before → ⊥
 not_a_unit_more fits = let more : true ≡ false = fits.places 5 1 3 in cc
@@ -193,11 +207,14 @@ pub not_opened_elsewhere : HasBeenOpened 6 records_done → ⊥
 not_opened_elsewhere (inl is) = omega (arith, is)
 not_opened_elsewhere (inr is) = is
 
-pub lock_byte_of_bank_1 : IsLockByte 1 2
-lock_byte_of_bank_1 = (refl, refl)
+pub lock_byte_of_bank_2 : IsLockByte 2 2
+lock_byte_of_bank_2 = (omega arith, refl)
 
-pub no_lock_byte_of_bank_2 : IsLockByte 2 2 → ⊥
-no_lock_byte_of_bank_2 is = omega (arith, is.0)
+pub no_lock_byte_of_bank_0 : IsLockByte 0 2 → ⊥
+no_lock_byte_of_bank_0 is = omega (arith, is.0)
+
+pub no_lock_byte_at_03h : IsLockByte 1 3 → ⊥
+no_lock_byte_at_03h is = omega (arith, is.1)
 
 -- An enabled unit
 
@@ -219,7 +236,7 @@ not_enabled_for_another_unit only = omega (arith, ap (λ (named : Option ℕ). o
 
 pub not_applied_when_done : IsApplied before records_done before → ⊥
 not_applied_when_done is =
-    omega (arith, ap (λ (byte : Option ℕ). or_none byte) (is 5 1 8 0xFF (λ lock. omega (arith, lock.1)) refl tt))
+    omega (arith, ap (λ (byte : Option ℕ). or_none byte) (is 5 1 8 0xFF (past_apart (omega arith)) refl tt))
 
 -- What is true when a record is kept
 
@@ -345,7 +362,7 @@ fits_after_a_loss_before fits = fits
 pub not_without_a_loss_of_power : FitsAt unlocked_world [] empty [] before → ⊥
 not_without_a_loss_of_power fits = by fits where
   by : Fits unlocked_world [] [] before → ⊥
-  by fits = omega (arith, ap (λ (byte : Option ℕ). or_none byte) (unlost 5 1 2 _ _ (fits.locks 5 (λ is. is))))
+  by fits = omega (arith, ap (λ (byte : Option ℕ). or_none byte) (unlost 5 1 2 _ _ (lock_of_5 (λ is. is) fits)))
 
 pub not_after_a_loss_of_another : FitsAt unlocked_world [] empty (Powered 6 ∷ []) before → ⊥
 not_after_a_loss_of_another fits = of_the_world fits where
@@ -355,4 +372,41 @@ not_after_a_loss_of_another fits = of_the_world fits where
   by (inr (inr none, above, lock, now)) = none
 
   of_the_world : Fits unlocked_world [] (6 ∷ []) before → ⊥
-  of_the_world fits = by (fits.locks 5 (λ is. is))
+  of_the_world fits = by (fits.locks 5 1 (omega arith) (λ one is. is))
+
+-- The lock byte of a bank from 2 up: as it was, or FFh since its unit lost its power
+
+abbrev above_with : ℕ → World
+above_with lock =
+    alone (record (unit_with false 0x77 0xFF 0x00 0xFF) {
+      memory = λ bank location. if (bank == 2) && (location == 2) then Some lock else None;
+    })
+
+pub locked_above_since_it_lost_its_power : MayRelock (IsAmong (5 ∷ []) 5) 2 2 (Some 0x55) (Some 0xFF)
+locked_above_since_it_lost_its_power = inr (inl refl, omega arith, refl, refl)
+
+pub not_locked_above_by_anything_else : Fits (above_with 0x55) records_done [] (above_with 0xFF) → ⊥
+not_locked_above_by_anything_else fits =
+    omega (
+      arith,
+      ap (λ (byte : Option ℕ). or_none byte)
+          (unlost 5 2 2 _ _ (fits.locks 5 2 (omega arith) (λ one. omega (arith, one)))),
+    )
+
+pub no_other_byte_above : Fits (above_with 0x55) records_done (5 ∷ []) (above_with 0x33) → ⊥
+no_other_byte_above fits = by (fits.locks 5 2 (omega arith) (λ one. omega (arith, one))) where
+  by : MayRelock (IsAmong (5 ∷ []) 5) 2 2 (Some 0x55) (Some 0x33) → ⊥
+  by (inl is) = omega (arith, ap (λ (byte : Option ℕ). or_none byte) is)
+  by (inr relocks) = omega (arith, ap (λ (byte : Option ℕ). or_none byte) relocks.3)
+
+-- The indicator byte: as it was, unless its unit was opened
+
+abbrev indicator_with : ℕ → World
+indicator_with indicator =
+    alone (record (unit_with false 0x77 0xFF 0x00 0xFF) {
+      memory = λ bank location. if (bank == 1) && (location == 1) then Some indicator else None;
+    })
+
+pub no_other_indicator_when_begun : Fits (indicator_with 0xFF) records_begun [] (indicator_with 0xA5) → ⊥
+no_other_indicator_when_begun fits =
+    omega (arith, ap (λ (byte : Option ℕ). or_none byte) (fits.indicators 5 (λ opened. opened)))

@@ -6,15 +6,13 @@ use Rattle.dali_trace.specs.declared.happening.Happening.{Happening}
 use Rattle.dali_trace.specs.Trace.{Start, records_of, powered_of}
 use Rattle.dali_trace.specs.Legal.{Legal}
 use Rattle.dali_trace.specs.Moves.{Moves}
-use Rattle.dali_trace.specs.Fits.{Fits, IsLockedAbove, OnlyNamed, IsApplied}
+use Rattle.dali_trace.specs.Fits.{Fits, OnlyNamed, IsApplied}
 use Rattle.dali_trace.specs.WhenKept.{WhenKept}
 
 -- A chain of worlds along a trace, from a world that fits the start world and the start records, where these units had
--- lost their power before, with no unit enabled but the one that the records name. In the start world the lock bytes of
--- the banks from 2 up are FFh.
+-- lost their power before, with no unit enabled but the one that the records name.
 pub record Along (zero : World) (lost : List ℕ) (start : Start) (first : World) (past : List Happening) (last : World)
     (states : List World) : Type 0 where
-  pub locked : IsLockedAbove zero
   pub fits : Fits zero start.records lost first
   pub only : OnlyNamed start.records first
   pub chain : IsChain Moves first past last states

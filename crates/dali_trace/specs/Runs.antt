@@ -21,7 +21,6 @@ use Rattle.dali_trace.specs.Parts.{AreParts}
 use Rattle.dali_trace.specs.Taken.{begun_orders, taken_orders}
 use Rattle.dali_trace.specs.Moves.{MovesBy}
 use Rattle.dali_trace.specs.WhenKept.{WhenKept}
-use Rattle.dali_trace.specs.Fits.{IsLockedAbove}
 use Rattle.dali_trace.specs.Moments.{IsRight}
 use Rattle.dali_write.specs.declared.pace.Pace.{Pace}
 
@@ -30,14 +29,13 @@ abbrev pub fresh : ℕ → Pace → Start
 fresh limit pace = record { records = []; limit = limit; pace = pace }
 
 -- a chain of the bus's states leads along the trace from the first to the last, and each record is true when it is
--- kept; and where no unit was enabled at first and the lock bytes of the banks from 2 up were FFh, every moment of it
--- is right, from the world that the bus showed then
+-- kept; and where no unit was enabled at first, every moment of it is right, from the world that the bus showed then
 pub record LeadsRight {S : Type 0} (world : S → World) (step : S → BusEvent → S → Type 0) (limit : ℕ) (pace : Pace)
     (first : S) (past : List Happening) (last : S) : Type 0 where
   pub states : List S
   pub chain : IsChain (MovesBy step) first past last states
   pub kept : AtEachMoment (λ moment now. WhenKept (fresh limit pace) moment (world now)) past last states
-  pub right : NoneEnabled (world first) → IsLockedAbove (world first)
+  pub right : NoneEnabled (world first)
       → AtEachMoment (λ moment now. IsRight (world first) [] (fresh limit pace) moment (world now)) past last states
 
 -- a frame that was sent is one that some word spells

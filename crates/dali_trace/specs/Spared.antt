@@ -23,7 +23,6 @@ use Rattle.dali_trace.specs.declared.happening.Happening.TheVariants.{Asked, Ans
 use Rattle.dali_journal.specs.Sentence.{named_unit}
 use Rattle.dali_trace.specs.Cut.{since, is_start}
 use Rattle.dali_trace.specs.Trace.{Start, sent_since_taken, powered_of, is_at_work}
-use Rattle.dali_trace.specs.Fits.{IsLockedAbove}
 use Rattle.dali_trace.specs.Moves.{MovesBy}
 use Rattle.dali_trace.specs.Runs.{fresh, IsRun}
 use Rattle.dali_trace.specs.Work.{stood_at, order_at_hand}
@@ -123,16 +122,15 @@ SaysAsDue start newer middle older trace states =
     × ((order : Contents) → HasStepsEnough start cut.before middle order
     → IsSaidAsDue start order cut.before cut.behind states)
 
--- A chain of the simulated bus leads along the trace. Where no unit was enabled at first and the lock bytes of the
--- banks from 2 up were FFh, what is said along it is so, and each order that is given steps enough is said as it is
--- due.
+-- A chain of the simulated bus leads along the trace. Where no unit was enabled at first, what is said along it is so,
+-- and each order that is given steps enough is said as it is due.
 pub record LeadsSpared (limit : ℕ) (pace : Pace) (all : List Event) (first : SimState) (past : List Happening)
     (last : SimState) : Type 0 where
   pub states : List SimState
   pub chain : IsChain (MovesBy SimStep) first past last states
-  pub spared : NoneEnabled (world_of first.units) → IsLockedAbove (world_of first.units)
+  pub spared : NoneEnabled (world_of first.units)
       → AtEachState (IsSpared (fresh limit pace)) past last states
-  pub said : NoneEnabled (world_of first.units) → IsLockedAbove (world_of first.units)
+  pub said : NoneEnabled (world_of first.units)
       → (newer middle older : List Event) → reverse all ≡ newer ++ (middle ++ older)
       → SaysAsDue (fresh limit pace) newer middle older past states
 

@@ -291,6 +291,10 @@ tried_again = write_at 5 0x02 0x55 (read_try (enable_twice 5 opened))
 
 -- Stops
 
+-- an order that was opened, taken for Silent after a stop
+abbrev pub silent_once_opened : List Happening
+silent_once_opened = Kept (Ended Silent) ∷ Stopped Checked ∷ opened
+
 -- before Opened is kept: the unit is read again
 abbrev pub opened_anew : List Happening
 opened_anew = Kept (Opened 5) ∷ read_at 5 0x00 0x77 (Stopped Checked ∷ measured)

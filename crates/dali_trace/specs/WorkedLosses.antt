@@ -22,7 +22,6 @@ use Rattle.dali_trace.specs.declared.happening.Happening.TheVariants.{Asked, Ans
 use Rattle.dali_trace.specs.Trace.{Start, sent_since_taken, is_at_work}
 use Rattle.dali_trace.specs.Legal.{Legal}
 use Rattle.dali_trace.specs.ByPlan.{ByPlan}
-use Rattle.dali_trace.specs.Fits.{IsLockedAbove}
 use Rattle.dali_trace.specs.Moves.{MovesBy}
 use Rattle.dali_trace.specs.Work.{stood_at, order_at_hand}
 use Rattle.dali_trace.specs.Spared.{state_at_start, losses_since, UnrefusedSince, KeepsPowerSince, due_code, NoneFixed}
@@ -81,7 +80,6 @@ pub record MeetsAll (start : Start) (first : SimState) (order : Contents) (bank 
   pub planned : ByPlan start (Answered order.id (replies.Kept code) ∷ past)
   pub chain : IsChain (MovesBy SimStep) first past (bus_after first past) (buses_along first past)
   pub none : NoneEnabled (world_of first.units)
-  pub locked : IsLockedAbove (world_of first.units)
   pub valid : AreUpdates order.updates
   pub hand : order_at_hand start past ≡ Some order
   pub little : LosesLittle start order bank past (bus_after first past) (buses_along first past)

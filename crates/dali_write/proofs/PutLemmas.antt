@@ -1,12 +1,13 @@
 -- What one frame may change, and which frames of a session may be sent.
 use Rattle.std.proofs.Common.{◌≡◌, ◌⊎◌, refl, sym, ap, subst, ◌∙◌, inl, inr, ℕ, false}
-use Rattle.std.proofs.Common.{List, ◌∷◌, Option, Some, None, IsSome, arith}
+use Rattle.std.proofs.Common.{List, ◌∷◌, Option, Some, None, IsSome, is_some, Bool, true, arith}
 use Rattle.std.specs.Prelude.{◌≢◌}
 use Rattle.std.proofs.lemmas.Bool.{eqb-true}
 use Rattle.dali_frame.specs.declared.forward.Frame.{Frame}
 use Rattle.dali_frame.specs.declared.forward.Frame.TheVariants.{Dtr0, Dtr1, Dtr2, Write, WriteSilent, Enable, AskDtr0}
 use Rattle.dali_frame.specs.declared.forward.Frame.TheVariants.{AskDtr1, AskDtr2, Read, Other}
 use Rattle.dali_bus.specs.World.{World, Gear, Memory, stored, byte_in}
+use Rattle.dali_bus.specs.Hears.{IsIndicator}
 use Rattle.dali_bus.specs.Power.{relocked, MayRelock}
 use Rattle.dali_bus.specs.Carry.{Carry, MayHear, Heard}
 use Rattle.dali_write.specs.Exchanges.{Exchange}
@@ -22,12 +23,14 @@ use Rattle.dali_write.proofs.RunLemmas.{Leads}
 use Rattle.dali_bus.specs.Carry.{WorldStep}
 
 -- What one frame does: every other unit keeps its memory and isn't newly enabled, and in this one each place is old, or
--- new by one of the writes
+-- new by one of the writes, or the indicator byte
 abbrev pub NowOldOrNew : List (ℕ × ℕ) → Option Gear → Option Gear → Type 0
 NowOldOrNew writes first last =
     (bank location : ℕ) → (byte_in last bank location ≡ byte_in first bank location)
     ⊎ ((byte : ℕ) × (bank ≡ 1) × Has writes location byte × IsSome (byte_in first bank location)
     × (byte_in last bank location ≡ Some byte))
+    ⊎ (IsIndicator bank location
+    × (is_some (byte_in last bank location) ≡ is_some (byte_in first bank location)))
 
 pub record Puts (writes : List (ℕ × ℕ)) (unit : ℕ) (first last : World) : Type 0 where
   pub others : (address : ℕ) → address ≢ unit → StaysAt first last address
@@ -43,12 +46,17 @@ stored_byte : (memory : Memory) (location byte bank place : ℕ)
     ⊎ ((bank ≡ 1) × (place ≡ location) × (stored memory 1 location byte bank place ≡ Some byte))
 stored_byte memory location byte bank place = grind (arith, eqb-true)
 
+-- and no place comes or goes by it, where it was there
+stored_some : (memory : Memory) (location byte bank place : ℕ) → IsSome (memory 1 location)
+    → is_some (stored memory 1 location byte bank place) ≡ is_some (memory bank place)
+stored_some memory location byte bank place there = grind (arith, eqb-true)
+
 -- where one of the writes was stored, each place is old or new
 written_new : (writes : List (ℕ × ℕ)) (old new : Option Gear) (location byte : ℕ) → Has writes location byte
     → Written location byte (memory_of old) (memory_of new) → NowOldOrNew writes old new
 written_new writes None new location byte has is = absurd is
 written_new writes (Some old) None location byte has is = absurd is
-written_new writes (Some old) (Some new) location byte has is = grind (arith, stored_byte)
+written_new writes (Some old) (Some new) location byte has is = grind (arith, stored_byte, stored_some)
 
 -- a place that is there was there
 relocked_some : (o : Option ℕ) → IsSome (relocked o) → IsSome o
@@ -66,28 +74,42 @@ relocked_all None byte some there = cc
 relocked_all (Some old) None some there = cc
 relocked_all (Some old) (Some byte) some there = refl
 
+-- a place is there after a loss of power where it was before
+relock_there : {lost : Type 0} {bank location : ℕ} (first mid : Option ℕ) → MayRelock lost bank location first mid
+    → is_some mid ≡ is_some first
+relock_there first mid (inl same) = ap is_some same
+relock_there None mid (inr (lost, above, lock, is)) = ap is_some is
+relock_there (Some byte) mid (inr (lost, above, lock, is)) = ap is_some is
+
 -- one change after another
 old_or_new_then : {lost : Type 0} (writes : List (ℕ × ℕ)) (first mid last : Option Gear)
     → OldOrNew lost writes first mid → OldOrNew lost writes mid last → OldOrNew lost writes first last
 old_or_new_then {lost} writes first mid last one two = λ bank location.
     by bank location (one bank location) (two bank location)
   where
-    by : (bank location : ℕ)
-        → MayRelock lost bank location (byte_in first bank location) (byte_in mid bank location)
-        ⊎ ((byte : ℕ) × (bank ≡ 1) × Has writes location byte × IsSome (byte_in first bank location)
-        × (byte_in mid bank location ≡ Some byte))
-        → MayRelock lost bank location (byte_in mid bank location) (byte_in last bank location)
-        ⊎ ((byte : ℕ) × (bank ≡ 1) × Has writes location byte × IsSome (byte_in mid bank location)
-        × (byte_in last bank location ≡ Some byte))
-        → MayRelock lost bank location (byte_in first bank location) (byte_in last bank location)
-        ⊎ ((byte : ℕ) × (bank ≡ 1) × Has writes location byte × IsSome (byte_in first bank location)
-        × (byte_in last bank location ≡ Some byte))
+    Changes : ℕ → ℕ → Option Gear → Option Gear → Type 0
+    Changes bank location old new =
+        MayRelock lost bank location (byte_in old bank location) (byte_in new bank location)
+        ⊎ ((byte : ℕ) × (bank ≡ 1) × Has writes location byte × IsSome (byte_in old bank location)
+        × (byte_in new bank location ≡ Some byte))
+        ⊎ (IsIndicator bank location × (is_some (byte_in new bank location) ≡ is_some (byte_in old bank location)))
+
+    by : (bank location : ℕ) → Changes bank location first mid → Changes bank location mid last
+        → Changes bank location first last
     by bank location (inl old) (inl new) =
         inl (relock_then (byte_in first bank location) (byte_in mid bank location) (byte_in last bank location) old new)
-    by bank location (inl old) (inr new) =
-        inr (new.0, new.1, new.2, was_there (byte_in first bank location) (byte_in mid bank location) old new.3, new.4)
-    by bank location (inr old) (inl (inl same)) = inr (old.0, old.1, old.2, old.3, same ∙ old.4)
-    by bank location (inr old) (inl (inr (lost, above, lock, is))) =
+    by bank location (inl old) (inr (inl new)) =
+        inr (inl (
+          new.0,
+          new.1,
+          new.2,
+          was_there (byte_in first bank location) (byte_in mid bank location) old new.3,
+          new.4,
+        ))
+    by bank location (inl old) (inr (inr new)) =
+        inr (inr (new.0, new.1 ∙ relock_there (byte_in first bank location) (byte_in mid bank location) old))
+    by bank location (inr (inl old)) (inl (inl same)) = inr (inl (old.0, old.1, old.2, old.3, same ∙ old.4))
+    by bank location (inr (inl old)) (inl (inr (lost, above, lock, is))) =
         let there : IsSome (byte_in mid bank location) = subst (λ (o : Option ℕ). IsSome o) (sym old.4) refl in
         inl (inr (
           lost,
@@ -95,7 +117,14 @@ old_or_new_then {lost} writes first mid last one two = λ bank location.
           lock,
           is ∙ relocked_all (byte_in first bank location) (byte_in mid bank location) old.3 there,
         ))
-    by bank location (inr old) (inr new) = inr (new.0, new.1, new.2, old.3, new.4)
+    by bank location (inr (inl old)) (inr (inl new)) = inr (inl (new.0, new.1, new.2, old.3, new.4))
+    by bank location (inr (inl old)) (inr (inr new)) =
+        inr (inr (new.0, new.1 ∙ ap is_some old.4 ∙ sym old.3))
+    by bank location (inr (inr old)) (inl new) =
+        inr (inr (old.0, relock_there (byte_in mid bank location) (byte_in last bank location) new ∙ old.1))
+    by bank location (inr (inr old)) (inr (inl new)) =
+        inr (inl (new.0, new.1, new.2, subst (λ (there : Bool). there ≡ true) old.1 new.3, new.4))
+    by bank location (inr (inr old)) (inr (inr new)) = inr (inr (new.0, new.1 ∙ old.1))
 
 -- one part of a run after another
 pub touches_then : {loses : ℕ → Type 0} (writes : List (ℕ × ℕ)) (unit : ℕ) (first mid last : World)

@@ -2,6 +2,7 @@
 use Rattle.std.specs.Prelude.{◌≡◌, ◌≢◌, ◌⊎◌, ℕ, Bool, false, List, [], ◌∷◌, ◌++◌, Option, Some, None, IsSome, is_some}
 use Rattle.std.specs.Option.{option_map}
 use Rattle.dali_bus.specs.World.{World, Gear, Memory, stored, byte_at, is_enabled}
+use Rattle.dali_bus.specs.Hears.{MayIndicate}
 use Rattle.dali_bus.specs.Power.{MayRelock}
 use Rattle.dali_bus.specs.Carry.{BusEvent, HasLostPower}
 use Rattle.dali_bus.specs.Chain.{Chain}
@@ -62,9 +63,10 @@ Selects unit location told =
 abbrev pub OnlyEnabled : ℕ → World → Type 0
 OnlyEnabled unit world = (address : ℕ) → address ≢ unit → is_enabled world address ≡ false
 
--- the memory has the location of bank 1, and the new one holds the byte there and is otherwise the same
+-- the memory has the location of bank 1, and the new one holds the byte there and is otherwise the same, but that its
+-- indicator byte may be another
 abbrev pub Written : ℕ → ℕ → Option Memory → Option Memory → Type 0
-Written location byte (Some old) (Some new) = IsSome (old 1 location) × (new ≡ stored old 1 location byte)
+Written location byte (Some old) (Some new) = IsSome (old 1 location) × MayIndicate (stored old 1 location byte) new
 Written location byte (Some old) None = ⊥
 Written location byte None new = ⊥
 

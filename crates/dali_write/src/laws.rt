@@ -179,7 +179,8 @@ pub fn readers_are_quiet()
 
 /// Where no other unit is enabled, a session changes only the places that it writes, at its unit,
 /// and each of them holds its old byte or a written one. No other unit's memory changes, and none
-/// is newly enabled. Lock bytes of units that lose their power may change besides.
+/// is newly enabled. Lock bytes of units that lose their power, and its unit's indicator byte, may
+/// change besides.
 pub fn sessions_touch_their_places_alone()
     ensures opened { (loses : List ℕ) (told : List Exchange) (first last : World) (unit : ℕ)
         (pace : Pace) (updates : List (ℕ × ℕ)) (ask : Ask)

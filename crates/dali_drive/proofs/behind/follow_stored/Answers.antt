@@ -1,6 +1,5 @@
 use Rattle.std.proofs.Common.{refl, subst, ℕ}
 use Rattle.dali_drive.specs.Behind.{IsWhole}
-use Rattle.dali_drive.proofs.FollowLemmas.{breaks_less}
 use Rattle.dali_drive.proofs.StoreLemmas.{driven_part}
 use Rattle.dali_drive.proofs.behind.follow_stored.Goals as goal
 
@@ -34,13 +33,8 @@ returns-in-Err-follow-clause-broken g c = record {
     whole = subst (λ (n : ℕ). IsWhole c.args.older n c.in-Ok.own c.in-Ok-joined.whole)
         c.in-Ok.ensures.journal.found.loaded.0 c.in-Ok-joined.ensures.ok;
   };
-  observed =
-      let o = rw (c.with_pace.ensures.journal, c.with_pace.ensures.pace, c.in-Ok.ensures.only) at
-      c.in-Err-follow.ensures.broken in record {
-        given = o.given;
-        gave_all = o.gave_all;
-        breaks = breaks_less _ _ _ _ _ _ _ _ _ (λ d left. (c.in-Ok.ensures.settled, left)) o.breaks;
-      };
+  observed = rw (c.with_pace.ensures.journal, c.with_pace.ensures.pace, c.in-Ok.ensures.only) at
+      c.in-Err-follow.ensures.broken;
 }
 
 pub returns-in-Err-joined-clause-broken : goal.returns-in-Err-joined-clause-broken
@@ -53,7 +47,7 @@ returns-in-Err-joined-clause-broken g c = record {
   };
   why = c.in-Err-joined.ensures.err;
   streams = c.in-Ok.ensures.only;
-  settled = c.in-Ok.ensures.settled;
+  settled = c.in-Ok.ensures.ahead.1;
   ungiven = refl;
   untold = refl;
 }
@@ -63,11 +57,11 @@ returns-in-Ok-follow-clause-any_moment g c =
     driven_part (λ (desk : g.row.D.Denot). (g.D.Desk.look desk).streams.journal)
     (λ (desk : g.row.D.Denot). (g.D.Desk.look desk).may_leave) g.D.Desk.moment g.D.Desk.left_since
     c.args.terms.orders c.args.terms.bytes _ _ _ _ c.in-Ok.ensures.journal c.in-Ok.ensures.holds
-    c.in-Ok.ensures.any_moment (c.in-Ok-follow.ensures.grown.leaves c.in-Ok.ensures.settled)
+    c.in-Ok.ensures.any_moment c.in-Ok-follow.ensures.grown.leaves
 
 pub returns-in-Err-follow-clause-any_moment : goal.returns-in-Err-follow-clause-any_moment
 returns-in-Err-follow-clause-any_moment g c =
     driven_part (λ (desk : g.row.D.Denot). (g.D.Desk.look desk).streams.journal)
     (λ (desk : g.row.D.Denot). (g.D.Desk.look desk).may_leave) g.D.Desk.moment g.D.Desk.left_since
     c.args.terms.orders c.args.terms.bytes _ _ _ _ c.in-Ok.ensures.journal c.in-Ok.ensures.holds
-    c.in-Ok.ensures.any_moment (c.in-Err-follow.ensures.grown.leaves c.in-Ok.ensures.settled)
+    c.in-Ok.ensures.any_moment c.in-Err-follow.ensures.grown.leaves

@@ -6,7 +6,7 @@ use Rattle.dali_trace.specs.Replies.{reply_line}
 use Rattle.dali_drive.specs.Driven.{IsNextFrame}
 use Rattle.dali_drive.specs.Lines.{TakesText}
 use Rattle.dali_drive.specs.Transcript.{link_shown}
-use Rattle.dali_drive.proofs.DriveLemmas.{keeps_on, sends_on, says_on, breaks_record, breaks_exchange, breaks_saying, stands_so, told_of_end}
+use Rattle.dali_drive.proofs.DriveLemmas.{keeps_on, sends_on, says_on, breaks_record, breaks_exchange, breaks_saying, none_unasked, stands_so, told_of_end}
 use Rattle.dali_drive.proofs.DriveLemmas.{IsCut}
 use Rattle.dali_store.proofs.Betweens.{settled_between}
 use Rattle.dali_drive.proofs.DeskLemmas.{still}
@@ -19,6 +19,7 @@ returns-then-not-keep-clause-worked g c = record {
       rw c.if-not-keep.ensures.only (record {
         more = [];
         unasked = [];
+        ahead = refl;
         then = _;
         driven = d.driven;
         asked = refl;
@@ -41,13 +42,14 @@ returns-in-Err-clause-worked g c = record {
       rw c.in-Err.ensures.only (record {
         more = [];
         unasked = [];
+        ahead = none_unasked c.in-Err.fault c.in-Send.frame _ _ c.in-Err.ensures.broken;
         then = _;
         driven = d.driven;
         asked = refl;
         said = Appends-nil (g.D.Desk.look c.args.desk.now).streams.out;
         broken = λ rest. breaks_exchange c.in-Err.fault start past rest _ _ _ _ _ _ c.in-Send.frame next
             c.in-Err.ensures.broken;
-        left = λ d left. settled_between _ _ left.0 d (c.in-Err.ensures.left d left.1);
+        left = settled_between _ _ (rw c.in-Err.ensures.only at c.in-Err.ensures.settled);
         told_all =
             told_of_end c.in-Err.fault (g.B.Observer.told start since c.see_end.new.self)
             (g.B.Observer.told_end start since c.see_end.new.self) start past
@@ -68,6 +70,7 @@ returns-then-not-say-clause-worked g c = record {
   came_of_it = λ start past first since d told. rw c.if-not-say.ensures.only (record {
     more = [];
     unasked = [];
+    ahead = refl;
     then = _;
     driven = d.driven;
     asked = refl;
@@ -76,7 +79,7 @@ returns-then-not-say-clause-worked g c = record {
         (c.in-Say.ensures.done start past d.described d.follows (Answered c.in-Say.id c.in-Say.reply) refl)
         (subst (IsCut _ _) {y = reply_line c.in-Say.id c.in-Say.reply} (c.deref-in-Say.ensures.0 ∙ c.reply_line.ensures)
         (c.if-not-say.ensures.cut refl));
-    left = λ d left. settled_between _ _ left.0 d (c.if-not-say.ensures.left d left.1);
+    left = settled_between _ _ (rw c.if-not-say.ensures.only at c.if-not-say.ensures.settled);
     told_all = told;
   });
   ends = search rules;
@@ -177,6 +180,6 @@ returns-in-Idle-clause-worked g c = record {
   };
   ends = search rules;
   grown =
-      still g.D.Desk.look g.D.Desk.moment g.D.Desk.left_since g.D.Desk.same c.args.desk.now
+      still g.D.Desk.look g.D.Desk.moment g.D.Desk.left_since g.D.Desk.same c.args.desk.now c.requires.ahead.1
       (g.met.D.Desk.only_now c.args.desk.now) (g.met.D.Desk.same_now c.args.desk.now);
 }

@@ -7,7 +7,7 @@ use Rattle.dali_drive.specs.Transcript.{Streams}
 use Rattle.dali_drive.specs.WorkedOn.{IsDrivenAt}
 use Rattle.dali_drive.proofs.DriveLemmas.{replied_at, reply_next, asks_on, breaks_saying, breaks_memory, IsCut, stands_so}
 use Rattle.dali_store.proofs.Betweens.{settled_between}
-use Rattle.dali_drive.proofs.DeskLemmas.{still, still_settled, grows_on}
+use Rattle.dali_drive.proofs.DeskLemmas.{still, grows_on}
 use Rattle.dali_drive.proofs.WorkLemmas.{then_work}
 use Rattle.dali_drive.proofs.driving.carry_out.Goals as goal
 
@@ -16,6 +16,7 @@ returns-in_default-clause-worked g c = record {
   came_of_it = λ start past first since d quiet told. record {
     more = [];
     unasked = (c.args.order, c.args.moment) ∷ [];
+    ahead = refl;
     then = _;
     driven = d.driven;
     asked = refl;
@@ -23,12 +24,12 @@ returns-in_default-clause-worked g c = record {
     broken = λ rest.
         breaks_memory start past c.args.order c.args.moment rest _ _ _ _ d.described.finished quiet
         (rw c.copy.ensures.value at (c.in_default.ensures.due start past d.described));
-    left = λ d left. settled_between _ _ left.0 d left.1;
+    left = settled_between _ _ c.requires.ready.1.1;
     told_all = told;
   };
   ends = search rules;
   grown =
-      still g.D.Desk.look g.D.Desk.moment g.D.Desk.left_since g.D.Desk.same c.args.desk.now
+      still g.D.Desk.look g.D.Desk.moment g.D.Desk.left_since g.D.Desk.same c.args.desk.now c.requires.ready.1.1
       (g.met.D.Desk.only_now c.args.desk.now) (g.met.D.Desk.same_now c.args.desk.now);
 }
 
@@ -41,6 +42,7 @@ returns-then-not-say-clause-worked g c = record {
       rw c.if-not-say.ensures.only (record {
         more = Asked order c.args.moment ∷ [];
         unasked = [];
+        ahead = refl;
         then = _;
         driven = asks_on start past first _ order c.args.moment d.driven quiet described.legal.0;
         asked = refl;
@@ -50,7 +52,7 @@ returns-then-not-say-clause-worked g c = record {
             (reply_next start past order c.args.moment c.in-Ok.reply described.legal follows.planned)
             (subst (IsCut _ _) (c.deref.ensures.0 ∙ c.reply_line.ensures
             ∙ ap (λ (n : ℕ). reply_line n c.in-Ok.reply) c.id-id.ensures) (c.if-not-say.ensures.cut refl));
-        left = λ d left. settled_between _ _ left.0 d (c.if-not-say.ensures.left d left.1);
+        left = settled_between _ _ (rw c.if-not-say.ensures.only at c.if-not-say.ensures.settled);
         told_all =
             c.see.ensures start since past told
             (stands_so start _ c.submit.new.self _ described c.journal.ensures) refl;
@@ -79,9 +81,7 @@ returns-clause-worked g c = record {
       (replied_at _ _ _ _ _ _ _ _ _ _ _ _ c.in-Ok.reply d quiet described follows said) in
       then_work c.work.result start past ((order, c.args.moment) ∷ []) [] first c.submit.new.self _
       (g.D.Desk.look c.args.desk.now) (g.D.Desk.look c.say.new.self) _ (g.B.Observer.told start since c.see-2.new.self)
-      _ _ (still_settled (g.D.Desk.look c.args.desk.now) (g.D.Desk.look c.say.new.self)
-      c.if-not-say.ensures.only c.if-not-say.ensures.left)
-      (record {
+      _ _ (record {
         more = Answered order.id c.in-Ok.reply ∷ Asked order c.args.moment ∷ [];
         driven_at = d_next;
         asked = refl;
@@ -91,6 +91,5 @@ returns-clause-worked g c = record {
   ends = search rules;
   grown =
       grows_on g.D.Desk.look g.D.Desk.moment g.D.Desk.left_since g.D.Desk.same g.met.D.Desk.same_on _ _ _
-      c.if-not-say.ensures.grown (still_settled (g.D.Desk.look c.args.desk.now) (g.D.Desk.look c.say.new.self)
-      c.if-not-say.ensures.only c.if-not-say.ensures.left) c.work.ensures.worked.grown;
+      c.if-not-say.ensures.grown c.work.ensures.worked.grown;
 }

@@ -21,4 +21,4 @@ returns-clause-broken g c =
     c.follow.ensures.broken
 
 pub returns-clause-settled : goal.returns-clause-settled
-returns-clause-settled g c = ends_settled c.follow.result _ _ c.follow.ensures.ends
+returns-clause-settled g c = ends_settled c.follow.result _ c.follow.ensures.ends

@@ -1,6 +1,6 @@
 use Rattle.std.proofs.Common.{[], ◌∷◌, refl, inl, inr, arith}
 use Rattle.std.proofs.lemmas.Result.{err_from_is_err_and}
-use Rattle.dali_drive.proofs.FollowLemmas.{begins, begins_broken, breaks_less}
+use Rattle.dali_drive.proofs.FollowLemmas.{begins, begins_broken}
 use Rattle.dali_drive.proofs.DeskLemmas.{grows_on}
 use Rattle.dali_drive.proofs.following.follow.Goals as goal
 
@@ -14,8 +14,7 @@ loop-init g c =
       follow = begun.0;
       told = begun.1;
       rests = c.in_ok-begin.ensures.done.0;
-      unfailed = c.in_ok-begin.ensures.worked.ends.0;
-      settles = c.in_ok-begin.ensures.worked.ends.1;
+      ahead = c.in_ok-begin.ensures.worked.ends;
       grown = c.in_ok-begin.ensures.worked.grown;
     }
 
@@ -46,14 +45,13 @@ returns-in_err-take-clause-broken g c =
     rw (p.1, p.2) (record {
       given = c.in-Some.given ∷ i.given;
       gave_all = c.in-Some.ensures.given c.args.orders.now i.given i.gave;
-      breaks = breaks_less _ _ _ _ _ _ _ _ _ (λ d left. (i.settles left.0, left.1)) broken;
+      breaks = broken;
     })
 
 pub returns-in_err-take-clause-grown : goal.returns-in_err-take-clause-grown
 returns-in_err-take-clause-grown g c =
     grows_on g.D.Desk.look g.D.Desk.moment g.D.Desk.left_since g.D.Desk.same g.met.D.Desk.same_on _ _ _
-    c.loop.invariant.grown c.loop.invariant.settles
-    c.in_err-take.ensures.worked.grown
+    c.loop.invariant.grown c.in_err-take.ensures.worked.grown
 
 pub loop-preserved : goal.loop-preserved
 loop-preserved g c =
@@ -66,11 +64,9 @@ loop-preserved g c =
       follow = next.0;
       told = next.1;
       rests = c.in_ok-take.ensures.rests;
-      unfailed = c.in_ok-take.ensures.worked.ends.0;
-      settles = λ settled. c.in_ok-take.ensures.worked.ends.1 (i.settles settled);
+      ahead = c.in_ok-take.ensures.worked.ends;
       grown = grows_on g.D.Desk.look g.D.Desk.moment g.D.Desk.left_since g.D.Desk.same g.met.D.Desk.same_on _ _ _
-          i.grown i.settles
-          c.in_ok-take.ensures.worked.grown;
+          i.grown c.in_ok-take.ensures.worked.grown;
     }
 
 pub returns-clause-followed : goal.returns-clause-followed

@@ -1,7 +1,7 @@
 use Rattle.std.proofs.Common.{◌≡◌, List, length}
 use Rattle.dali_engine.specs.WriterState.{start_of, IsAtRest}
 use Rattle.dali_drive.specs.declared.following.Given.{Given}
-use Rattle.dali_drive.specs.Desks.{IsDurableAt, IsUnfailed, Grows}
+use Rattle.dali_drive.specs.Desks.{IsAhead, Grows}
 use Rattle.dali_drive.specs.Followed.{happenings, IsFollowed}
 use Rattle.dali_drive.proofs.following.follow.Given as goal
 
@@ -14,7 +14,6 @@ invariant-loop g l = record {
       (g.D.Desk.look l.desk).streams;
   told : g.B.Observer.told (start_of l.fn.writer) l.fn.observer l.observer (happenings follow.steps);
   rests : IsAtRest l.writer;
-  unfailed : IsUnfailed (g.D.Desk.look l.desk).failed;
-  settles : IsDurableAt (g.D.Desk.look l.fn.desk) → IsDurableAt (g.D.Desk.look l.desk);
+  ahead : IsAhead (g.D.Desk.look l.desk);
   grown : Grows g.D.Desk.look g.D.Desk.moment g.D.Desk.left_since g.D.Desk.same l.fn.desk l.desk;
 }

@@ -1,7 +1,6 @@
 use Rattle.std.proofs.Common.{rules, refl, subst}
 use Rattle.std.specs.Io.KnownBytes.{Appends}
 use Rattle.dali_store.proofs.Betweens.{settled_between}
-use Rattle.dali_drive.specs.Desks.{LeavesSince}
 use Rattle.dali_drive.proofs.DriveLemmas.{IsCut}
 use Rattle.dali_drive.proofs.FollowLemmas.{order_on, tells_on, cuts_line}
 use Rattle.dali_drive.proofs.following.take.Goals as goal
@@ -31,10 +30,10 @@ pub returns-else-say-clause-worked : goal.returns-else-say-clause-worked
 returns-else-say-clause-worked g c = record {
   came_of_it = λ start before first since follow told.
       rw (c.in-Line.is, c.if-say.ensures.only) (cuts_line start before first _ _ _ _ _ _ follow c.in-Line.line
-      (LeavesSince (g.D.Desk.look c.args.desk.now) (g.D.Desk.look c.say.new.self))
+      (g.D.Desk.look c.say.new.self).may_leave
       (g.B.Observer.told start since c.args.observer.now)
       (g.B.Observer.told_end start since c.args.observer.now) told
-      (λ d left. settled_between _ _ left.0 d (c.if-say.ensures.left d left.1))
+      (settled_between _ _ (rw c.if-say.ensures.only at c.if-say.ensures.settled))
       (subst (IsCut _ _) c.deref.ensures.0 (c.if-say.ensures.cut refl)));
   ends = search rules;
   grown = search rules;

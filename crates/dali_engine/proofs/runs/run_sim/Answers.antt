@@ -4,7 +4,6 @@ use Rattle.dali_bus.specs.Unenabled.{NoneEnabled}
 use Rattle.dali_gear.specs.SimState.{SimState, SimStep, world_of}
 use Rattle.dali_trace.specs.declared.happening.Event.{Event}
 use Rattle.dali_trace.specs.declared.happening.Happening.{Happening}
-use Rattle.dali_trace.specs.Fits.{IsLockedAbove}
 use Rattle.dali_trace.specs.Runs.{fresh, IsRun}
 use Rattle.dali_bus.specs.Chain.{AtEachState}
 use Rattle.dali_trace.specs.Spared.{IsSpared, IsSimRun}
@@ -21,11 +20,11 @@ if_ok (Err e) P Q f p = tt
 spared_along : (limit : ℕ) (pace : Pace) (all : List Event) (first : SimState) (trace : List Happening)
     (journal : List ℕ)
     (last : SimState) (ran : IsRun (λ state. world_of state.units) SimStep limit pace all first trace journal last)
-    → NoneEnabled (world_of first.units) → IsLockedAbove (world_of first.units)
+    → NoneEnabled (world_of first.units)
     → AtEachState (IsSpared (fresh limit pace)) (reverse trace) last ran.leads.states
-spared_along limit pace all first trace journal last ran none locked =
+spared_along limit pace all first trace journal last ran none =
     all_spared (fresh limit pace) (world_of first.units) first (reverse trace) last ran.leads.states refl ran.legal
-    ran.planned ran.leads.chain ran.asked (ran.leads.right none locked)
+    ran.planned ran.leads.chain ran.asked (ran.leads.right none)
 
 pub returns-clause-ok : goal.returns-clause-ok
 returns-clause-ok c =
@@ -37,16 +36,16 @@ returns-clause-ok c =
       spared = record {
         states = ran.leads.states;
         chain = ran.leads.chain;
-        spared = λ none locked. spared_along c.args.limit c.args.pace c.args.events.now c.args.bus.now
+        spared = λ none. spared_along c.args.limit c.args.pace c.args.events.now c.args.bus.now
             outcome.trace.items
-            outcome.journal.items c.run.new.bus ran none locked;
+            outcome.journal.items c.run.new.bus ran none;
         said =
-            λ none locked newer middle older same.
+            λ none newer middle older same.
             says_as_due (fresh c.args.limit c.args.pace) (reverse c.args.events.now) newer middle older
             (reverse outcome.trace.items) c.run.new.bus ran.leads.states ran.legal ran.planned ran.parts
             (spared_along c.args.limit c.args.pace c.args.events.now c.args.bus.now outcome.trace.items
             outcome.journal.items
-            c.run.new.bus ran none locked) same;
+            c.run.new.bus ran none) same;
       };
     })
     c.run.ensures.ok

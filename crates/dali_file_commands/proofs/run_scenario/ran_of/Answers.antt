@@ -4,7 +4,7 @@ use Rattle.serde_json.specs.View.{view}
 use Rattle.dali_journal.specs.JournalState.{IsLimit}
 use Rattle.dali_trace.specs.Spared.{IsSimRun}
 use Rattle.dali_input.specs.Scenario.{planned_of}
-use Rattle.dali_input.proofs.SetupLemmas.{none_enabled, locked_above}
+use Rattle.dali_input.proofs.SetupLemmas.{none_enabled}
 use Rattle.dali_file_commands.proofs.RunLemmas.{not_run}
 use Rattle.dali_file_commands.proofs.run_scenario.ran_of.Goals as goal
 
@@ -61,7 +61,6 @@ returns-clause-ok g c =
         all = c.in_ok-bus.field-0.events.items;
         ready = ready;
         unenabled = none_enabled _ _ ready.bus.made;
-        locked = locked_above _ _ ready.bus.made;
         run = subst
             (λ limit. IsSimRun limit c.in_ok-scenario.scenario.pace c.in_ok-bus.field-0.events.items
             c.in_ok-bus.field-0.bus

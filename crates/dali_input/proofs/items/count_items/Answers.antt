@@ -3,7 +3,7 @@ use Rattle.json.specs.Lex.{tokens}
 use Rattle.json.specs.Token.{begin_array}
 use Rattle.serde_json.specs.Data.{array}
 use Rattle.dali_input.specs.ItemsLeft.{value_to_end}
-use Rattle.dali_input.proofs.ItemsLemmas.{array_is_items, counted_behind, nothing_there}
+use Rattle.dali_input.proofs.ItemsLemmas.{array_is_items, begun_somewhere, counted_behind, nothing_there}
 use Rattle.dali_input.proofs.items.count_items.Goals as goal
 
 pub returns-in-Some-BeginArray-clause-ok : goal.returns-in-Some-BeginArray-clause-ok
@@ -19,3 +19,8 @@ returns-in-Some-BeginArray-clause-json c refused =
 
 pub returns-in-None-clause-json : goal.returns-in-None-clause-json
 returns-in-None-clause-json c refused = nothing_there _ (sym c.in_ok-reader.ensures.ok ∙ c.in-None.ensures.value.0)
+
+pub returns-in-Some-BeginArray-clause-memory : goal.returns-in-Some-BeginArray-clause-memory
+returns-in-Some-BeginArray-clause-memory c refused =
+    let begun : tokens c.args.text.now ≡ begin_array ∷ c.next.new.self = grind arith in
+    begun_somewhere c.args.text.now c.next.new.self begun

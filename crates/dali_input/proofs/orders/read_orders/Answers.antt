@@ -1,7 +1,9 @@
 use Rattle.std.proofs.Common.{◌≡◌, arith}
+use Rattle.std.proofs.lemmas.Result.{err_from_is_err_and}
 use Rattle.serde_json.specs.Data.{no_items}
 use Rattle.dali_input.proofs.OrderLemmas.{none_where, some_where, at_start, order_more, order_dropped, refusal_more}
 use Rattle.dali_input.proofs.OrderLemmas.{all_orders, all_refused}
+use Rattle.dali_input.proofs.ItemsLemmas.{memory_over_items}
 use Rattle.dali_input.proofs.orders.read_orders.Goals as goal
 
 pub items-init : goal.items-init
@@ -73,3 +75,17 @@ returns-clause-refused c =
       all_refused all _ _ _ (rw none at so_far)
           (some_where c.items.refused.items _ _ c.items.refused.ok.0 c.is_empty-2.ensures c.if-is_empty-2.false),
     )
+
+pub returns-in_err-push-in-Ok-clause-err : goal.returns-in_err-push-in-Ok-clause-err
+returns-in_err-push-in-Ok-clause-err c =
+    let (all, are_items, are) = c.in_ok-items.ensures.ok in
+    let fault =
+    err_from_is_err_and c.from_residual-in_err-push-in-Ok.result c.from_residual-in_err-push-in-Ok.ensures.1 in
+    rw (fault.1, fault.2) (memory_over_items _ _ all are_items)
+
+pub returns-in_err-push-in-Err-clause-err : goal.returns-in_err-push-in-Err-clause-err
+returns-in_err-push-in-Err-clause-err c =
+    let (all, are_items, are) = c.in_ok-items.ensures.ok in
+    let fault =
+    err_from_is_err_and c.from_residual-in_err-push-in-Err.result c.from_residual-in_err-push-in-Err.ensures.1 in
+    rw (fault.1, fault.2) (memory_over_items _ _ all are_items)

@@ -21,7 +21,7 @@ returns-in-Ok-clause-answer g c =
         replies = held g.W.Write.contents c.follow_stored.new.desk.out.output;
         lost = has_failed c.follow_stored.new.desk.out.output;
         driven = driven;
-        unfailed = c.in-Ok.ensures.ready.1;
+        unfailed = c.in-Ok.ensures.ready.1.0;
         settled = c.in-Ok.ensures.settled;
         told =
             subst (λ (o : Outcome). TellsEnded c.args.task.required o c.tell_ended.result

@@ -12,6 +12,7 @@ returns-then-not-flush g c =
             (inr (refl, rw c.as_bytes.ensures.value at part)),
         search rules,
       );
+      flushed = λ written. absurd (written refl);
     }
 
 pub returns : goal.returns
@@ -27,4 +28,5 @@ returns g c =
           λ failed. cc (none, failed),
         ),
       );
+      flushed = λ written. c.if-not-flush.ensures.output refl;
     }

@@ -16,7 +16,7 @@ returns-in-Ok-clause-answer g c =
         follows = record {
           writer = c.in-Ok._writer;
           followed = followed;
-          unfailed = c.in-Ok.ensures.ready.1;
+          unfailed = c.in-Ok.ensures.ready.1.0;
           settled = c.in-Ok.ensures.settled;
         };
         told =

@@ -1,13 +1,13 @@
 -- A blank unit, alone on its bus, goes along the worked trace.
 use Rattle.std.proofs.Common.{◌≡◌, inl, inr, refl, ℕ, Bool, true, false, ◌==◌, List, [], ◌∷◌, Option, Some, None}
-use Rattle.std.proofs.Common.{if◌then◌else◌, arith, sym, ◌∙◌}
-use Rattle.std.proofs.lemmas.Bool.{eqb-true, ne_eqb}
+use Rattle.std.proofs.Common.{if◌then◌else◌}
+use Rattle.std.proofs.lemmas.Bool.{eqb-true}
 use Rattle.std.specs.Prelude.{IfSome, ⊤}
 use Rattle.dali_frame.specs.declared.forward.Frame.{Frame}
 use Rattle.dali_frame.specs.declared.forward.Frame.TheVariants.{Dtr0, Dtr1, Write, Enable, AskDtr0, AskDtr1, Read}
-use Rattle.dali_bus.specs.World.{Gear, stored, byte_in}
+use Rattle.dali_bus.specs.World.{Gear, stored}
 use Rattle.dali_bus.proofs.OpenLemmas.{is_open}
-use Rattle.dali_bus.specs.Hears.{Hears, up}
+use Rattle.dali_bus.specs.Hears.{Stores, Hears, up}
 use Rattle.dali_bus.specs.Carry.{Carry, MayHear, Answered as AnsweredBy}
 use Rattle.dali_bus.specs.Chain.{Chain}
 use Rattle.dali_journal.specs.declared.record.Code.TheVariants.{Done}
@@ -16,10 +16,10 @@ use Rattle.dali_trace.specs.declared.happening.Reply.TheVariants as replies
 use Rattle.dali_trace.specs.declared.happening.Happening.{Happening}
 use Rattle.dali_trace.specs.declared.happening.Happening.TheVariants.{Asked, Answered, Sent, Kept}
 use Rattle.dali_trace.specs.Moves.{Moves}
-use Rattle.dali_trace.specs.Fits.{Fits, IsLockedAbove, OnlyNamed}
+use Rattle.dali_trace.specs.Fits.{Fits, OnlyNamed}
 use Rattle.dali_trace.specs.Worked.{select_at, read_at, write_at, write_all, reads_of, all_written, alone, blank_unit}
 use Rattle.dali_trace.specs.Worked.{empty, first_order, asked, taken, begun, measured, opened, unlocked, locked}
-use Rattle.dali_trace.specs.Worked.{blank, lock_read, all_read_back, ended, said, first_carried_out, GoesAlong}
+use Rattle.dali_trace.specs.Worked.{lock_read, all_read_back, ended, said, first_carried_out, GoesAlong}
 use Rattle.dali_trace.proofs.WorkedLemmas.{whole_legal}
 
 -- the unit, alone, hears a frame
@@ -116,7 +116,9 @@ write_comes past gear location byte old there chain =
     let pair : Hears 5 gear (Enable 5) None on =
     record { obeyed = on; obeys = inl (refl, refl, refl); ends = inl refl } in
     let h : Hears 5 g1 (Write byte) (Some byte) g2 =
-    record { obeyed = g2; obeys = inl ((refl, rw there refl, refl), refl); ends = inl refl } in
+    let stores : Stores byte g1 g2 =
+    (refl, rw there refl, (stored gear.memory 1 location byte, (λ bank place. inl refl), refl)) in
+    record { obeyed = g2; obeys = inl (stores, refl); ends = inl refl } in
     let p1 : List Happening = Sent (Enable 5) None ∷ past in
     let p2 : List Happening = Sent (Enable 5) None ∷ p1 in
     sent (select_at 5 location p2) g1 g2 (Write byte) (Some byte)
@@ -204,7 +206,8 @@ fits : Fits (alone blank_unit) empty.records [] (alone blank_unit)
 fits = record {
   places = λ address bank location. refl;
   bytes = λ address bank location first byte lock was is. same first byte was is;
-  locks = λ address closed. inl refl;
+  locks = λ address bank above closed. inl refl;
+  indicators = λ address closed. refl;
 } where
   same : {x : Option ℕ} (first byte : ℕ) → x ≡ Some first → x ≡ Some byte → byte ≡ first
   same first byte was is = cc
@@ -215,21 +218,13 @@ only address on = off (address == 5) on where
   off true e = cc
   off false e = cc
 
-pub locked_above : IsLockedAbove (alone blank_unit)
-locked_above address bank byte above is = by (address == 5) is where
-  by : (here : Bool) → byte_in (if here then Some blank_unit else None) bank 2 ≡ Some byte → byte ≡ 0xFF
-  by true at =
-      let none : blank bank 2 ≡ None = rw (ne_eqb bank 1 (λ one. omega (arith, above, one))) refl in
-      let never : None ≡ Some byte = sym none ∙ at in cc
-  by false at = cc
-
 -- so the law's premises are met, and the unit is as the order and the rules of units say
 pub goes_along : GoesAlong
 goes_along = (
   last_gear,
   whole_comes.states,
   whole_legal,
-  record { locked = locked_above; fits = fits; only = only; chain = whole_comes.steps },
+  record { fits = fits; only = only; chain = whole_comes.steps },
   (refl, refl, refl),
   (refl, refl, refl, refl, refl, refl, refl, refl),
 )

@@ -1,0 +1,142 @@
+// The file of a journal that is only read, as a store. No contract tells of a real file: its bytes aren't known, and
+// that these calls do what a store's do is trusted.
+ghost use Rattle.std.specs.Prelude.{◌≡◌, ◌≤◌, IfOk, length, true};
+
+use crate::files::{Unread, bytes_up_to};
+use crate::store::{Store, StoreFault};
+use std::alloc::Global;
+use std::fs::File;
+use std::io;
+use std::io::{ErrorKind, Read, Seek, SeekFrom};
+
+/// The file of a journal that is only read, as a store (profile): its calls are `read` and `sync`, and any other fails.
+/// Its cause is the system's word.
+#[derive(Drop)]
+pub struct ReadFile {
+    alloc: Global,
+    file: File,
+    failed: bool,
+    // The first failure, in words for a person, where there was memory for them.
+    cause: Option<String>,
+}
+
+impl ReadFile {
+    /// The store in a file that is open to be read.
+    pub fn new(alloc: Global, file: File) -> ReadFile {
+        ReadFile {
+            alloc,
+            file,
+            failed: false,
+            cause: None,
+        }
+    }
+
+    // Notes a failure, and the words of the first one.
+    fn note(&mut self, cause: &io::Error)
+        ensures { self.new.failed ≡ true }
+    {
+        if !self.failed {
+            self.cause = format!(in self.alloc; "{cause}").ok();
+        }
+        self.failed = true;
+    }
+
+    // A call that a file has not which is only read.
+    fn refuse(&mut self)
+        ensures { self.new.failed ≡ true }
+    {
+        self.note(&io::Error::from(ErrorKind::PermissionDenied));
+    }
+
+    // All that the file has, where that are no more bytes than the limit.
+    fn bytes(&mut self, alloc: Global, limit: usize) -> Result<Vec<u8>, Unread>
+        ensures within { IfOk result (λ bytes. length bytes.items ≤ limit) }
+        ensures failed { self.new.failed ≡ self.old.failed }
+    {
+        match self.file.seek(SeekFrom::Start(0)) {
+            Ok(_) => bytes_up_to(alloc, &mut self.file, limit),
+            Err(cause) => Err(Unread::Failed(cause)),
+        }
+    }
+}
+
+impl Store for ReadFile {
+    ghost use Rattle.std.specs.Prelude.{None, ⊤};
+
+    ghost seen = { λ s. None };
+
+    ghost may_leave = { λ s c. ⊤ };
+
+    ghost moment = { λ s. 0 };
+
+    ghost left_since = { λ s t c. ⊤ };
+
+    ghost failed = { λ s. s.failed };
+
+    ghost counts_now = { λ s t c le may. tt };
+
+    ghost leaves_what_is_seen = { λ s c is. tt };
+
+    ghost only_now = { λ s c left. tt };
+
+    fn read(&mut self, alloc: Global, limit: usize) -> Result<Vec<u8>, StoreFault> {
+        match self.bytes(alloc, limit) {
+            Ok(bytes) => Ok(bytes),
+            Err(Unread::TooBig) => Err(StoreFault::TooBig),
+            Err(Unread::NoMemory) => Err(StoreFault::NoMemory),
+            Err(Unread::Failed(cause)) => {
+                self.note(&cause);
+                Err(StoreFault::Failed)
+            }
+        }
+    }
+
+    fn append(&mut self, _bytes: &[u8]) -> Option<usize> {
+        self.refuse();
+        None
+    }
+
+    fn cut(&mut self, _len: usize) -> bool {
+        self.refuse();
+        false
+    }
+
+    fn replace(&mut self, _bytes: &[u8]) -> bool {
+        self.refuse();
+        false
+    }
+
+    fn sync(&mut self) -> bool {
+        match settle_read(&self.file) {
+            Ok(()) => true,
+            Err(cause) => {
+                self.note(&cause);
+                false
+            }
+        }
+    }
+
+    fn has_failed(&self) -> bool {
+        self.failed
+    }
+
+    fn cause(&self) -> Option<&str> {
+        match &self.cause {
+            Some(words) if self.failed => Some(words.as_str()),
+            _ => None,
+        }
+    }
+}
+
+/// Waits until what a file gives is on the disk (profile). What can't be synced, as a pipe or a disk that is only read,
+/// has nothing to lose.
+pub fn settle_read(file: &File) -> io::Result<()> {
+    match file.sync_all() {
+        Err(cause)
+            if matches!(
+                cause.kind(),
+                ErrorKind::InvalidInput | ErrorKind::ReadOnlyFilesystem
+            ) => Ok(()),
+        ended => ended,
+    }
+}

@@ -13,7 +13,10 @@ import sys
 import frames
 
 FRAME_LINE = re.compile(rb"([0-9A-F]{4})\n")
-NO_ANSWER = b"--"
+NO_ANSWER, YES = b"--", b"FF"
+# Forward frames that YES alone answers: COMPARE, QUERY MISSING SHORT ADDRESS to all; and of QUERY CONTROL GEAR PRESENT
+# to one short address the second byte.
+COMPARE, ASK_MISSING, ASK_PRESENT = 0xA900, 0xFF96, 0x91
 # A name by which a command opens a descriptor that it was started with.
 OF_A_DESCRIPTOR = re.compile("/(?:dev|proc/self)/fd/([0-9]+)")
 
@@ -49,11 +52,23 @@ def answer_to(line, carry):
     known = FRAME_LINE.fullmatch(line)
     if not known:
         raise Broken(f"the command's line {shown(line)} isn't four upper-case hexadecimal digits and a line feed, as of"
-                     " drive, read, verify and scan")
+                     " drive, read, verify, scan and address")
     try:
         return carry(known[1])
     except OSError as fault:
         raise Broken(words_of(fault)) from fault
+
+
+def only_yes_answers(word):
+    """Tell whether YES is all that a unit may answer to a forward frame, given as a number of sixteen bits."""
+    address_byte, second = divmod(word, 0x100)
+    is_to_one = address_byte < 0x80 and address_byte % 2 == 1
+    return word in (COMPARE, ASK_MISSING) or is_to_one and second == ASK_PRESENT
+
+
+def damaged(frame):
+    """Give the answer to a frame, of four digits, to which what came is no valid backward frame (docs/LINK.md)."""
+    return YES if only_yes_answers(int(frame, 16)) else NO_ANSWER
 
 
 def words_of(fault):
@@ -89,13 +104,21 @@ def serve(carry, words):
     return max(least, status if status >= 0 else 128 - status)
 
 
+def options_and_words(parser, arguments):
+    """Read a command line: the options, and behind -- the words of the command."""
+    end = arguments.index("--") if "--" in arguments else len(arguments)
+    options, unknown = parser.parse_known_args(arguments[:end])
+    if unknown:
+        parser.error(f"unrecognized arguments: {' '.join(unknown)}: put -- before the command")
+    if not arguments[end + 1:]:
+        parser.error("there is no command: put -- and its words behind the options")
+    return options, arguments[end + 1:]
+
+
 def main(parser, open_interface, arguments):
     """Carry a command's frames over the interface that the options name, and return the status to end with."""
     frames.add_option(parser)
-    end = arguments.index("--") if "--" in arguments else len(arguments)
-    options, words = parser.parse_args(arguments[:end]), arguments[end + 1:]
-    if not words:
-        parser.error("there is no command: put -- and its words behind the options")
+    options, words = options_and_words(parser, arguments)
     try:
         carry = open_interface(options)
         return serve(frames.shown(carry) if options.frames else carry, words)

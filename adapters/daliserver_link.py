@@ -9,6 +9,7 @@ tried on hardware. Four bytes go each way: we send version 2, type 0, and the fr
 The server answers version 2, a status, the backward frame and 0; the status is 0 for no answer, 1 for an answer and
 255 for an error. An error, any other answer, none within the time limit and a connection that ended leave it open what
 became of the frame: then nothing more is sent, and the command finds its input ended. It never connects anew.
+What the server answers where several units answered at once isn't known, so no answer is told as a damaged one here.
 """
 
 import argparse
@@ -35,7 +36,7 @@ def open_server(options):
         server = socket.create_connection((options.host, options.port), options.time_limit)
         our_end, its_end = server.getsockname(), server.getpeername()
     except OSError as fault:
-        raise OSError(f"{where} can't be reached: {fault.strerror or fault}") from fault
+        raise OSError(f"{where} can't be reached: {fault.strerror or fault}: is daliserver running there?") from fault
     if our_end == its_end:
         raise OSError(f"{where} can't be reached: the connection leads back to itself")
     claim(*its_end[:2])

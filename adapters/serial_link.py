@@ -6,8 +6,9 @@
 It starts the command, hands each of its frames to the interface and each reply back, until the command closes its
 output, and ends with its status. docs/LINK.md explains it, and has both protocols. The interface's, at 38400 baud:
 we send `S`, four hexadecimal digits and a carriage return. It replies, each with a carriage return, `J` and two
-hexadecimal digits for a backward frame, `N` for none, or `X` for a damaged one. Any other reply, or none in half a
-second, leaves it open what became of the frame: then nothing more is sent, and the command finds its input ended.
+hexadecimal digits for a backward frame, `N` for none, or `X` for a damaged one, which is a yes where only YES answers.
+Any other reply, or none in half a second, leaves it open what became of the frame: then nothing more is sent, and the
+command finds its input ended.
 Options have another letter in the place of `S`, another baud rate, and a line feed in the place of a carriage return.
 """
 
@@ -22,12 +23,12 @@ import sys
 import termios
 import time
 
-from adapter import NO_ANSWER, Broken, main, shown
+from adapter import NO_ANSWER, Broken, damaged, main, shown
 
 TIME_OUT = 0.5  # seconds; within these the interface sends a frame and replies, or never
 # What ends a line, and the replies that it ends.
 CARRIAGE_RETURN, LINE_FEED = b"\r", b"\n"
-REPLY = rb"(?:J([0-9A-Fa-f]{2})|N|X)"
+REPLY = rb"(?:J(?P<digits>[0-9A-Fa-f]{2})|N|(?P<damaged>X))"
 REPLIES = {CARRIAGE_RETURN: re.compile(REPLY + rb"\r"), LINE_FEED: re.compile(REPLY + rb"\r?\n")}
 # Each baud rate of the system, with the name that the system has for it.
 BAUD_RATES = {name[1:]: getattr(termios, name) for name in dir(termios) if re.fullmatch("B[1-9][0-9]*", name)}
@@ -83,7 +84,7 @@ def carry(line, letter, end, frame):
         reply += piece
     if not (known := REPLIES[end].fullmatch(reply)):
         raise Broken(f"the interface's reply {shown(reply)} is none that it may give: {advice(reply, end)}")
-    return known[1] or NO_ANSWER
+    return damaged(frame) if known["damaged"] else known["digits"] or NO_ANSWER
 
 
 def words_of_silence(reply, request, end):

@@ -101,6 +101,7 @@ INPUTS = [
     Input("run", "events of one step", repeated('{"steps":1}', EVENTS, "]}"), 1),
     Input("run", "fates", repeated("{}", '{"limit":1,"units":[],"events":[],"fates":[', "]}"), 1),
     Input("run", "units at one address", repeated('{"address":5}', '{"limit":1,"events":[],"units":[', "]}"), 1),
+    Input("run", "a list of objects with one member", repeated('{"q":0}'), 1),
     Input("run", "an order of objects in each other", repeated(NESTED_ORDER, EVENTS, "]}"), 1),
     Input("journal", "100000 orders with all fields, version 1", journal(1), 0),
     Input("journal", "100000 orders with all fields, version 2", journal(2), 0),

@@ -2,7 +2,7 @@
 
 import re
 
-OPTION = re.compile(r"^ {2,8}(?:-\w, )?(--[a-z\d-]+)(?: <?([A-Z][^ >]*)>?)?(?:  |$)", re.MULTILINE)
+OPTION = re.compile(r"^ {2,8}(?:-\w, )?(--[a-z\d-]+)(?: [<[]?([A-Z][^] >]*)[]>]?(?: \[[^]]*\])?)?(?:  |$)", re.MULTILINE)
 ARGUMENT = re.compile(r"^  <?([A-Z]{3,})>?(?:  |$)", re.MULTILINE)
 COMMANDS = re.compile(r"^(?:Commands:|  COMMAND)\n((?: +\S.*\n)+)", re.MULTILINE)
 COMMAND = re.compile(r"^ {2,4}([a-z]+)(?:  |$)", re.MULTILINE)

@@ -159,6 +159,14 @@ def test_daliserver_goes_on_where_frames_cannot_be_shown(folder):
         want((told_to, found, server.heard), (told_to, ["--", "01"], [["0200c301", "02000b9c"]]))
 
 
+def test_daliserver_tells_no_answer_as_damaged(folder):
+    words = "A900 FF96 0B91 0BC5".split()
+    want(over_server([[NONE]] * 4, words)[:2], (7, 4 * ["--"]))
+    for word in words:
+        status, answers, _, told = over_server([[NONE], ["02FF0000"]], ["C301", word])
+        want((word, status, answers, "the server tells an error" in told), (word, 4, ["--", "end"], True))
+
+
 # What closes the link
 
 NO_FORM = "is none that it may give"
@@ -247,7 +255,8 @@ def test_daliserver_gone_at_connect(folder):
     with socket.socket() as held:
         port = refused_port(held)
         status, answers, told = run(DALISERVER, options_for(port), ["C301"])
-    words = f"error: the server at 127.0.0.1, port {port}, can't be reached: Connection refused\n"
+    words = (f"error: the server at 127.0.0.1, port {port}, can't be reached: Connection refused: is daliserver running"
+             " there?\n")
     want((status, answers, told), (2, None, words))
     for turn, words in [(["close"], "error: the server closed the connection\n"),
                         ([0.2, "close"], "error: the server closed the connection\n"),
@@ -371,7 +380,7 @@ def test_daliserver_wrong_options(folder):
             *((["--time-limit", text], no_limit) for text in ("", "0", "-1", "x", "nan", "inf", "60.1")),
             *((["--host", text], no_host) for text in ("", "a..b", "x" * 64)),
             (["--time"], "unrecognized arguments: --time"), (["--port"], "expected one argument"),
-            (["/dev/ttyUSB0"], "unrecognized arguments: /dev/ttyUSB0")]:
+            (["/dev/ttyUSB0"], "unrecognized arguments: /dev/ttyUSB0: put -- before the command")]:
         status, answers, told = run(DALISERVER, [*options_for(server.port), *options], ["A303"])
         want((options, status, answers), (options, 2, None))
         assert words in told and "error: " in told and "Traceback" not in told, (options, told)

@@ -90,7 +90,8 @@ def want_named_descriptors(script, options):
                                  pass_fds=[reads, other], text=True)
         os.close(reads)
         os.close(other)
-        wanted = f"{reads} {other} given" if is_all else f"{reads} given"
+        # Another thread may have closed a lower one in between.
+        wanted = " ".join(map(str, sorted([reads, other] if is_all else [reads]))) + " given"
         want((ended.communicate(timeout=20), ended.returncode), (("", wanted), 0))
 
 

@@ -103,6 +103,12 @@ def test_serial_answers(folder):
     want(over_serial(replies, words), (7, "-- 01 -- aF --".split(), heard, "answers -- 01 -- aF --\n"))
 
 
+def test_serial_a_damaged_answer_is_yes_where_only_yes_answers(folder):
+    words = "A900 FF96 0191 0B91 7F91 A901 A800 BB00 FF91 FE96 0A91 8191 0B90 0BC5".split()
+    want(over_serial([[b"X\r"]] * len(words), words)[:2], (7, 5 * ["FF"] + 9 * ["--"]))
+    want(over_serial([[b"N\r"], [b"J00\r"], [b"JFF\r"]], words[:3])[:2], (7, ["--", "00", "FF"]))
+
+
 def test_serial_frames_are_shown(folder):
     replies = [[b"N\r"], [b"J01\r"], [0.2, b"X\r"], []]
     words = "C301 0B9C 0B98 A303 0BC5".split()
@@ -312,7 +318,8 @@ def test_serial_a_command_that_speaks_to_no_link_is_told(folder):
     ended = subprocess.run(words, capture_output=True, text=True, timeout=9)
     interface.close()
     want((ended.returncode, ended.stderr), (1, "error: the command's line item 1 order 1 u isn't four upper-case"
-                                               " hexadecimal digits and a line feed, as of drive, read, verify and scan\n"))
+                                               " hexadecimal digits and a line feed, as of drive, read, verify, scan and"
+                                               " address\n"))
 
 
 def test_serial_hands_on_what_the_command_names(folder):

@@ -35,13 +35,18 @@ def may_run_in(folder):
     return os.access(folder, os.W_OK) and not os.statvfs(folder).f_flag & os.ST_NOEXEC
 
 
+def new_folder():
+    """Make a folder that goes with its context, in memory where programs may be run there."""
+    return tempfile.TemporaryDirectory(dir="/dev/shm" if may_run_in("/dev/shm") else None)
+
+
 def want(found, wanted, msg=None):
     """Raise unless both are equal."""
     assert found == wanted, f"found {found!r}, wanted {wanted!r}" + (f": {msg}" if msg else "")
 
 
 class BenchTest(unittest.TestCase):
-    """A test with a folder of its own, in memory where programs may be run there."""
+    """A test with a folder of its own."""
 
     maxDiff = None
 
@@ -50,7 +55,7 @@ class BenchTest(unittest.TestCase):
         # What differs is told whole: `unittest` cuts it short, or lays it line beside line, which takes it hours.
         for kind in (tuple, list, dict, bytes, Ended):
             self.addTypeEqualityFunc(kind, want)
-        room = tempfile.TemporaryDirectory(dir="/dev/shm" if may_run_in("/dev/shm") else None)
+        room = new_folder()
         self.addCleanup(room.cleanup)
         self.folder = pathlib.Path(room.name)
 

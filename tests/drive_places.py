@@ -26,10 +26,11 @@ from drive_desk import (
     goes_on,
     last_line,
     new_of,
+    put_journal,
     unread,
     unwritten,
 )
-from driven import HEADER, Ended
+from driven import HEADER, Ended, Following
 
 
 def as_nobody(desk):
@@ -79,6 +80,23 @@ class PlacesTest(BenchTest):
         desk = desk_of(self.folder, ABSENT)
         desk.journal.mkdir()
         self.assertEqual(last_line(desk.give(SILENCE)), FAULT_21)
+
+    def test_a_journal_that_has_to_be_there(self):
+        desk = desk_of(self.folder, ABSENT)
+        desk.options = ["--require-journal"]
+        for held, why in [(None, "there is no journal"), (b"", "the journal has no byte")]:
+            put_journal(desk, held)
+            told = f"error: {why}, and none is to be made: {desk.journal}\nfault 21 File\n"
+            self.assertEqual(desk.give(SILENCE), Ended(2, b"", told))
+            self.assertEqual((desk.journal.exists(), new_of(desk).exists()), (held is not None, False))
+        for held in (HEADER, ABSENT_BEGAN, OLD_ABSENT_BEGAN, ABSENT_JOURNAL):
+            put_journal(desk, held)
+            self.assertEqual((held, desk.give(SILENCE).status, desk.held()), (held, 0, ABSENT_JOURNAL))
+        stream = Following(desk.program, self.folder, ABSENT)
+        stream.options = desk.options
+        stream.journal.unlink()
+        ended = stream.give(SILENCE)
+        self.assertEqual((ended.status, ended.sent, stream.journal.exists()), (2, b"", False))
 
     def test_journal_that_is_a_named_pipe(self):
         desk = desk_of(self.folder, ABSENT)

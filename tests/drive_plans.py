@@ -6,6 +6,7 @@ import subprocess
 from functools import partialmethod
 
 from base import BenchTest, settings
+from drive_altered import At
 from drive_desk import DONE_JOURNAL, DONE_TOLD, GTIN, GTIN_BYTES, PRESENT, desk_of
 from drive_units import ALL_FIELDS, BLANK, DOUBTFUL, LEFT, LOSSY, SCENES, bank_of, finish
 from driven import Desk, Following, judge, simulated_link
@@ -20,6 +21,16 @@ COUNTS = [
     ({"order": 1, "unit": 5, "gtin": GTIN, "identification": "0011223344556677"}, 224, 81),  # 02h to 10h
     (FULL, 1652, 536),
 ]
+# The frames of a year by the short plan, by hand: the length, the format, 02h unlocked, 13h, 02h locked, both read back.
+YEAR_FRAMES = """
+    C301 0B9C A300 0B98 0BC5 0B98 0B9C
+    C301 0B9C A311 0B98 0BC5 0BC5 0B98 0B9C
+    0B81 0B81 C301 0B9C A302 0B98 C755
+    A313 0B9C 0B98 C718
+    A302 0B9C 0B98 C7FF
+    C301 0B9C A302 0B98 0BC5 0B98 0B9C
+    C301 0B9C A313 0B98 0BC5 0B98 0B9C
+""".split()
 # What one miss costs at most: all frames of a block read of sixteen locations.
 MOST_OF_A_MISS = 22
 # Answers that are lost of a GTIN order, by their frames, the frames that it then takes, and its code. Its row of 02h to
@@ -97,17 +108,9 @@ class Staying(simulated_link.Unit):
         return is_stored
 
 
-class Altering(simulated_link.Bus):
-    """A bus with unit 5 that alters the answer to one frame, counted from 1: one bit is turned."""
-
-    def __init__(self, altered):
-        super().__init__([simulated_link.Unit(5)])
-        self.altered = altered
-
-    def carry(self, word):
-        """Carry a forward frame; return the answer, which may be altered."""
-        answer = super().carry(word)
-        return answer ^ 0x40 if answer is not None and self.frames == self.altered else answer
+def altering(number):
+    """Make a bus with unit 5 that alters the answer to one frame, counted from 1: one bit is turned."""
+    return simulated_link.Bus([simulated_link.Unit(5)], altering=At(number, answer=0x40))
 
 
 def turned_run(folder, scene, stops):
@@ -133,6 +136,11 @@ class PlansTest(BenchTest):
                 self.assertEqual((desk.over(bus).told, bus.frames), (DONE_TOLD, frames))
                 judge(bus, {5: BLANK}, desk.held())
             self.assertEqual([frames_of(played(order, plan)) for plan in ("checked", "short")], [checked, short])
+
+    def test_frames_of_a_year_one_by_one(self):
+        desk = short_desk(self.folder, [YEAR], b"")
+        sent = desk.over(simulated_link.Bus([simulated_link.Unit(5)])).sent
+        self.assertEqual(sent.decode().split(), YEAR_FRAMES)
 
     def test_a_stream_by_the_short_plan(self):
         desk, bus = Following(settings["program"], self.folder, PRESENT), simulated_link.Bus([simulated_link.Unit(5)])
@@ -173,7 +181,7 @@ class PlansTest(BenchTest):
         # The reads of the row of 02h to 10h are the frames 65 to 79. It is read again by 02h and seven times two.
         order, _, short = COUNTS[3]
         for frame in range(1, short + 1):
-            desk, bus = short_desk(self.folder, [order], b""), Altering(frame)
+            desk, bus = short_desk(self.folder, [order], b""), altering(frame)
             told = desk.over(bus).told
             frames = {short + 7 + 7 * 8} if 65 <= frame <= 79 else range(short, short + MOST_OF_A_MISS + 1)
             assert told == DONE_TOLD and bus.frames in frames, (frame, told, bus.frames)
@@ -182,7 +190,7 @@ class PlansTest(BenchTest):
     def test_an_altered_byte_of_a_short_row(self):
         # 02h is read by frame 35, 13h by frame 42: rows of one location aren't read again.
         for frame, code in (34, "0 Done"), (35, "4 Doubt"), (42, "4 Doubt"):
-            desk, bus = short_desk(self.folder, [YEAR], b""), Altering(frame)
+            desk, bus = short_desk(self.folder, [YEAR], b""), altering(frame)
             self.assertIn(f"reply 1 kept {code}\n", desk.over(bus).told)
             judge(bus, {5: BLANK}, desk.held())
 
@@ -204,10 +212,13 @@ class PlansTest(BenchTest):
                 self.assertEqual((plan, [line for line in lines if " kept " in line]), (plan, [f"reply 1 kept {code}"]))
 
     def test_a_unit_that_drops_write_enable(self):
-        # Each of the seven writes behind the first one takes seven frames more, behind a try that misses.
-        desk, bus = short_desk(self.folder, PRESENT), simulated_link.Bus([Forgetful(5)])
-        self.assertEqual((desk.over(bus).told, bus.frames), (DONE_TOLD, 49 + 7 * 7))
-        judge(bus, {5: BLANK}, desk.held())
+        # Each write behind the first one takes seven frames more, behind a try that misses.
+        for name, orders, frames, writes in [("gtin", PRESENT, 49, 8), ("year", [YEAR], 44, 3),
+                                             ("full", [FULL], 536, 117)]:
+            (self.folder / name).mkdir()
+            desk, bus = short_desk(self.folder / name, orders), simulated_link.Bus([Forgetful(5)])
+            self.assertEqual((name, desk.over(bus).told, bus.frames), (name, DONE_TOLD, frames + 7 * (writes - 1)))
+            judge(bus, {5: BLANK}, desk.held())
 
     def test_a_unit_that_does_not_move_on(self):
         # Each of the six writes just behind another one misses at its second question, and takes seven frames then.

@@ -133,8 +133,8 @@ def frames_in(drawn):
 
 
 def check_totals(line, wanted):
-    """Want the line of totals, whatever time it tells."""
-    assert re.fullmatch(re.escape(wanted) + TIME, line), (line, wanted)
+    """Want the line of totals, whatever time it tells, or without that where 80 columns cut it."""
+    assert re.fullmatch(re.escape(wanted) + TIME, line) or line == (wanted + ", time ")[:79], (line, wanted)
 
 
 def desk_told(desk, answers):
@@ -172,7 +172,7 @@ class ProgressTest(BenchTest):
         desk = desk_of(self.folder, [FULL], b"")
         status, drawn, lines = seen(desk, bus_of())
         self.assertEqual((status, lines[:-1]), (0, DONE_TOLD.splitlines()))
-        check_totals(lines[-1], "not done 0, written now 1, known before 0, frames 1652, misses 0")
+        check_totals(lines[-1], "new journal, not done 0, written now 1, known before 0, frames 1652, misses 0")
         self.assertEqual(drawn[0], "1 of 1: order 1 unit 5, frame 1 of 1652, misses 0")
         self.assertEqual(frames_in(drawn), [(frame, 1652) for frame in range(1, 1653, BETWEEN)])
         assert all(", left 0:0" in line for line in drawn[2:]), drawn[2]
@@ -215,7 +215,7 @@ class ProgressTest(BenchTest):
             status, drawn, lines = seen(desk, bus_of(), columns, told)
             self.assertEqual((status, drawn[0]), (0, wide[:columns - 1]))
             assert max(map(len, drawn)) < columns, drawn
-            totals = "not done 0, written now 2, known before 0, frames 224, misses 0, time 0:00"
+            totals = "new journal, not done 0, written now 2, known before 0, frames 224, misses 0, time 0:00"
             self.assertEqual(lines[-1], totals[:columns - 1] if columns < 80 else lines[-1])
 
     def test_known_before_and_not_done(self):
@@ -224,7 +224,7 @@ class ProgressTest(BenchTest):
         first = seen(desk, bus_of())
         second = seen(desk, bus_of(), 200)
         totals = "not done 10: 2 3 4 5 6 7 8 9 .., "
-        self.assertEqual(first[2][-1][:79], (totals + "written now 1, known before 0, frames 272, misses 80")[:79])
+        self.assertEqual(first[2][-1], ("new journal, " + totals + "written now 1, known before 0, frames 272")[:79])
         check_totals(second[2][-1], totals + "written now 0, known before 1, frames 0, misses 0")
         self.assertEqual(second[1], [])
 
@@ -240,7 +240,8 @@ class ProgressTest(BenchTest):
         at_terminal(desk, 200)
         told = desk_told(desk, b"--\n01\n")
         self.assertEqual(told[:-1], ["reply 4 taken", "drive fault 4 End"])
-        check_totals(told[-1], "not done 1: 4, not reached 2, written now 0, known before 0, frames 2, misses 0")
+        totals = "not done 1: 4, not reached 2, written now 0, known before 0, frames 2, misses 0"
+        check_totals(told[-1], "new journal, " + totals)
 
     def test_no_terminal(self):
         for options in [], ["--short-plan"]:
@@ -249,7 +250,7 @@ class ProgressTest(BenchTest):
             told = desk.over(bus_of()).told
             frames = 49 if options else 112
             assert told.startswith(DONE_TOLD) and "\x1b" not in told and "\r" not in told, told
-            totals = f"not done 0, written now 1, known before 0, frames {frames}, misses 0"
+            totals = f"new journal, not done 0, written now 1, known before 0, frames {frames}, misses 0"
             check_totals(told.removeprefix(DONE_TOLD).removesuffix("\n"), totals)
 
     def test_refused_orders_have_no_totals(self):
@@ -257,7 +258,11 @@ class ProgressTest(BenchTest):
             desk = desk_of(self.folder, orders, b"")
             plain = desk.give(b"")
             desk.options = ["--progress"]
-            self.assertEqual(desk.give(b""), plain)
+            ended = desk.give(b"")
+            self.assertEqual((ended.status, ended.sent), (plain.status, plain.sent))
+            # Behind its lines stands what `check` tells of ORDERS.
+            assert ended.told.startswith(f"{plain.told}ORDERS {desk.orders} is refused:\n"), ended.told
+            assert "not done" not in ended.told, ended.told
 
     def test_time_left(self):
         desk, bus = desk_of(self.folder, [FULL], b""), Slow(simulated_link.Unit(5))
@@ -275,7 +280,7 @@ class ProgressTest(BenchTest):
         self.assertEqual((status, lines[:3]), (0, ["ready", *DONE_TOLD.splitlines()]))
         self.assertEqual([drawn[0], drawn[-1][:30]],
                          ["1: order 1 unit 5, frame 1 of 112, misses 0", "2: order 7 unit 5, frame 97 of"])
-        check_totals(lines[-1], "not done 0, written now 2, known before 0, frames 224, misses 0")
+        check_totals(lines[-1], "new journal, not done 0, written now 2, known before 0, frames 224, misses 0")
 
     def test_a_comparison(self):
         orders = [FULL, {**YEAR, "order": 2, "year": 25}]

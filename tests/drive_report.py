@@ -2,10 +2,20 @@
 
 import json
 
-from base import BenchTest, want
-from drive_desk import ABSENT, ABSENT_BEGAN, ABSENT_JOURNAL, DONE_JOURNAL, PRESENT, absent_records, desk_of, last_line
+from base import BenchTest, settings, want
+from drive_desk import (
+    ABSENT,
+    ABSENT_BEGAN,
+    ABSENT_JOURNAL,
+    DONE_JOURNAL,
+    PRESENT,
+    absent_records,
+    desk_of,
+    last_line,
+    put_journal,
+)
 from drive_units import BLANK, LEFT, SCENES
-from driven import HEADER, NAMES, Desk, Ended, simulated_link
+from driven import HEADER, NAMES, Desk, Ended, Following, simulated_link
 
 UNTOLD = "error: the report can't be written: {}: {}\n"
 DONE = "reply 1 kept 0 Done\n"
@@ -162,8 +172,9 @@ class ReportTest(BenchTest):
             ("one before and one now", PRESENT + second, DONE_JOURNAL, (5,), 0, 1),
             ("twice in ORDERS", PRESENT + PRESENT, None, (5,), 0, 1),
             ("resumed", [], begun, (5,), 0, 0),
-            ("resumed and come again", PRESENT, begun, (5,), 0, 0),
-            ("resumed and come twice", PRESENT + PRESENT, begun, (5,), 0, 0),
+            # Its end is told once, so when the order comes it is known.
+            ("resumed and come again", PRESENT, begun, (5,), 0, 1),
+            ("resumed and another", second, begun, (5,), 0, 0),
             ("silent", PRESENT, None, (), 1, 1),
             ("reused", other, DONE_JOURNAL, (5,), 1, 1),
             ("nothing", [], None, (), 1, 1),
@@ -183,6 +194,22 @@ class ReportTest(BenchTest):
                                  (name, options, status, told != ""))
                 if not orders and journal != begun:
                     self.assertEqual((name, options, ended), (name, options, Ended(status, b"", told)))
+
+    def test_an_end_is_told_once(self):
+        lines = [*PRESENT, {"order": 2, "unit": 5, "year": 24}, *PRESENT]
+        for journal, wanted in [
+            (DONE_JOURNAL[:-4], [(1, "now"), (1, "before"), (2, "now"), (1, "before")]),
+            (DONE_JOURNAL, [(1, "before"), (2, "now"), (1, "before")]),
+            (None, [(1, "now"), (2, "now"), (1, "before")]),
+        ]:
+            for form in (Desk, Following):
+                desk = form(settings["program"], self.folder, lines)
+                put_journal(desk, journal)
+                path = reporting(desk, "--require-now")
+                path.unlink(missing_ok=True)
+                status = desk.over(blank_bus(5)).status
+                told = [(line["order"], line["ended"]) for line in lines_of(path)]
+                self.assertEqual((form, journal, status, told), (form, journal, 1, wanted))
 
     def test_nothing_done_where_that_can_not_be_told(self):
         desk = desk_of(self.folder, [])
@@ -269,7 +296,7 @@ class ReportTest(BenchTest):
             reporting(desk, "--moment", "8", "--require-done")
             ended = desk.over(bus)
             first, second = lines_of(path, run)
-            self.assertEqual((frame, ended.status, second), (frame, 0, kept(1, 5, 0, "now", 0, 0, 7)))
+            self.assertEqual((frame, ended.status, second), (frame, 0, kept(1, 5, 0, "before", 0, 0, 7)))
             self.assertEqual((frame, first), (frame, kept(1, 5, 0, "now", len(ended.sent) // 5, first["misses"], 7)))
 
     def test_answers_that_break_a_drive_off(self):

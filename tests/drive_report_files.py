@@ -21,7 +21,7 @@ from drive_desk import (
 from drive_report import DONE, UNTOLD, Verifying, blank_bus, kept, lines_of, reporting, text_of
 from driven import HEADER, Ended, Following, line_from
 
-FOREIGN = "what is there is no report"
+FOREIGN = "line {} there is none of a report: name another file, or take that line out"
 TAKEN = "the command has this file for something else"
 IN_USE = "another command writes it"
 BEFORE = kept(1, 5, 0, "before", 0, 0)
@@ -94,22 +94,37 @@ class ReportFilesTest(BenchTest):
         before = text_of({**LAST, "run": 6})
         for line in (LAST, END, FOUND):
             torn = text_of({**line, "run": 7})
-            for count in range(1, len(torn)):
-                path.write_text(before + torn[:count])
-                # A line of which just the line feed is missing is a whole one.
-                run = 8 if count == len(torn) - 1 else 7
-                wanted = before + torn[:count] + "\n" + text_of({**BEFORE, "run": run})
-                self.assertEqual((count, desk.give(b"").status, path.read_text()), (count, 0, wanted))
+            for zeros in ("", "\0", "\0" * 5000):
+                for count in range(len(torn)):
+                    path.write_text(before + torn[:count] + zeros)
+                    # A line of which just the line feed is missing is a whole one; else it is cut away.
+                    whole = count == len(torn) - 1
+                    wanted = before + (torn if whole else "") + text_of({**BEFORE, "run": 8 if whole else 7})
+                    self.assertEqual((zeros, count, desk.give(b"").status, path.read_text()), (zeros, count, 0, wanted))
             self.assertEqual((desk.give(b"").status, path.read_text()), (0, wanted + text_of({**BEFORE, "run": 9})))
+
+    def test_what_a_cut_may_leave(self):
+        desk = desk_of(self.folder, PRESENT, DONE_JOURNAL)
+        path = reporting(desk)
+        good = text_of({**LAST, "run": 6})
+        for held, left in [("", "\0"), ("", "\0" * 5000), ("", "{"), (good, '{"code":' + "0" * 2040),
+                           (good + "\n", ""), (good + "\n" + good, "\0\0"), ("\n", "{\"cau")]:
+            path.write_text(held + left)
+            # What has nothing to tell leaves it.
+            desk.write_orders([])
+            self.assertEqual((left, desk.give(b"").status, path.read_text()), (left, 0, held + left))
+            desk.write_orders(PRESENT)
+            wanted = held + text_of({**BEFORE, "run": 7 if good in held else 1})
+            self.assertEqual((left, desk.give(b"").status, path.read_text()), (left, 0, wanted))
 
     def test_a_torn_line_in_the_middle(self):
         desk = desk_of(self.folder, PRESENT, DONE_JOURNAL)
         path = reporting(desk)
         held = text_of(LAST) + text_of(LAST)[:50] + "\n"
-        for text, run in [(held, 4), (held + text_of({**LAST, "run": 9}), 10), (held * 200, 4), ("{\n", 1), ("{", 1)]:
+        for text, run in [(held, 4), (held + text_of({**LAST, "run": 9}), 10), (held * 200, 4), ("{\n", 1)]:
             path.write_text(text)
             self.assertEqual(desk.give(b"").status, 0)
-            self.assertEqual(path.read_text(), text.rstrip("\n") + "\n" + text_of({**BEFORE, "run": run}))
+            self.assertEqual(path.read_text(), text + text_of({**BEFORE, "run": run}))
 
     def test_the_longest_lines(self):
         desk = desk_of(self.folder, PRESENT, DONE_JOURNAL)
@@ -140,12 +155,11 @@ class ReportFilesTest(BenchTest):
             ended = desk.give(b"", preexec_fn=limited, restore_signals=False)
             untold = f"error: the report can't be written: {path}: "
             self.assertEqual((more, ended.status, ended.told[:len(DONE + untold)]), (more, 2, DONE + untold))
-            torn = held + text_of({**BEFORE, "run": 2})[:more]
-            self.assertEqual((more, path.read_text()), (more, torn))
-            ends = "\n" if more else ""
-            run = 3 if more > 100 else 2
-            self.assertEqual((more, desk.give(b"").status, path.read_text()),
-                             (more, 0, torn + ends + text_of({**BEFORE, "run": run})))
+            line = text_of({**BEFORE, "run": 2})
+            self.assertEqual((more, path.read_text()), (more, held + line[:more]))
+            whole = more == len(line) - 1
+            wanted = held + (line if whole else "") + text_of({**BEFORE, "run": 3 if whole else 2})
+            self.assertEqual((more, desk.give(b"").status, path.read_text()), (more, 0, wanted))
 
     def test_two_commands_over_one_report(self):
         for name in ("one", "other"):
@@ -209,7 +223,8 @@ class ReportFilesTest(BenchTest):
         good = text_of(LAST)
         foreign = [
             # Orders line by line, a scenario, a bank, other JSON, and no JSON.
-            '{"order":1}\n', '{"submit":{}}\n', '{"limit":1}', "77 FF\n", "[]\n", "null", "\n", "\0", "\ufeff" + good,
+            '{"order":1}\n', '{"submit":{}}\n', '{"limit":1}', "77 FF\n", "[]\n", "null", " \n", "\0\n",
+            "\ufeff" + good,
             # One key less, one more, another one, and one of another kind.
             text_of({key: LAST[key] for key in LAST if key != "unit"}), text_of({**LAST, "more": 1}),
             text_of({**{key: LAST[key] for key in LAST if key != "unit"}, "more": 1}), text_of({**FOUND, "code": 0}),
@@ -218,13 +233,18 @@ class ReportFilesTest(BenchTest):
             '{"code":0}\n', '{"answer":"--"}\n', '{"byte":1}\n',
             # A run that is no count, and lines that are too long or begin otherwise.
             text_of({**LAST, "run": "3"}), text_of({**LAST, "run": -1}), text_of({**LAST, "run": 1.5}),
-            text_of({**LAST, "run": None}), '{"code":' + " " * 2041, '{"codes":', '{ "code":', "{}\n", '{"ab', "}\n",
+            text_of({**LAST, "run": None}), '{"code":' + " " * 2041 + "\n", '{"codes":', '{ "code":', "{}\n", '{"ab',
+            "}\n",
+            # What is too long for a line of a report, as another program's file, and zeros that other bytes follow.
+            good.rstrip("\n") + " " * 2048, '{"code":200,"data":"' + "a" * 5000 + '"}', '{"code":' + "0" * 2041,
+            good.rstrip("\n") + "\0 ",
         ]
         for text in foreign:
             for held in (text, good + text, good + text.rstrip("\n") + "\n" + good):
                 report.write_text(held)
+                number = 1 + held.startswith(good) * (held != text)
                 self.assertEqual((held, desk.over(blank_bus(5))),
-                                 (held, Ended(2, b"", DONE + UNTOLD.format(report, FOREIGN))))
+                                 (held, Ended(2, b"", DONE + UNTOLD.format(report, FOREIGN.format(number)))))
                 self.assertEqual(report.read_text(), held)
         report.write_bytes(good.encode() + b"\xff\n")
         self.assertEqual(desk.over(blank_bus(5)).status, 2)

@@ -7,6 +7,7 @@ import importlib.util
 import json
 import os
 import pathlib
+import re
 import select
 import subprocess
 import sys
@@ -20,6 +21,8 @@ DONE, DOUBT_OPEN = 0, 5
 UNTOUCHED = (1, 2, 3)
 NAMES = ("Done", "Short", "Format", "Silent", "Doubt", "DoubtOpen")
 PATIENCE = 20  # seconds after which a run counts as hanging
+# The frames by which short addresses are given and random addresses searched: no command over orders sends any of them.
+OF_ADDRESSES = re.compile(rb"(?:A[1579B]..|B[13579B]..|FF96|[0-7][13579BDF](?:91|C[234]))\n")
 
 
 def load(path):
@@ -80,6 +83,7 @@ class Desk:
             sent, told = command.communicate(answers, timeout)
         finally:
             command.kill()
+        self.look_at(sent or b"")
         return Ended(command.returncode, sent, (told or b"").decode())
 
     def over(self, bus, stop=None, environment=None):
@@ -113,7 +117,12 @@ class Desk:
             told = command.stderr.read().decode()
             command.stderr.close()
             status = command.wait()
+        self.look_at(b"".join(frames))
         return Ended(status, b"".join(frames), told)
+
+    def look_at(self, sent):
+        """Raise where a frame of addresses was sent: to some of them no answer is told as damaged."""
+        assert not OF_ADDRESSES.search(sent), OF_ADDRESSES.findall(sent)
 
     def held(self):
         """Give the journal's bytes."""

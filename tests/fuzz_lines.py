@@ -29,7 +29,8 @@ JOURNAL_FAULT = re.compile(f"journal fault (?:(?:3 Record|4 Sequence|5 Repeated|
 NOTHING = "error: nothing was done: ORDERS has no orders"
 ORDER_LINE = re.compile(f"order {NUMBER} unit {ADDRESS} "
                         "(?:same|other ([0-9A-F]{2}) [0-9A-F]{2}|short|format|silent)")
-TOTALS = re.compile(f"not done {NUMBER}(?::(?: {NUMBER}){{1,8}}(?: [.][.])?)?(?:, not reached {NUMBER})?, "
+TOTALS = re.compile(f"(?:new journal, )?not done {NUMBER}(?::(?: {NUMBER}){{1,8}}(?: [.][.])?)?"
+                    f"(?:, not reached {NUMBER})?, "
                     f"written now {NUMBER}, known before {NUMBER}, frames ({NUMBER}), misses {NUMBER}, time [0-9:]+\n")
 IDENTITY = " gtin (?:unknown|[0-9]{14}|raw [0-9A-F]{12}) identification (?:unknown|[0-9A-F]{16})"
 LAST_LINE = re.compile(f"unit ({ADDRESS}) last (?:[0-9A-F]{{2}}|[1-9A-F][0-9A-F]{IDENTITY})")

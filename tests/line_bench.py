@@ -21,7 +21,7 @@ import weakref
 from typing import NamedTuple
 
 from base import settings, want
-from driven import DONE, PATIENCE, ROOT, groups_of, possible_bytes, simulated_link
+from driven import DONE, DOUBT_OPEN, NAMES, PATIENCE, ROOT, groups_of, possible_bytes, simulated_link
 
 PROGRAM = ROOT / "line_computer"
 ADAPTER = ROOT / "adapters" / "simulated_link.py"
@@ -30,6 +30,10 @@ YEAR, WEEK = 0x13, 0x14
 # The units of a bus: two as they should be, one whose year is fixed, one whose bank 1 ends before it; 9 isn't there.
 GOOD, FIXED, SHORT, ABSENT = (5, 60), 6, 7, 9
 CODE_OF = {5: 0, 60: 0, FIXED: 4, SHORT: 1, ABSENT: 3}
+SILENT, DOUBT = 3, 4
+# How an order may end whose frames are lost, and what is told of one that was given up with its journal.
+LOST = (SILENT, DOUBT, DOUBT_OPEN)
+BY_HAND = "kept 4 Doubt, by hand"
 SHORT_BANK = bytes([0x12] + 16 * [0xFF] + [0x00, 0x03])
 LOSSES = "3,40,41,90,150,151,152,300,420,421,555,700,901,1100,1300,1301"
 LIVE = ("added", "sent", "taken", "blocked", "full")
@@ -76,6 +80,7 @@ class Bench:
     def __init__(self, folder, store=None, buses=("bus1",)):
         self.folder, self.store, self.python = folder, store or str(folder / "orders.db"), python()
         self.pace = 0  # milliseconds that a frame takes
+        self.losses, self.is_lossy = LOSSES, False  # which frames are lost; whether orders may fail by that
         self.wanted = {}  # by the number that was answered: bus, unit, year, week
         self.processes = []
         weakref.finalize(self, end_all, self.processes)
@@ -91,7 +96,7 @@ class Bench:
     def words(self, command, *words, crash=()):
         """Give the words of a command; with `crash` it is killed there, as tests/line_crash.py says."""
         starter = [CRASHING, *crash] if crash else [PROGRAM]
-        program = ["--program", settings["program"]] if command in ("add", "run", "retire") else []
+        program = ["--program", settings["program"]] if command in ("add", "cancel", "run", "retire") else []
         return [self.python, *starter, command, "--store", self.store, *program, *words]
 
     def give(self, command, *words, given=b"", crash=(), **options):
@@ -118,7 +123,7 @@ class Bench:
     def run_words(self, bus, *options, adapter=None, crash=()):
         """Give the words of a bus's process, over simulated units that lose frames."""
         units = [word for unit in (*GOOD, FIXED, SHORT) for word in ("--unit", str(unit))]
-        fates = ["--fixed", f"{FIXED}:{YEAR:02X}", "--lose-frame", LOSSES, "--frame-time", str(self.pace)]
+        fates = ["--fixed", f"{FIXED}:{YEAR:02X}", "--lose-frame", self.losses, "--frame-time", str(self.pace)]
         adapter = adapter or [ADAPTER, "--folder", bus, *units, *fates]
         return self.words("run", "--bus", bus, "--longest-wait", "0.2", *options, "--", *adapter, crash=crash)
 
@@ -232,9 +237,12 @@ def judge(bench, buses=("bus1",)):
         for number, (_, _, unit, fields, state, code, sent, told, report) in its_own.items():
             assert state not in LIVE, (number, state)
             group = begun.get(number)
+            if told == BY_HAND:
+                want((number, state, code), (number, "ended", DOUBT))
+                continue
             want((number, group and group.code), (number, code if state == "ended" else None))
             if group:
-                judge_order(number, group, unit, json.loads(fields), sent, (told, report))
+                judge_order(bench, group, unit, json.loads(fields), sent, (told, report))
                 done += [number] if group.code == DONE else []
         judge_units(bench, bus, list(begun.values()))
     want(labels, sorted(done))
@@ -244,13 +252,13 @@ def judge(bench, buses=("bus1",)):
     return stored
 
 
-def judge_order(number, group, unit, fields, sent, told):
-    """Raise unless the journal has the order that was wanted, with the end that its unit calls for."""
+def judge_order(bench, group, unit, fields, sent, told):
+    """Raise unless the journal has the order that was wanted, with an end that its unit calls for."""
+    number, code = group.number, group.code
     want((number, group.unit, group.updates, group.moment),
          (number, unit, [(YEAR, fields["year"]), (WEEK, fields["week"])], sent))
-    want((number, unit, group.code), (number, unit, CODE_OF[unit]))
-    want((number, told[0], json.loads(told[1])["order"]),
-         (number, f"kept {group.code} {('Done', 'Short', 'Format', 'Silent', 'Doubt')[group.code]}", number))
+    assert code == CODE_OF[unit] or bench.is_lossy and code in LOST, (number, unit, code)
+    want((number, told[0], json.loads(told[1])["order"]), (number, f"kept {code} {NAMES[code]}", number))
 
 
 def judge_units(bench, bus, groups):

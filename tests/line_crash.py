@@ -16,7 +16,7 @@ import sys
 sys.dont_write_bytecode = True
 sys.path.insert(0, str(pathlib.Path(__file__).resolve().parent.parent / "tools"))
 
-from line_computer import commands, database, journals, link  # noqa: E402
+from line_computer import commands, database, journals, link, outputs  # noqa: E402
 
 
 class Calls:
@@ -50,7 +50,7 @@ def main(arguments):
     """Count the calls of a kind, and run the command."""
     kind, number, when = arguments[:3]
     calls = Calls(kind, int(number), when == "before")
-    link.os = commands.os = journals.os = calls
+    link.os = outputs.os = journals.os = calls
     commit, change = database.Database.commit, database.Database.change
 
     def changed(self, statement, *values):

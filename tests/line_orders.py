@@ -27,6 +27,10 @@ GOOD = {
                              [(1, "18446744073709551615", 5, '{"year":24}', None)]),
     "a table in Latin-1": (("--latin-1",), b"unit,colour\n5,blue\n", ["item 1 order 1", "added 1 known 0"],
                            [(1, None, 5, '{"colour":"blue"}', None)]),
+    "JSON with a byte order mark": ((), b"\xef\xbb\xbf\r\n" + b'[{"unit":5,"year":24}]',
+                                    ["item 1 order 1", "added 1 known 0"], [(1, None, 5, '{"year":24}', None)]),
+    "a table whose separator is named": ((), b"sep=;\r\nunit;year\r\n5;24\r\n", ["item 1 order 1", "added 1 known 0"],
+                                         [(1, None, 5, '{"year":24}', None)]),
     "an unknown GTIN": ((), b'[{"unit":5,"gtin":null}]', ["item 1 order 1", "added 1 known 0"],
                         [(1, None, 5, '{"gtin":null}', None)]),
 }
@@ -109,8 +113,8 @@ class OrdersTest(BenchTest):
             connection.execute("delete from bench_orders")
         connection.close()
         self.assertEqual(bench.does("add", "-", given=b'[{"unit":5,"year":24}]')[0], "item 1 order 181")
-        self.assertEqual(bench.does("init", "--first", "7"), ["store of version 1"])
-        self.assertEqual(bench.does("init", "--first", "1000"), ["store of version 1"])
+        self.assertEqual(bench.does("init", "--first", "7"), ["store of version 2"])
+        self.assertEqual(bench.does("init", "--first", "1000"), ["store of version 2"])
         self.assertEqual(bench.does("add", "-", given=b'[{"unit":5,"year":24}]')[0], "item 1 order 1000")
         bench.does("init", "--first", str(2**53 - 2))
         self.assertEqual(bench.give("add", "-", given=b'[{"unit":5,"year":24},{"unit":5,"year":24}]').status, 1)
@@ -154,8 +158,21 @@ def mistakes(folder):
         (("run", "--bus", "bus1", "--longest-wait", "-3", *adapter), 1, "error: argument --longest-wait: "),
         (("run", "--bus", "bus1", "--folder", "/proc/none", *adapter), 2, "error: /proc/none: "),
         (("status", "--", "true"), 1, "error: `run` takes the adapter and its words behind --"),
-        (("status", "--store", missing), 2, f"error: there is no store: {missing}: `init` makes one"),
-        (("status", "--store", str(folder / "text")), 2, "error: the store can't be used: file is not a database"),
+        (("status", "--store", missing), 2, f"error: there is no store: {missing}: `init` makes one; --store, or"),
+        (("status", "--store", "missing.db"), 2, f"error: there is no store: {missing}: `init` makes one; --store"),
+        (("status", "--store", "text"), 2, f"error: the store can't be used: file is not a database: {folder / 'text'}:"
+                                           " this file is something else: --store names the store"),
+        (("run", "--bus", "bus1", "adapters/none.py"), 1,
+         "error: unrecognized arguments: adapters/none.py: put -- before the adapter"),
+        (("run", "--bus", "bus1", "--until-empty", "--", "adapters/none.py", "--x"), 2,
+         f"error: the adapter isn't there: {folder / 'adapters/none.py'}"),
+        (("run", "--bus", "bus1", "--", "no_adapter"), 2, "error: the adapter isn't there: no_adapter, on the path"),
+        (("run", "--bus", "bus1", "--", "./text"), 2,
+         f"error: the adapter may not be run: `chmod +x` lets it: {folder / 'text'}"),
+        (("cancel",), 1, "error: the following arguments are required: N"),
+        (("labels", "--take", "--again", "1"), 1, "error: argument --again: not allowed with argument --take"),
+        (("labels", "--printer", "127.0.0.1:9100"), 1, "error: a command behind --, or --printer, stands beside"),
+        (("labels", "--take", "--printer", "9100"), 1, "error: --printer takes HOST:PORT, as 127.0.0.1:8080, and not"),
         (("status", "--store", str(folder / "empty")), 2, "error: there is no store in this database: `init` makes"),
         (("status", "--store", "mysql://host/db"), 1, "error: a store is a file, or postgresql://..., and not mysql"),
         (("init", "--store", "/none/orders.db"), 2, "error: the store can't be used: /none/orders.db: No such file or"),
@@ -168,7 +185,8 @@ def mistakes(folder):
         (("page", "--listen", "8080"), 1, "error: --listen takes HOST:PORT, as 127.0.0.1:8080, and not 8080"),
         (("page", "--listen", ":8080"), 1, "error: --listen takes HOST:PORT"),
         (("page", "--listen", "127.0.0.1:x"), 1, "error: --listen takes HOST:PORT, as 127.0.0.1:8080"),
-        (("page", "--listen", "192.0.2.1:0"), 2, "error: 192.0.2.1:0: "),
+        (("page", "--listen", "192.0.2.1:0"), 1, "error: --listen 192.0.2.1:0 is open to other computers, and"),
+        (("page", "--listen", "192.0.2.1:0", "--anyone-may-read"), 2, "error: 192.0.2.1:0: "),
         (("status", "--store", url), 2, "error: "),
     ]
 
@@ -184,7 +202,7 @@ class MistakesTest(BenchTest):
             command = [bench.python, PROGRAM, *words]
             if "--store" not in words and words and words[0] not in ("frobnicate",):
                 command[3:3] = ["--store", bench.store]
-            if words[:1] == ("add",) and "--program" not in words:
+            if words[:1] in (("add",), ("run",)) and "--program" not in words:
                 command[3:3] = ["--program", settings["program"]]
             ended = subprocess.run(command, cwd=self.folder, input=b'[{"unit":5,"year":24}]', capture_output=True,
                                    check=False)
@@ -196,13 +214,13 @@ class MistakesTest(BenchTest):
     def test_a_store_of_another_version_is_told(self):
         bench = Bench(self.folder)
         bench.does("add", "-", given=b'[{"unit":5,"year":24}]')
-        for version, what in ((2, "use the line computer that made it"), (0, "")):
+        for version, what in ((3, "use the line computer that made it"), (0, "")):
             with sqlite3.connect(bench.store) as connection:
                 connection.execute("update bench_store set version = ?", (version,))
             connection.close()
             for command in (("status",), ("add", "-"), ("labels",), ("cancel", "1")):
                 ended = bench.give(*command, given=b'[{"unit":5,"year":24}]')
-                wanted = f"error: the store has version {version}, and this line computer has 1: {what}"
+                wanted = f"error: the store has version {version}, and this line computer has 2: {what}"
                 if version:
                     self.assertEqual((command, ended.status, ended.told), (command, 1, wanted + "\n"))
                 else:
@@ -215,7 +233,7 @@ import sys
 sys.dont_write_bytecode = True
 sys.path.insert(0, {str(ROOT / 'tools')!r})
 from line_computer import commands, schema
-commands.MIGRATIONS = schema.MIGRATIONS = (*schema.MIGRATIONS, "alter table bench_orders add column place text;\\n")
+commands.MIGRATIONS = schema.MIGRATIONS = (*schema.MIGRATIONS, "alter table bench_orders add column remark text;\\n")
 sys.exit(commands.main(sys.argv[1:]))
 """
 
@@ -230,7 +248,7 @@ def judge_migration(bench):
                                cwd=bench.folder, capture_output=True, text=True, check=False)
         return ended.returncode, ended.stdout, ended.stderr
 
-    older = "error: the store has version 1, and this line computer has 2: `init` brings it up\n"
+    older = "error: the store has version 2, and this line computer has 3: `init` brings it up\n"
     want(later("status"), (1, "", older))
     process = bench.start()
     while bench.rows("select state from bench_states where bus = 'bus1'")[0][0] != "ready":
@@ -238,13 +256,13 @@ def judge_migration(bench):
     want(later("init"), (1, "", "error: the bus bus1 is at work: end its `run` first\n"))
     process.terminate()
     process.wait()
-    want(later("init"), (0, "store of version 2\n", ""))
-    want(later("init"), (0, "store of version 2\n", ""))
+    want(later("init"), (0, "store of version 3\n", ""))
+    want(later("init"), (0, "store of version 3\n", ""))
     want(later("orders"), (0, "order 1 bus bus1 unit 5 ended: kept 0 Done\n", ""))
-    want(bench.rows("select count(*), count(place) from bench_orders"), [(1, 0)])
-    want(bench.give("status")[::2], (1, "error: the store has version 2, and this line computer has 1: use the line"
+    want(bench.rows("select count(*), count(remark) from bench_orders"), [(1, 0)])
+    want(bench.give("status")[::2], (1, "error: the store has version 3, and this line computer has 2: use the line"
                                      " computer that made it\n"))
-    want(bench.give("init")[::2], (1, "error: the store has version 2, and this line computer has 1\n"))
+    want(bench.give("init")[::2], (1, "error: the store has version 3, and this line computer has 2\n"))
 
 
 class StoreTest(BenchTest):
@@ -299,7 +317,8 @@ class StoreTest(BenchTest):
                                 copy / "line_computer", "status", "--store", bench.store], capture_output=True,
                                text=True, user=NOBODY, group=NOBODY, extra_groups=[], cwd="/", check=False)
         self.assertEqual((ended.returncode, ended.stderr),
-                         (2, "error: the store can't be used: unable to open database file\n"))
+                         (2, f"error: the store can't be used: unable to open database file: {bench.store}: this user"
+                          " has to have the right to read and write it and its folder\n"))
 
 
 class OutputsTest(BenchTest):

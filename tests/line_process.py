@@ -145,13 +145,18 @@ class OrdersTest(BenchTest):
         self.assertEqual(bench.does("labels"), [])
         self.assertEqual(len(bench.groups("bus1")), 1)
 
-    def test_a_store_that_is_older_than_the_journal_is_refused(self):
+    def bench_with_an_older_store(self):
+        """Give a bench that has carried out two orders, and then has the store of before them."""
         bench = Bench(self.folder)
         shutil.copy(bench.store, self.folder / "before.db")
         bench.add([(5, 24, 1), (5, 25, 1)])
         self.assertEqual(bench.run(), 0)
         os.replace(self.folder / "before.db", bench.store)
         bench.wanted.clear()
+        return bench
+
+    def test_a_store_that_is_older_than_the_journal_is_refused(self):
+        bench = self.bench_with_an_older_store()
         self.assertEqual(bench.run(), 1)
         assert ("error: the journal has orders up to 2, and this store has given numbers up to 0: put the newer store"
                 " back, or begin behind them with `init --first 3`") in bench.log(), bench.log()
@@ -160,6 +165,18 @@ class OrdersTest(BenchTest):
         self.assertEqual(bench.add([(5, 26, 1)]), [3])
         self.assertEqual(bench.run(), 0)
         self.assertEqual((bench.states(), len(bench.groups("bus1"))), ({3: "ended"}, 3))
+
+    def test_what_waits_in_an_older_store_is_added_again(self):
+        bench = self.bench_with_an_older_store()
+        self.assertEqual(bench.add([(60, 26, 1)]), [1])
+        self.assertEqual(bench.run(), 1)
+        words = "`init --first 3`; of the 1 that wait, add those again that then end as reused"
+        assert words in bench.log(), bench.log()
+        bench.does("init", "--first", "3")
+        self.assertEqual(bench.run(), 0)
+        why = "the journal has its number for another order, and nothing was done: add it again"
+        self.assertEqual(bench.does("orders"), [f"order 1 bus bus1 unit 60 reused: {why}"])
+        assert f"order 1 reused: {why}" in bench.log(), bench.log()
 
 
 def processes_in(folder):
@@ -266,7 +283,7 @@ class LinkTest(BenchTest):
     def test_what_ends_is_started_again_and_says_why(self):
         bench = Bench(self.folder)
         bench.add([(5, 24, 1)])
-        for adapter, why in ((["/none", "--device"], "/none"), (["false"], "the adapter ended with status 1"),
+        for adapter, why in ((["false"], "the adapter ended with status 1"),
                              (["sh", "-c", "echo 'error: the plug is out' >&2; exit 2"], "error: the plug is out"),
                              ([PLUGGED, "bus1", "5"], "error: the interface is gone; drive fault 4 End")):
             (self.folder / "bus1" / "unplugged").touch()
@@ -308,8 +325,8 @@ class LinkTest(BenchTest):
         units = ["--unit", "5", "--unit", "60", "--lose-frame", ",".join(map(str, range(30, 560)))]
         process = bench.start(adapter=[ADAPTER, "--folder", "bus1", *units])
         blocked = wait_for(lambda: bench.states()[2] == "blocked" and state_of(bench))
-        self.assertEqual(blocked, ("ready", None, "order 2 blocked 5"))
-        assert "is at work" in bench.give("cancel", "2").told
+        words = "order 2 waits: unit 5 was left open and is silent; put it back, or any unit at address 5"
+        self.assertEqual(blocked, ("ready", None, words))
         wait_for(lambda: bench.states()[2] == "ended")
         self.assertEqual(stop(process), 0)
         self.assertEqual(bench.does("orders"), ["order 1 bus bus1 unit 5 ended: kept 5 DoubtOpen",
@@ -378,7 +395,10 @@ class JournalsTest(BenchTest):
         (self.folder / "bus1" / "bench.journal").write_bytes(b"DAMAGED")
         told = bench.give("retire", "--bus", "bus1").told
         assert told.startswith("error: the journal can't be read: "), told
-        self.assertEqual(bench.does("retire", "--bus", "bus1", "--power-was-taken"), ["retired bench_1.journal"])
+        told = bench.give("retire", "--bus", "bus1", "--power-was-taken").told
+        assert told.startswith("error: order 1 for unit 5 was begun, as far as is known, and hasn't ended: "), told
+        self.assertEqual(bench.does("retire", "--bus", "bus1", "--power-was-taken", "--cancel-sent"),
+                         ["retired bench_1.journal"])
         self.assertEqual(bench.run(), 0)
         self.assertEqual(bench.does("orders"), ["order 1 bus bus1 unit 5 ended: kept 4 Doubt, by hand",
                                                 "order 2 bus bus1 unit 60 ended: kept 0 Done"])

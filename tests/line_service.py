@@ -109,7 +109,7 @@ class ServiceTest(BenchTest):
         adapter = pathlib.Path(variables["ADAPTER"].split()[0])
         assert (ROOT / adapter.relative_to(PROGRAMS)).is_file(), adapter
         page = settings_of(PAGE.read_text())
-        assert page["ExecStart"][0].endswith("page --listen $LISTEN"), page
+        assert page["ExecStart"][0].endswith("page --listen $LISTEN $OPTIONS"), page
         assert "LISTEN=127.0.0.1:8080 " in page["Environment"][0], page
         # A page that reads orders has no business with a device.
         self.assertEqual([key for key in page if key.startswith("DeviceAllow")], [])

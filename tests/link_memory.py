@@ -14,7 +14,7 @@ KIBIBYTE = 1024
 MOST_STACK = 512 * KIBIBYTE
 # What a run may hold at once where it reads no file as a whole, where it reads one of them, and where it has an order
 # for each unit: each limit is over what such runs hold now, by less than a bank of each of the 64 units.
-NO_FILE, ONE_FILE, ALL_UNITS = 49 * KIBIBYTE, 150 * KIBIBYTE, 224 * KIBIBYTE
+NO_FILE, ONE_FILE, ALL_UNITS = 50 * KIBIBYTE, 150 * KIBIBYTE, 224 * KIBIBYTE
 TAKEN = "reply 1 taken\n" + KEPT_SILENT
 ORDERS = [{"order": unit + 1, "unit": unit, "gtin": GTIN} for unit in range(64)]
 ALL_SILENT = Ended(

@@ -263,11 +263,10 @@ class StreamsTest(BenchTest):
                 if ended.status == 0:
                     self.assertEqual((command, number, ended.sent, told, desk.text()), (command, number, *wanted[1:]))
                     continue
-                # Before the words are read it isn't known that the command has a link. Once a unit is read it is
-                # HEXFILE that there is no memory for.
+                # Before the words are read it isn't known that the command has a link.
                 line = told if "fault" in told else ended.sent.decode()
-                fault = "fault 21 File" if ended.sent == wanted.sent else "fault 20 Memory"
-                self.assertEqual((command, number, ended.status, line.splitlines()[-1]), (command, number, 2, fault))
+                self.assertEqual((command, number, ended.status, line.splitlines()[-1]),
+                                 (command, number, 2, "fault 20 Memory"))
                 assert ended.sent in (b"", wanted.sent) or number <= 8, (command, number, ended)
                 self.assertEqual((command, number, desk.text() in (None, wanted.text)), (command, number, True))
                 ran_out += 1

@@ -23,7 +23,7 @@ COMMANDS = "check run frame show journal drive read verify scan help".split()
 COMPLETED = [
     (["dali_bench", ""], COMMANDS), (["./dali_bench", "ch"], ["check"]), (["dali_bench", "he"], ["help"]),
     (["dali_bench", "check", "--j"], ["--journal"]), (["dali_bench", "journal", "--"], ["--updates", "--help"]),
-    (["dali_bench", "drive", "--re"], ["--report", "--require-done", "--require-now"]),
+    (["dali_bench", "drive", "--re"], ["--report", "--require-done", "--require-journal", "--require-now"]),
     (["dali_bench", "scan", "--g"], ["--gtin"]), (["dali_bench", "scan", "--gtin", "tab"], []),
     (["dali_bench", "check", "tab"], ["table.csv"]), (["dali_bench", "check", "--journal", "tab"], ["table.csv"]),
     (["dali_bench", "drive", "--moment", ""], []), (["dali_bench", "frame", "tab"], []),

@@ -16,6 +16,7 @@ import time
 sys.dont_write_bytecode = True
 
 import adapter_desk  # noqa: E402
+import desk_addressing  # noqa: E402
 from adapter_desk import (ADAPTERS, player, run, shown_frames, want_link_without_frames,  # noqa: E402
                           want_named_descriptors)
 from cases import case_of  # noqa: E402
@@ -264,6 +265,55 @@ def test_options_of_chance(folder):
     want(run(SIMULATED, [*options, "--seed", "2"], words)[1] == first, False)
 
 
+def altered_by_chance(frames, answers, seed):
+    """Give which bits are turned in each of 10000 settings of DTR0 to AAh, and in the answers to as many questions."""
+    unit = simulated_link.Unit(5)
+    bus = simulated_link.Bus([unit], altering=simulated_link.Altering(frames, answers, seed))
+    heard, told = [], []
+    for _ in range(10000):
+        unit.registers[0] = 0
+        bus.carry(0xA3AA)
+        heard.append(unit.registers[0] ^ 0xAA)
+        unit.registers[0] = 0x55
+        answer = bus.carry(0x0B98)
+        told.append(None if answer is None else answer ^ 0x55)
+    return heard, told
+
+
+def test_alterations_by_chance(folder):
+    want(altered_by_chance(0, 0, 1), (10000 * [0], 10000 * [0]))
+    heard, told = altered_by_chance(0, 1, 1)
+    # Each other byte comes, and never the same.
+    want((heard, sorted(set(told))), (10000 * [0], list(range(1, 0x100))))
+    heard, told = altered_by_chance(1, 0, 1)
+    # Of the sixteen bits eight are of the byte: another one makes it another frame, which doesn't set DTR0 to it.
+    want(sorted(set(heard)), sorted({0xAA, *(1 << bit for bit in range(8))}))
+    assert 0 not in heard and abs(heard.count(0xAA) - 5000) < 250, heard.count(0xAA)
+    found = {seed: altered_by_chance(0.1, 0.1, seed) for seed in (1, 2, 3)}
+    for heard, told in found.values():
+        altered = sum(bits != 0 for bits in heard), sum(bits not in (0, None) for bits in told)
+        # An answer is altered by its own chance, where its question isn't. Five deviations are allowed.
+        assert abs(altered[0] - 1000) < 150 and abs(altered[1] - 900) < 200, altered
+    assert found[1] != found[2] != found[3] != found[1]
+    want(altered_by_chance(0.1, 0.1, 2), found[2])
+
+
+def test_what_is_altered_changes_no_loss(folder):
+    unit = simulated_link.Unit(5)
+    buses = [simulated_link.Bus([unit], loss=0.3, seed=4, altering=it) for it in (None, simulated_link.Altering(0, 1, 4))]
+    lost = [[bus.carry(0x0B98) is None for _ in range(200)] for bus in buses]
+    want(lost[0], lost[1])
+
+
+def test_options_that_alter(folder):
+    words = [*OPENED, *20 * ["C712", "0B98"]]
+    told = run(SIMULATED, ["--folder", folder], words)[1]
+    altered = run(SIMULATED, ["--folder", folder, "--alter-answers", "1"], words)[1]
+    want([(one == "--", other == "--") for one, other in zip(told, altered) if (one == "--") != (other == "--")], [])
+    assert all(one != other for one, other in zip(told, altered) if one != "--"), (told, altered)
+    want(run(SIMULATED, ["--folder", folder, "--alter-frames", "1"], ["0B98", "0B9C"])[1] != ["00", "00"], True)
+
+
 def test_a_killed_command(folder):
     status, _, _ = run(SIMULATED, ["--folder", folder], [*OPENED, "C712", "kill"])
     want((status, saved(folder)), (137, blank(x03=0x12)))
@@ -283,7 +333,7 @@ def test_what_cannot_start(folder):
     (folder / "unit_8.hex").write_text("77 FF")
     for options in [["--unit", "64"], ["--unit", "5", "--unit", "5"], ["--unit", "7"], ["--unit", "8"],
                     ["--fixed", "6:03"], ["--fixed", "5:02"], ["--fixed", "503"], ["--lose-frame", "0"],
-                    ["--loss", "1.01"], ["--loss", "-0.1"], ["--loss", "nan"], ["--loss", "x"], ["--seed", "x"],
+                    ["--alter-answers", "2"], ["--alter-frames", "x"], ["--loss", "1.01"], ["--loss", "-0.1"], ["--loss", "nan"], ["--loss", "x"], ["--seed", "x"],
                     ["--seed", "0.5"], ["--frame-time", "-1"], ["--frame-time", "10001"], ["--frame-time", "inf"],
                     ["--refuse", "x"], ["--lose-power", "6:3"], ["--lose-power", "5"], ["--lose-power", "5:0"],
                     ["--folder", folder / "none"]]:
@@ -303,7 +353,14 @@ def test_words_for_a_person(folder):
     for options, words, told in [
             (["--folder", none], ["A312"], f"the folder {none} isn't there: make it first\n"),
             (["--loss", "2"], ["A312"], "argument --loss: '2' is no chance, 0 to 1\n"),
-            (["--frame-time", "x"], ["A312"], "argument --frame-time: 'x' is no time, 0 to 10000\n")]:
+            (["--frame-time", "x"], ["A312"], "argument --frame-time: 'x' is no time, 0 to 10000\n"),
+            (["--lose-frame", "0"], ["A312"], "argument --lose-frame: '0', and frames count from 1, as 3,40\n"),
+            (["--refuse", "3,"], ["A312"], "argument --refuse: '3,', and frames count from 1, as 3,40\n"),
+            (["--lose-power", "5"], ["A312"],
+             "argument --lose-power: '5' is no unit with the numbers of frames, as 5:17,40\n"),
+            (["--fixed", "503"], ["A312"], "argument --fixed: '503' is no unit with a hexadecimal location, as 5:03\n"),
+            (["./dali_bench", "drive"], ["A312"],
+             "unrecognized arguments: ./dali_bench drive: put -- before the command\n")]:
         want(run(SIMULATED, options, words)[2].splitlines(True)[-1].split("error: ")[1], told)
     ended = subprocess.run([SIMULATED, "--folder", folder, "--", "/none"], capture_output=True, text=True)
     want((ended.returncode, ended.stderr), (2, "simulated_link: /none: No such file or directory\n"))
@@ -328,4 +385,4 @@ def test_a_stopped_link_has_saved(folder):
 
 
 if __name__ == "__main__":
-    sys.exit(adapter_desk.main(sys.modules[__name__]))
+    sys.exit(adapter_desk.main(sys.modules[__name__], desk_addressing))

@@ -5,6 +5,8 @@ A name that is linked to a file, as [`IsGtin`](../crates/dali_bank/specs/Gtin.an
 code, or a definition. A table with the columns of HEAD says where rules live: each row has such a link. What else
 belongs to a rule, its contracts and laws, its edits and tests, `scripts/where` tells.
 
+Each promise of README names the laws and calls that carry it, each of which has a contract.
+
 It fails besides where a name of several words, as `IsGtin`, stands in no code, definition or proof and in no unit of the
 service; where README doesn't say in the words of the help what the program is; where a diagram has no arrows; where a
 link leads nowhere; and where a script that BENCHMARKS.md names can't be begun. The last line is `N passed, M failed`.
@@ -86,6 +88,19 @@ class Judge:
             for name in SEVERAL_WORDS.findall(line):
                 self.look(name in self.names, f"{path.relative_to(ROOT)}:{number}", f"{name} is nowhere")
 
+    def promises(self, path):
+        """Look whether each promise of README names what carries it, and whether that is there with a contract."""
+        parts = [part for it in ROOT.glob("crates/*/src/**/*.rt") for part in File(CRATES, it).parts]
+        held = {part.name for part in parts if part.kind == "fn" and part.clauses()}
+        promised = text_of(path).partition("\n## What is promised\n")[2].partition("\n\n**Only tested**")[0]
+        rows = re.findall(r"^\d\. .*", promised, re.MULTILINE)
+        self.look(rows, path.name, "it promises nothing")
+        for row in rows:
+            carried = re.search(r"\((`[^()]*)\)$", row)
+            self.look(carried, path.name, f"nothing carries: {row[:60]}")
+        for name in re.findall(r"`([a-z]\w*)`", promised):
+            self.look(name in held, path.name, f"{name} has no contract")
+
     def scripts(self, path):
         """Look whether each script that the document of the benchmarks names says how it is used."""
         how = {"stdout": subprocess.DEVNULL, "stderr": subprocess.DEVNULL}
@@ -118,6 +133,7 @@ def main():
     about = re.search(r'ABOUT: &str = "\\\n(.*?)";', text_of(CRATES / "dali_job" / "src" / "usages.rt"), re.DOTALL)
     said = re.sub(r"\\\n", "", about[1])
     judge.look(said in text_of(ROOT / "README.md").replace("`", ""), "README.md", f"it doesn't say, as the help: {said}")
+    judge.promises(ROOT / "README.md")
     judge.scripts(ROOT / "docs" / "BENCHMARKS.md")
     for line in judge.wrong:
         print(f"FAILED: the documents: {line}")

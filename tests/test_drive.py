@@ -14,9 +14,9 @@ sys.dont_write_bytecode = True
 
 import beside  # noqa: E402
 
-MODULES = ("drive_streams", "drive_units", "drive_plans", "drive_calls", "drive_places", "drive_progress",
-           "drive_report", "drive_report_files", "drive_follow", "drive_older", "drive_settled", "drive_buses",
-           "drive_upgrade")
+MODULES = ("drive_streams", "drive_units", "drive_plans", "drive_altered", "drive_calls", "drive_places",
+           "drive_progress", "drive_report", "drive_report_files", "drive_follow", "drive_older", "drive_settled",
+           "drive_buses", "drive_upgrade")
 
 if __name__ == "__main__":
     sys.exit(beside.main(__doc__, MODULES, sys.argv[1:]))

@@ -31,7 +31,7 @@ TABLE = b"order;unit;gtin\n1;5;4006381333931\n"
 IS_JOURNAL = "the input is a journal, which `journal` takes, and has to be JSON"
 IS_BANK = "the input is hexadecimal digits, as the text of a bank, which `show` takes, and has to be JSON"
 IS_SCENARIO = "the input is an object with events, which `run` takes, and orders are an array"
-IS_TABLE = "the input is a table, as CSV, and has to be JSON"
+IS_TABLE = "the input is a table, as CSV, and has to be JSON: make orders of it by orders_from_csv"
 IS_ORDER = "the input is one order, and orders are an array: it stands between [ and ]"
 # What stands where ORDERS should: what `drive` and `verify` tell of it, and what `check` says that it is.
 AS_ORDERS = {
@@ -111,6 +111,60 @@ class SwappedTest(BenchTest):
         ended = desk.give(b"")
         self.assertEqual((ended.status, ended.sent, ended.told), (1, b"", "fault 11 Json\n"))
         self.assertEqual((desk.orders.read_bytes(), desk.held()), (DONE_JOURNAL, held))
+
+
+def watched(kind, folder, orders, journal=None, **options):
+    """Run a command with --progress over files of these bytes, and an adapter that closes the link; give its lines."""
+    desk = kind(settings["program"], folder, [])
+    desk.options = ["--progress"]
+    desk.orders.write_bytes(orders)
+    if journal is not None:
+        desk.journal.write_bytes(journal)
+    ended = desk.give(None if options else b"", **options)
+    want((ended.status, desk.orders.read_bytes(), journal is None or desk.journal.read_bytes() == journal),
+         (1, orders, True))
+    return desk, ended.told.splitlines()
+
+
+class WatchedTest(BenchTest):
+    """What a person who watches is told behind the lines that programs read."""
+
+    def test_another_file_in_the_place_of_orders(self):
+        for name, (data, line, meaning) in AS_ORDERS.items():
+            for kind in (Desk, Verifying):
+                desk, told = watched(kind, self.folder, data)
+                self.assertEqual((name, told), (name, [line, f"ORDERS {desk.orders} is refused:", meaning]))
+        desk, told = watched(Desk, self.folder, b'[{"order": 1, "unit": 64, "year": 2024}]')
+        self.assertEqual(told, ["item 1 fault 1 Unit", f"ORDERS {desk.orders} is refused:",
+                                "item 1 order 1: unit: the number 64, and a short address is 0 to 63",
+                                "item 1 order 1: year: the number 2024, and it is a whole number from 0 to 99, or null;"
+                                " two digits: 24"])
+
+    def test_another_file_in_the_place_of_the_journal(self):
+        for data, words in ((TABLE, "a table, as CSV"),
+                            (ORDERS, "an array of JSON, as orders are, which `check` takes"),
+                            (BANK, "hexadecimal digits, as the text of a bank, which `show` takes")):
+            desk, told = watched(Desk, self.folder, ORDERS, data)
+            self.assertEqual(told, [NO_JOURNAL, f"JOURNAL {desk.journal} is no journal, but {words}: are ORDERS and"
+                                                " JOURNAL swapped?"])
+        desk, told = watched(Desk, self.folder, DONE_JOURNAL, ORDERS)
+        self.assertEqual(told[:3], ["fault 11 Json", f"ORDERS {desk.orders} is refused:", IS_JOURNAL])
+        assert told[3].endswith(": are ORDERS and JOURNAL swapped?"), told
+
+    def test_an_array_in_the_place_of_lines(self):
+        desk, told = watched(Following, self.folder, ORDERS)
+        self.assertEqual(told[:2] + told[-1:],
+                         ["ready", "item 1 fault 9 Shape",
+                          f"ORDERS {desk.orders} is an array, and --follow takes a line for each order: `jq -c '.[]'`"
+                          " makes lines of it"])
+
+    def test_no_adapter(self):
+        empty = "standard input is empty: start this over an adapter (docs/LINK.md)"
+        for kind, lines in ((Desk, ["reply 1 taken", "drive fault 4 End"]), (Verifying, ["drive fault 4 End"])):
+            told = watched(kind, self.folder, ORDERS, stdin=subprocess.DEVNULL)[1]
+            self.assertEqual((told[:len(lines)], told[-1]), (lines, empty))
+        # An adapter that closes the link is one.
+        assert empty not in watched(Desk, self.folder, ORDERS)[1]
 
 
 class LinesTest(BenchTest):

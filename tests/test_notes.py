@@ -46,6 +46,15 @@ NO_RECORD = "here is neither a record (B, O, E or C, and what belongs to it) nor
 MAY_NOT_FOLLOW = ("a record that may not follow: an order begins (B), its unit is opened (O), it ends (E), and a left"
                   " unit is closed (C)")
 YEAR = "a whole number from 0 to 99, or null"
+DROPPED = ", and a spreadsheet may have dropped leading zeros"
+NO_ARTICLE = "gtin: all of its digits are zeros, which is no article's number"
+AGAIN = "the key stands there more than once, and the last one counts"
+A_TABLE = "the input is a table, as CSV, and has to be JSON: make orders of it by orders_from_csv"
+A_WORKBOOK = ("the input is a workbook of a spreadsheet, and has to be JSON: save its sheet as CSV in UTF-8, and make"
+              " orders of it by orders_from_csv")
+CURLY = "here stands a curly quote, as of a word processor, and JSON has straight double quotes alone"
+NO_NUMBER = "here stands a number that is none, as NaN, and JSON has none such: null writes a field as unknown"
+PYTHON = "here stands a word of Python, as None, and JSON has null, true and false"
 ADDRESS = "and a short address is 0 to 63"
 # Two refused orders with two mistakes each, and a sound one between them; and what is told of each.
 REFUSED = (b'[{"order": 7, "unit": 5, "yeer": 1, "week": 54}, {"order": 8, "unit": 5, "year": 1},'
@@ -73,7 +82,8 @@ ITEMS = [
         f'gtin: the text "400638133393", and it is {GTIN}; its check digit is 3, and would be 0',
     ]),
     ('"gtin": "12345678"', [f'gtin: the text "12345678", and it is {GTIN}; its check digit is 8, and would be 0']),
-    ('"gtin": "40063813339"', [f'gtin: the text "40063813339", and it is {GTIN}; it has 11 digits']),
+    ('"gtin": "40063813339"', [f'gtin: the text "40063813339", and it is {GTIN}; it has 11 digits{DROPPED}']),
+    ('"gtin": "7"', [f'gtin: the text "7", and it is {GTIN}; it has 1 digits{DROPPED}']),
     ('"gtin": "400638133393100"', [f'gtin: the text "400638133393100", and it is {GTIN}; it has 15 digits']),
     ('"gtin": ""', [f'gtin: the text "", and it is {GTIN}; it has 0 digits']),
     ('"gtin": "4006381-33393"', [f'gtin: the text "4006381-33393", and it is {GTIN}; its character 8 is "-"']),
@@ -104,7 +114,7 @@ ITEMS = [
     ('"identification": "0x112233445566"', [
         f'identification: the text "0x112233445566", and it is {IDENTIFICATION}; its character 2 is "x"',
     ]),
-    ('"year": 2024', [f"year: the number 2024, and it is {YEAR}"]),
+    ('"year": 2024', [f"year: the number 2024, and it is {YEAR}; two digits: 24"]),
     ('"year": "24"', [f'year: the text "24", and it is {YEAR}']),
     ('"year": 24.5', [f"year: the number 24.5, and it is {YEAR}"]),
     ('"week": 0', ["week: the number 0, and it is a whole number from 1 to 53, or null"]),
@@ -141,6 +151,17 @@ ITEMS = [
         f"year: the number 100, and it is {YEAR}",
         "week: the number 54, and it is a whole number from 1 to 53, or null",
     ]),
+]
+
+# The same of an item that is accepted: what is odd about it.
+ODD_ITEMS = [
+    ('"gtin": "00000000"', [NO_ARTICLE]),
+    ('"gtin": "00000000000000", "year": 7', [NO_ARTICLE]),
+    ('"gtin": null', []),
+    ('"gtin": "96385074"', []),
+    ('"year": 7, "colour": "a", "year": 8', [f"year: {AGAIN}"]),
+    ('"gtin": null, "year": 7, "unit": 5, "gtin": "00000000", "order": 6, "gtin": "00000000"',
+     [f"gtin: {AGAIN}", f"order: {AGAIN}", f"unit: {AGAIN}", NO_ARTICLE]),
 ]
 
 # Other mistakes: a command, its input, and the lines on standard error.
@@ -188,10 +209,27 @@ INPUTS = [
         "line 1 column 17: the byte DFh is a letter in Latin-1, and the input has to be in UTF-8",
     ]),
     ("run", b'{\n"limit\x81": 1}', ["line 2 column 7: the byte 81h is no UTF-8 here, which the input has to be in"]),
-    ("check", SEMICOLON.encode(), ["the input is a table, as CSV, and has to be JSON"]),
-    ("check", b"\xef\xbb\xbf" + SEMICOLON.encode(), ["the input is a table, as CSV, and has to be JSON"]),
-    ("check", b"order,unit,year\r\n1,5,24\r\n", ["the input is a table, as CSV, and has to be JSON"]),
-    ("check", b"order\tunit\n1\t5\n", ["the input is a table, as CSV, and has to be JSON"]),
+    ("check", SEMICOLON.encode(), [A_TABLE]),
+    ("check", b"\xef\xbb\xbf" + SEMICOLON.encode(), [A_TABLE]),
+    ("check", b"order,unit,year\r\n1,5,24\r\n", [A_TABLE]),
+    ("check", b"order\tunit\n1\t5\n", [A_TABLE]),
+    ("run", SEMICOLON.encode(), ["the input is a table, as CSV, and has to be JSON"]),
+    ("check", b"PK\x03\x04\x14\0,\0\n", [A_WORKBOOK]),
+    ("check", b"\xd0\xcf\x11\xe0\xa1\xb1", [A_WORKBOOK]),
+    ("check", b'<?xml version="1.0"?>\n<a>1,2</a>\n', ["the input is XML, and has to be JSON"]),
+    ("check", b"\xef\xbb\xbf\r\n <orders>", ["the input is XML or HTML, and has to be JSON"]),
+    ("check", b"<!DOCTYPE html>\n<html>", ["the input is HTML, as of a page on the web, and has to be JSON"]),
+    ("run", b"<HTML>", ["the input is HTML, as of a page on the web, and has to be JSON"]),
+    ("check", b'[{"order": 1, "unit": 5, "year": NaN}]', [f"line 1 column 34: {NO_NUMBER}"]),
+    ("check", b'[{"order": 1, "unit": 5, "year": -Infinity}]', [f"line 1 column 34: {NO_NUMBER}"]),
+    ("check", b'[{"order": 1, "unit": 5, "year": None}]', [f"line 1 column 34: {PYTHON}"]),
+    ("check", b'[True]', [f"line 1 column 2: {PYTHON}"]),
+    ("check", '[{\u201corder\u201d: 1}]'.encode(), [f"line 1 column 3: {CURLY}"]),
+    ("check", '[{"order": 1, "unit": 5, "colour": \u00abred\u00bb}]'.encode(), [f"line 1 column 36: {CURLY}"]),
+    ("check", b'[{"order": 1, "unit": 5, "year": 2024}]',
+     [f"item 1 order 1: year: the number 2024, and it is {YEAR}; two digits: 24"]),
+    ("check", b'[{"order": 1, "unit": 5, "year": 2007, "year": 1900}]',
+     [f"item 1 order 1: year: {AGAIN}", f"item 1 order 1: year: the number 1900, and it is {YEAR}; two digits: 00"]),
     ("check", HEADER + BEGAN, [f"{A_JOURNAL}, and has to be JSON"]),
     ("check", HEADER, [f"{A_JOURNAL}, and has to be JSON"]),
     ("run", OLD_BEGAN, [f"{A_JOURNAL}, and has to be JSON"]),
@@ -309,6 +347,9 @@ WORDS = [
 A_MOMENT = "A moment is a whole number from 0 to 18446744073709551615, as the clock's seconds: --moment $(date +%s)"
 HELP = "  tip: dali_bench {} --help tells what it takes"
 
+# What stands behind a wrong unit of `read`.
+A_UNIT = "UNIT, 0 to 63, comes first, then HEXFILE"
+
 # Wrong command lines: their words, and lines that are told of them.
 COMMAND_LINES = [
     (["drive", "--moment", "now", "o", "j"], ["error: invalid value 'now' for '--moment <M>': invalid digit found in"
@@ -335,6 +376,8 @@ COMMAND_LINES = [
     (["run", "s", "--frame"], ["  tip: a similar argument exists: '--frames'", HELP.format("run")]),
     (["frame", "--json", "A303"], [HELP.format("frame")]),
     (["frame", "--json"], [HELP.format("frame")]),
+    (["read", "r.hex", "5"], ["error: invalid value 'r.hex' for '<UNIT>': invalid digit found in string", A_UNIT]),
+    (["read", "64", "r.hex"], [A_UNIT]),
     (["frame", "-303"], ["error: unexpected argument '-3' found", "  tip: to pass '-3' as a value, use '-- -3'"]),
 ]
 
@@ -348,7 +391,7 @@ def run(program, command, given, stderr=subprocess.PIPE):
 def fails_on_lines(program):
     """Give what is wrong with the lines of each mistake, and how many mistakes there are."""
     rows = [*INPUTS]
-    for item, lines in ITEMS:
+    for item, lines in (*ITEMS, *ODD_ITEMS):
         given = f'[{{"order": 6, "unit": 5, {item}}}]'.encode()
         rows.append(("check", given, [f"item 1 order 6: {it}" for it in lines]))
     for command, given, lines in rows:

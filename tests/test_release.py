@@ -104,9 +104,13 @@ class LauncherTest(BenchTest):
         self.assertEqual(count.read_text(), "")
         # A change behind the note is seen all the same: nothing is run, since nothing can be built here.
         (copy / "crates/dali_bench/src/main").write_text("another")
-        status, output, complaint = run([copy / "dali_bench", "a"], env={**environment, "PATH": "/usr/bin:/bin"})
+        few = "/usr/bin:/bin"
+        status, output, complaint = run([copy / "dali_bench", "a"], env={**environment, "PATH": few})
         self.assertEqual((status, output), (2, ""))
         assert complaint.startswith("dali_bench: proving and building the program"), complaint
+        words = ("dali_bench: the command rt is missing: a bench needs only the archive or the package (docs/SETUP.md);"
+                 " to prove the program itself, install the Rattle kit\n")
+        assert shutil.which("rt", path=few) or complaint.endswith(words), complaint
 
     def test_launcher_goes_on_where_it_may_not_note(self):
         root = repository(self.folder)
@@ -286,7 +290,7 @@ class ArchiveTest(BenchTest):
     def test_archive_has_the_line_computer(self):
         top = unpacked(self.folder)
         words = [top / "line_computer", "init", "--store", self.folder / "orders.db", "--bus", "bus1"]
-        self.assertEqual(run(words), (0, "store of version 1\nbus bus1\n", ""))
+        self.assertEqual(run(words), (0, "store of version 2\nbus bus1\n", ""))
         orders = self.folder / "orders.csv"
         orders.write_text("unit,year\n5,24\n")
         added = (0, "item 1 order 1\nadded 1 known 0\n", "")

@@ -384,11 +384,23 @@ class PipeTest(BenchTest):
             self.assertEqual(instance.told(), ["reply 100000 full"])
         assert instance.journal_lines()[-1].endswith(" orders 100000 standing idle")
         instance.journal.rename(instance.state / "bench_until_99999.journal")
+        (instance.state / "journal_made").unlink()
         again = Instance(self.folder)
         with again:
             again.write(order_line(100000, 5, 24))
             wait_for(lambda: len(again.told()) == 3)
             self.assertEqual(again.told()[1:], done(100000))
+
+    def test_a_journal_that_has_gone_is_not_made_anew(self):
+        instance = Instance(self.folder)
+        for _ in range(2):
+            with instance.once():
+                wait_for(lambda: instance.journal.exists() and instance.journal.stat().st_size == 4)
+        instance.journal.unlink()
+        gone = ["error: there is no journal, and none is to be made: bench.journal", "fault 21 File"]
+        with instance:
+            wait_for(lambda: instance.told()[-4:] == gone * 2)
+        self.assertEqual((instance.journal.exists(), set(instance.told())), (False, set(gone)))
 
     def test_one_that_can_not_start_is_started_again(self):
         instance = Instance(self.folder)
@@ -416,7 +428,7 @@ class UnitFileTest(BenchTest):
         self.assertEqual(instance.orders.stat().st_ino, number)
         instance.orders.unlink()
         instance.orders.write_text("")
-        self.assertEqual([made.returncode for made in instance.run("ExecStartPre", subprocess.run)], [1])
+        self.assertEqual([made.returncode for made in instance.run("ExecStartPre", subprocess.run)], [1, 0])
 
     def test_it_is_started_again_without_end(self):
         keys = settings_of(UNIT.read_text())

@@ -80,6 +80,10 @@ GOOD = {
     "other characters": ("order,unit,colour\n1,5,wei\u00df \U0001f4a1\n".encode(),
                          ['{"order":1,"unit":5,"colour":"wei\\u00df \\ud83d\\udca1"}']),
     "no orders": (b"order,unit,gtin\n", [""]),
+    "a line that names the separator": (b"sep=;\r\norder;unit;colour\r\n1;5;a,b\r\n",
+                                        ['{"order":1,"unit":5,"colour":"a,b"}']),
+    "the same in quotes, behind the mark": (MARK + b'"SEP=,"\norder,unit,colour\n1,5,a;b\n',
+                                            ['{"order":1,"unit":5,"colour":"a;b"}']),
 }
 NUMBERED = {
     "numbers from 7": (b"unit,gtin\n5,4006381333931\n;\n6,\n".replace(b";", b","),
@@ -97,6 +101,7 @@ TABS = "line 1: the cells stand between tabs: the table has to be saved as CSV, 
 ORDER_MISSING = "line 1: order: the key is missing"
 UNIT_MISSING = "line 1: unit: the key is missing"
 WIDE = ": one with a separator in it stands in quotes"
+IS_JSON = "line 1: this is JSON, and no table: `dali_bench check` and `drive` take it as it is"
 QUOTES = "a quoted cell isn't closed, or has more behind its closing quote"
 WHOLE = "and it is a whole number"
 # Tables with what is told of each, behind the file's name.
@@ -121,6 +126,12 @@ BAD = (
                               ORDER_MISSING, UNIT_MISSING]),
     (b"order\tunit\n1\t5\n", [TABS]),
     (b"PK\x03\x04\x14\0\0\0", [WORKBOOK]),
+    (b'[{"order": 1, "unit": 5, "year": 24}]', [IS_JSON]),
+    (MARK + b'\r\n [{"order": "1"}]', [IS_JSON]),
+    (b'{"order": 1, "unit": 5}\n{"order": 2, "unit": 5}\n', [IS_JSON]),
+    (b"sep=;\norder;unit;yaer\n1;5;24\n", ["line 2: yaer: no such key (year?)"]),
+    (b"sep=;\norder;unit;year\n1;5;x\n", [f'line 3: year: the cell "x", {WHOLE} or null']),
+    (b"sep=|\norder|unit|year\n", ["line 1: sep=|: no such key", ORDER_MISSING, UNIT_MISSING]),
     (b"\xd0\xcf\x11\xe0\xa1\xb1", [WORKBOOK]),
     (b"order,unit;year\n1,5;24\n", ["line 1: order,unit: no such key", ORDER_MISSING, UNIT_MISSING]),
     (b"order,unit,year\n1,5\n2,5,24,\n3,5,24\n4\n", ["line 2: 2 cells, and the header has 3",

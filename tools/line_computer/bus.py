@@ -7,18 +7,19 @@ at hand is sent again and answered from the journal. Where the store is lost, ad
 
 from __future__ import annotations
 
+import collections
 import contextlib
 import pathlib
 import sys
 import time
 from typing import Optional
 
-from . import journals, schema
+from . import cancelling, journals, schema
 from .database import Database, StoreLost
 from .faults import Failed, Refused, plain, why
 from .link import Link
 from .orders import Order, now
-from .program import Program
+from .program import NOT_BEGUN, Program
 from .told import Ready, Replied, Reported, Taken, Told, Trouble, Unaccepted, told_by
 from .work import BusState, Work
 
@@ -26,6 +27,7 @@ POLL = 0.05  # seconds between two looks at what is told
 IDLE = 0.2  # and at the store, where there is no order
 SHORTEST_WAIT = 0.1
 RESEND = 60  # seconds behind which a line is sent again that no reply came to
+BEGIN = 0.1  # seconds behind the reply `taken` in which a journal gets the order, as a rule
 SAY = 1  # seconds between two tellings of how far an order is
 SEEN = 10  # and that the process is there
 LOCKED = 2  # seconds for another process of this bus to end
@@ -66,12 +68,17 @@ class BusProcess:
         self.state = BusState()
         self.start_waits, self.store_waits, self.order_waits = (Waits(longest_wait) for _ in range(3))
         self.is_wanted, self.is_until_empty = True, False
+        self.asked_at = 0.0  # when to look whether an order is to be cancelled
         self._forget()
 
     def _forget(self) -> None:
         """Know nothing of a drive: it is another one. What wasn't kept is told again from the journal."""
         self.is_ready, self.sent, self.is_taken, self.sent_at = False, None, False, 0.0
         self.said_at = self.look_at = 0.0
+        self.order: Optional[Order] = None  # that was sent last
+        self.unbegun_at: Optional[float] = None  # when to look whether the journal has it, once the drive has taken it
+        # By number how many lines were written that no last reply came to: the drive may still take one of them.
+        self.unanswered: collections.Counter = collections.Counter()
         self.unkept: list[Told] = []  # what was told, and isn't in the store yet
         self.reasons: list[str] = []  # words of what may have gone wrong
 
@@ -91,6 +98,7 @@ class BusProcess:
             self.mark = journals.claim(self.database, self.bus, self.folder)
             journals.recover(self.database, self.bus, self.folder)
             journals.want_newer_store(self.database, self.bus, self.folder, self.program)
+            journals.want_all_known(self.database, self.bus, self.folder, self.program)
         except (Refused, Failed, OSError) as fault:
             self.work.say(BusState("stopped", trouble=why(fault), since=now()))
             raise Failed(why(fault)) if isinstance(fault, OSError) else fault
@@ -103,7 +111,6 @@ class BusProcess:
                 self._end_link()
                 raise StoreLost(f"the bus {self.bus} is locked by another process, or still by an earlier connection")
         self.database, self.work = database, Work(database, self.bus)
-        self.store_waits.reset()
 
     def _lose_store(self, fault: Exception) -> None:
         """Close the store, and wait before it is opened again."""
@@ -139,6 +146,9 @@ class BusProcess:
             self._open_again()
         if time.monotonic() - self.said_at > SEEN:
             self._say()
+        if time.monotonic() >= self.asked_at:
+            self.asked_at = time.monotonic() + IDLE
+            self._withdraw()
         if self.link is None:
             self._start()
         else:
@@ -149,9 +159,10 @@ class BusProcess:
                 self._go_on()
 
     def _say(self) -> None:
-        """Have the store know how the bus stands."""
+        """Have the store know how the bus stands. Where it takes that, it can be used again."""
         self.said_at = time.monotonic()
         self.work.say(self.state)
+        self.store_waits.reset()
 
     def _start(self) -> None:
         """Start adapter and drive, once the time to wait is over."""
@@ -179,6 +190,7 @@ class BusProcess:
         for it in self.unkept:
             self._show(it)
         self.work.keep(self.unkept, self.state)
+        self.store_waits.reset()
         self.said_at = time.monotonic()
         told, self.unkept = self.unkept, []
         for it in told:
@@ -193,7 +205,7 @@ class BusProcess:
         elif isinstance(it, Reported):
             self.state.number = self.state.frames = None
             if it.code is None:
-                self.state.is_in(f"order {it.number} {it.reply}")
+                self.state.is_in(it.words())
             else:
                 self.state.is_well()
 
@@ -203,13 +215,16 @@ class BusProcess:
             self.is_ready = True
         elif isinstance(it, Taken):
             self.is_taken = it.number == self.sent
+            self.unbegun_at = time.monotonic() + BEGIN if self.is_taken else None
         elif isinstance(it, Replied):
             # Where its report doesn't come, it is sent again.
             self.is_taken, self.sent_at = False, time.monotonic()
         elif isinstance(it, Reported):
-            self.sent = None if it.number == self.sent else self.sent
+            self.unanswered[it.number] -= 1
+            if it.number == self.sent:
+                self.sent = self.unbegun_at = None
             if it.code is None:
-                self.tell(f"order {it.number} {it.reply}")
+                self.tell(it.words())
                 self.order_waits.begin()
             else:
                 self.start_waits.reset()
@@ -240,6 +255,8 @@ class BusProcess:
         lines = link.end()
         if self.database:
             self._listen(lines)
+            if self.unbegun_at is not None:
+                self._look_whether_begun()
         return link.adapter.returncode
 
     def _wait_to_start(self, words: str) -> None:
@@ -255,6 +272,8 @@ class BusProcess:
     def _go_on(self) -> None:
         """Have the drive at work on the first order that has no end."""
         if self.sent is not None and (self.is_taken or time.monotonic() - self.sent_at < RESEND):
+            if self.unbegun_at is not None and time.monotonic() >= self.unbegun_at:
+                self._look_whether_begun()
             self._say_how_far()
             return
         if self.sent is not None:
@@ -282,10 +301,49 @@ class BusProcess:
                 self.order_waits.begin()
                 return
         order = self.work.send(order)
-        if order and self.link.write(order.line()):
+        if order is None:
+            return
+        self.order, self.unbegun_at = order, None
+        self.unanswered[order.number] += 1
+        if self.link.write(order.line()):
             self.sent, self.is_taken, self.sent_at = order.number, False, time.monotonic()
-        elif order:
+        else:
             self.order_waits.begin()
+
+    def _look_whether_begun(self) -> None:
+        """Keep that the order at work is begun once the journal has it, which is a while behind the reply `taken`."""
+        self.unbegun_at = time.monotonic() + SAY
+        try:
+            if self._said_of(self.order) not in NOT_BEGUN:
+                self.work.keep_begun(self.order.number)
+                self.unbegun_at = None
+        except StoreLost:
+            raise
+        except (Refused, Failed):
+            pass  # as where the journal can't be read: the drive tells that too
+
+    def _said_of(self, order: Order) -> str:
+        """Give what the journals of the bus say of an order."""
+        return self.program.said_of(journals.paths(self.database, self.bus, self.folder), order.object())
+
+    def _withdraw(self) -> None:
+        """Cancel what is asked to be cancelled where the journal never had it. A drive that may have it is stopped."""
+        for order in cancelling.asked(self.database, self.bus):
+            try:
+                said = self._said_of(order)
+                if said in NOT_BEGUN and self.link is not None and self.unanswered[order.number] > 0:
+                    self.tell(f"the drive is stopped, since order {order.number} is to be cancelled")
+                    self._end_link()
+                if self.link is None:
+                    with journals.at_rest(self.folder):
+                        said = self._said_of(order)
+                cancelling.settle(self.database, order, said)
+            except StoreLost:
+                raise
+            except (Refused, Failed, OSError) as fault:
+                cancelling.answer(self.database, order.number,
+                                  f"order {order.number} can't be cancelled now: {why(fault)}")
+            self.order_waits.reset()
 
     def _say_how_far(self) -> None:
         """Say now and then how many frames of the order were answered."""

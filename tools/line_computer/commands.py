@@ -4,24 +4,28 @@ from __future__ import annotations
 
 import argparse
 import contextlib
+import errno
 import os
 import pathlib
 import re
+import shutil
 import signal
 import sys
 import time
-from typing import Iterable
+from typing import Callable
 
-from . import incoming, journals, labels, orders, page, schema, server
+from . import cancelling, incoming, journals, labels, orders, outputs, page, schema, server
 from .bus import BusProcess
 from .database import STORE, Database, StoreLost
 from .faults import Failed, Refused, plain, why
+from .outputs import write
 from .program import Program
 from .schema import MIGRATIONS, MOST_NUMBER, STATES
 from .work import Work
 
 ROOT = pathlib.Path(__file__).resolve().parent.parent.parent
 LONGEST_WAIT = 30.0
+WAITED = 5  # seconds behind which a command tells what it waits for
 ABOUT = """Bring orders to the drives of a bench's buses, one at a time, and their ends and labels back.
 
 STORE is the file of an SQLite database (default: orders.db), or postgresql://USER@HOST/DATABASE, which needs psycopg2;
@@ -39,15 +43,17 @@ class Parser(argparse.ArgumentParser):
         self.exit(1, f"error: {plain(message)}\n{self.format_usage()}")
 
 
-def write(lines: Iterable[str]) -> None:
-    """Write lines to standard output, all of them before this returns."""
-    left = memoryview("".join(f"{line}\n" for line in lines).encode())
-    try:
-        while left:
-            left = left[os.write(1, left):]
-    except OSError as fault:
-        raise Failed("" if isinstance(fault, BrokenPipeError) else
-                     f"the output can't be written: {fault.strerror}") from fault
+def say(words: str) -> None:
+    """Tell a person what a command waits for, where standard error takes it."""
+    with contextlib.suppress(OSError):
+        print(plain(words), file=sys.stderr, flush=True)
+
+
+def let_signals_interrupt() -> None:
+    """Have what ends a command end it as an interrupt does, so that what it asked for is withdrawn."""
+    for number in (signal.SIGTERM, signal.SIGHUP):
+        if signal.getsignal(number) != signal.SIG_IGN:
+            signal.signal(number, signal.default_int_handler)
 
 
 def on_init(options) -> None:
@@ -61,7 +67,7 @@ def on_add(options) -> None:
     database = schema.open_store(options.store)
     bus = schema.bus_meant(database, options.bus)
     items = incoming.items_of(incoming.read(options.file), options.latin_1, Program(options.program))
-    given = orders.add(database, bus, items)
+    given = orders.add(database, bus, items, options.same_luminaire)
     new = sum(is_new for _, is_new in given)
     lines = [f"item {at} order {number}" + ("" if is_new else " known") for at, (number, is_new) in enumerate(given, 1)]
     write([*lines, f"added {new} known {len(given) - new}"])
@@ -70,13 +76,22 @@ def on_add(options) -> None:
 def on_run(options) -> None:
     """Be the process of a bus until SIGTERM, or an interrupt from the keyboard."""
     folder = pathlib.Path(options.folder or options.bus)
-    process = BusProcess(options.store, options.bus, folder, options.adapter, Program(options.program),
+    want_adapter(options.words[0])
+    process = BusProcess(options.store, options.bus, folder, options.words, Program(options.program),
                          options.longest_wait)
     process.is_until_empty = options.until_empty
     for number in (signal.SIGTERM, signal.SIGINT):
         signal.signal(number, lambda *_: setattr(process, "is_wanted", False))
     process.open()
     process.run()
+
+
+def want_adapter(name: str) -> None:
+    """Make sure that the adapter is there and may be run."""
+    if not shutil.which(name):
+        path = os.path.abspath(name) if "/" in name else f"{name}, on the path"
+        what = "may not be run: `chmod +x` lets it" if os.path.isfile(name) and "/" in name else "isn't there"
+        raise Failed(f"the adapter {what}: {path}")
 
 
 def on_status(options) -> None:
@@ -96,38 +111,74 @@ def on_orders(options) -> None:
 
 
 def on_cancel(options) -> None:
-    """Cancel an order that wasn't sent."""
-    orders.cancel(schema.open_store(options.store), options.number)
-    write([f"order {options.number} cancelled"])
+    """Cancel orders that weren't begun."""
+    database = schema.open_store(options.store)
+    let_signals_interrupt()
+    answers = cancelling.cancel(database, options.numbers, Program(options.program), say)
+    write(f"order {number} cancelled" for number, answer in answers.items() if answer == cancelling.CANCELLED)
+    refused = [answer for answer in answers.values() if answer != cancelling.CANCELLED]
+    if refused:
+        raise Refused("\n".join(refused))
 
 
 def on_labels(options) -> None:
-    """Write the labels that nobody has taken."""
+    """Put labels out: to standard output, a command or a printer."""
     database = schema.open_store(options.store)
+    put = put_of(options)
     if options.take:
-        labels.take(database, write)
+        labels.take(database, put)
+    elif options.again:
+        labels.again(database, options.again, put)
     else:
-        write(labels.left(database))
+        write(outputs.lines_of((labels.all_of if options.all else labels.left)(database), options.csv))
+
+
+def put_of(options) -> Callable[[labels.Label], None]:
+    """Give what puts a label out as the options say."""
+    is_out = options.take or options.again
+    if (options.words or options.printer) and (not is_out or options.csv or options.words and options.printer):
+        raise Refused("a command behind --, or --printer, stands beside --take or --again, and --csv beside neither")
+    if options.words:
+        return outputs.to_command(options.words)
+    return outputs.to_printer(*place_of("--printer", options.printer)) if options.printer else \
+        outputs.to_output(options.csv)
 
 
 def on_retire(options) -> None:
     """Retire the journal of a bus: here, or by its process once the order at work has ended."""
     database = schema.open_store(options.store)
     number = schema.number_of_bus(database, options.bus)
+    let_signals_interrupt()
     database.change("update bench_buses set retire = ?, answer = null where bus = ?", int(not options.power_was_taken),
                     options.bus)
-    while True:
-        answer, folder = database.rows("select answer, folder from bench_buses where bus = ?", options.bus)[0]
-        if answer is None and database.lock(options.bus, number):
-            answer = retire_here(database, options, folder)
-        if answer is not None:
-            break
-        if options.power_was_taken:
-            raise Refused(f"the bus {options.bus} has a process: end its `run` first")
-        time.sleep(0.1)
+    try:
+        answer = answer_to_retire(database, options, number)
+    except BaseException:
+        # Nobody waits for an answer any more.
+        with contextlib.suppress(StoreLost):
+            database.change("update bench_buses set retire = 0 where bus = ?", options.bus)
+        raise
     if not answer.startswith("retired "):
         raise Refused(answer)
     write([answer])
+
+
+def answer_to_retire(database: Database, options, number: int) -> str:
+    """Wait until the journal of a bus is retired, or can't be; give what became of it."""
+    asked, told = time.monotonic(), None
+    while True:
+        answer, folder = database.rows("select answer, folder from bench_buses where bus = ?", options.bus)[0]
+        if answer is None and database.lock(options.bus, number):
+            return retire_here(database, options, folder)
+        if answer is not None:
+            return answer
+        if options.power_was_taken:
+            raise Refused(f"the bus {options.bus} has a process: end its `run` first")
+        words = Work(database, options.bus).waited_for()
+        if words and words != told and (time.monotonic() - asked > WAITED or "blocked" in words):
+            say(words)
+            told = words
+        time.sleep(0.1)
 
 
 def retire_here(database: Database, options, name: str | None) -> str:
@@ -138,7 +189,9 @@ def retire_here(database: Database, options, name: str | None) -> str:
             raise Refused("the journal can't be retired: the bus has none now")
         with journals.claim(database, bus, folder):
             journals.recover(database, bus, folder)
-            return f"retired {journals.retire(database, bus, folder, program, options.power_was_taken)}"
+            if options.power_was_taken:
+                return f"retired {journals.give_up(database, bus, folder, program, options.cancel_sent)}"
+            return f"retired {journals.retire(database, bus, folder, program)}"
     except StoreLost:
         raise
     except (Refused, Failed, OSError) as fault:
@@ -148,16 +201,26 @@ def retire_here(database: Database, options, name: str | None) -> str:
 
 def on_page(options) -> None:
     """Serve the page until an interrupt."""
-    host, _, port = options.listen.rpartition(":")
-    if not host or not re.fullmatch("[0-9]{1,5}", port) or int(port) > 65535:
-        raise Refused(f"--listen takes HOST:PORT, as 127.0.0.1:8080, and not {options.listen}")
+    host, port = place_of("--listen", options.listen)
+    if not options.anyone_may_read and not server.is_of_this_computer(host):
+        raise Refused(f"--listen {options.listen} is open to other computers, and the page asks for no password: leave"
+                      " it at 127.0.0.1, behind a server with a password, or let them by --anyone-may-read")
     schema.open_store(options.store).close()
     for number in (signal.SIGTERM, signal.SIGINT):
         signal.signal(number, lambda *_: sys.exit(0))
     try:
-        server.serve(options.store, host.strip("[]"), int(port), lambda url: write([url]))
+        server.serve(options.store, host, port, lambda url: write([url]))
     except OSError as fault:
-        raise Failed(f"{options.listen}: {fault.strerror or fault}") from fault
+        more = f": --listen {host}:{port + 1} takes another port" if fault.errno == errno.EADDRINUSE else ""
+        raise Failed(f"{options.listen}: {fault.strerror or fault}{more}") from fault
+
+
+def place_of(option: str, text: str) -> tuple[str, int]:
+    """Read the host and the port of an option."""
+    host, _, port = text.rpartition(":")
+    if not host or not re.fullmatch("[0-9]{1,5}", port) or int(port) > 65535:
+        raise Refused(f"{option} takes HOST:PORT, as 127.0.0.1:8080, and not {text}")
+    return host.strip("[]"), int(port)
 
 
 def number_of(text: str) -> int:
@@ -200,14 +263,27 @@ def make_order_commands(commands) -> None:
                    " the bus knows by it is the same one, and isn't added again.",
                    {"help": "the bus that they are for; may be left out where there is only one"}, True)
     made.add_argument("--latin-1", action="store_true", help="the table is in Latin-1")
+    made.add_argument("--same-luminaire", action="store_true",
+                      help="take orders that give another GTIN or identification number to a unit than one that waits")
     made.add_argument("file", metavar="FILE")
     made = command(commands, on_orders, "List the orders: a line each, by their numbers.")
     made.add_argument("--state", choices=STATES, metavar="S", help=f"those alone that are {', '.join(STATES)}")
-    made = command(commands, on_cancel, "Cancel an order that wasn't sent to a drive.")
-    made.add_argument("number", metavar="N", type=number_of)
+    made = command(commands, on_cancel, "Cancel orders that weren't begun: one that was sent too, if the journal of its"
+                   " bus never had it. The bus's drive is stopped for that if it has to be.", has_program=True)
+    made.add_argument("numbers", metavar="N", type=number_of, nargs="+")
     made = command(commands, on_labels, "Print the labels that nobody has taken: a line of JSON each, with the order's"
-                   " fields.")
-    made.add_argument("--take", action="store_true", help="have them taken, so that they aren't printed again")
+                   " fields. With --take or --again a COMMAND behind -- is started for each, with its line as standard"
+                   " input.")
+    made.usage = "line_computer labels [options] [-- COMMAND [WORDS..]]"
+    which = made.add_mutually_exclusive_group()
+    which.add_argument("--take", action="store_true",
+                       help="have each taken once it is out, so that it isn't printed again: once it was read, of a"
+                            " pipe; once COMMAND ended with status 0")
+    which.add_argument("--again", metavar="N", type=number_of, nargs="+",
+                       help="print those of these orders once more, which were taken, with how often they were printed")
+    which.add_argument("--all", action="store_true", help="print those that were taken too")
+    made.add_argument("--csv", action="store_true", help="as a table, in place of lines of JSON")
+    made.add_argument("--printer", metavar="HOST:PORT", help="send each over a connection of its own")
 
 
 def make_bus_commands(commands) -> None:
@@ -225,10 +301,15 @@ def make_bus_commands(commands) -> None:
                    " Where the bus is at work this waits for the end of its order.", bus, True)
     made.add_argument("--power-was-taken", action="store_true",
                       help="retire one that isn't idle or can't be read, now that all units of the bus have lost their"
-                           " power and have it again: the order at work counts as in doubt")
+                           " power and have it again")
+    made.add_argument("--cancel-sent", action="store_true",
+                      help="with --power-was-taken: cancel the orders that were sent and aren't begun; one that was"
+                           " begun counts as in doubt. Without it they are named, and nothing is done")
     made = command(commands, on_page, "Show all of it as a page for browsers, which changes nothing.")
     made.add_argument("--listen", metavar="HOST:PORT", default="127.0.0.1:8080",
                       help="where the page is (default: 127.0.0.1:8080)")
+    made.add_argument("--anyone-may-read", action="store_true",
+                      help="let other computers read it, which asks for no password")
 
 
 def parser() -> Parser:
@@ -245,10 +326,13 @@ def main(arguments: list[str]) -> int:
     """Do what a command line says, and give the status to end with."""
     end = arguments.index("--") if "--" in arguments else len(arguments)
     words = parser()
-    options = words.parse_args(arguments[:end])
-    options.adapter = arguments[end + 1:]
-    if (options.act is on_run) != bool(options.adapter):
-        words.error("`run` takes the adapter and its words behind --, and no other command does")
+    options, unknown = words.parse_known_args(arguments[:end])
+    if unknown:
+        more = ": put -- before the adapter" if options.act is on_run else ""
+        words.error(f"unrecognized arguments: {' '.join(unknown)}{more}")
+    options.words = arguments[end + 1:]
+    if options.act is on_run and not options.words or options.words and options.act not in (on_run, on_labels):
+        words.error("`run` takes the adapter and its words behind --, and `labels` a command; no other one does")
     try:
         options.act(options)
     except StoreLost as fault:

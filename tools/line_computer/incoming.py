@@ -10,13 +10,13 @@ import re
 import sys
 
 from .faults import Failed, Refused, why
-from .orders import Item, spelled
+from .orders import LENGTH_OF_GTIN, Item, spelled
 from .program import Program
 
 # It stands beside this package, and is a program by itself.
 TABLES = pathlib.Path(__file__).resolve().parent.parent / "orders_from_csv"
-LENGTH_OF_GTIN = 14
 MOST_TOLD = 1000
+BYTE_ORDER_MARK = b"\xef\xbb\xbf"
 
 
 def read(name: str) -> bytes:
@@ -58,6 +58,8 @@ def orders_of_table(data: bytes, is_latin_1: bool) -> list[dict]:
 
 def orders_of(data: bytes, is_latin_1: bool, program: Program) -> list[dict]:
     """Give the orders of a file. What is no array of objects is refused with the words of `check`."""
+    if data.startswith(BYTE_ORDER_MARK) and data[3:].lstrip()[:1] in (b"[", b"{"):
+        data = data[3:]
     if data.lstrip()[:1] not in (b"[", b"{"):
         return orders_of_table(data, is_latin_1)
     try:

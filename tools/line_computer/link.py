@@ -38,7 +38,9 @@ class Link:
         except OSError as fault:
             raise Failed(why(fault)) from fault
         behind = [word for name in older for word in ("--older", str(folder / name))]
-        words = [*with_parent(), *adapter, "--", *drive, "--follow", *behind, "--report", str(folder / TOLD),
+        # A journal that is there now is never made anew: over a new one its orders would act again.
+        there = ["--require-journal"] if has_bytes(folder / JOURNAL) else []
+        words = [*with_parent(), *adapter, "--", *drive, "--follow", *there, *behind, "--report", str(folder / TOLD),
                  str(folder / ORDERS), str(folder / JOURNAL)]
         try:
             self.adapter = subprocess.Popen(words, stdin=subprocess.DEVNULL, stdout=subprocess.DEVNULL, stderr=writer,
@@ -153,6 +155,14 @@ class Link:
             lines += self.read(0.1)
         self._close()
         return lines
+
+
+def has_bytes(path: pathlib.Path) -> bool:
+    """Tell whether a file is there that isn't empty."""
+    try:
+        return path.stat().st_size > 0
+    except FileNotFoundError:
+        return False
 
 
 def environment() -> dict:

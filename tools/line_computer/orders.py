@@ -1,4 +1,4 @@
-"""Orders: how they are added, cancelled and listed. Each has a number of the store's own, which is never used again."""
+"""Orders: how they are added and listed. Each has a number of the store's own, which is never used again."""
 
 from __future__ import annotations
 
@@ -8,8 +8,9 @@ from typing import NamedTuple, Optional
 
 from .database import Database
 from .faults import Refused
-from .schema import AT_WORK, MOST_NUMBER
+from .schema import LIVE, MOST_NUMBER
 
+LENGTH_OF_GTIN = 14
 # So many rows a statement: an older SQLite takes at most 999 values.
 ROWS = 90
 COLUMNS = ("number", "bus", "reference", "unit", "fields", "gtin", "expected", "state", "added")
@@ -60,7 +61,7 @@ def now() -> int:
     return int(time.time())
 
 
-def add(database: Database, bus: str, items: list[Item]) -> list[tuple[int, bool]]:
+def add(database: Database, bus: str, items: list[Item], is_same_luminaire: bool = False) -> list[tuple[int, bool]]:
     """Add all of these orders, or none; give the number of each, and whether it is new.
 
     One whose reference the bus knows with the same contents is that order, and isn't added again.
@@ -72,10 +73,13 @@ def add(database: Database, bus: str, items: list[Item]) -> list[tuple[int, bool
         if following > MOST_NUMBER:
             raise Refused(f"the numbers of this store are used up, at {MOST_NUMBER}")
         known = known_references(database, bus, [item.reference for item in items if item.reference])
+        luminaires = None if is_same_luminaire else Luminaires(database, bus)
         given, rows = [], []
         for number, item in enumerate(items, following - len(items)):
             before = known.get(item.reference)
             if before is None:
+                if luminaires:
+                    luminaires.want_same(item, len(given) + 1)
                 rows += (number, bus, item.reference, item.unit, item.fields, item.gtin, item.expected, "added", now())
             elif before[1:] != (item.unit, item.fields):
                 raise Refused(f"item {len(given) + 1} order {item.reference}: the number of order {before[0]} of this"
@@ -85,6 +89,42 @@ def add(database: Database, bus: str, items: list[Item]) -> list[tuple[int, bool
             known.pop(None, None)
         insert(database, rows)
     return given
+
+
+class Luminaires:
+    """What the orders that wait on a bus say of the luminaire at each unit: the GTIN and the identification number.
+
+    Two orders that say otherwise are for two luminaires, and at a unit there is one at a time.
+    """
+
+    def __init__(self, database: Database, bus: str):
+        """Take what the store's orders of the bus say that haven't ended."""
+        self.known: dict = {}  # by unit and key: the value, and the words for who says it
+        for number, unit, fields in database.rows(f"select number, unit, fields from bench_orders where bus = ? and"
+                                                  f" {LIVE} order by number", bus):
+            for key, value in identity(fields):
+                self.known.setdefault((unit, key), (value, f"order {number}, which waits for it"))
+
+    def want_same(self, item: Item, at: int) -> None:
+        """Refuse an item, counted from 1, that says otherwise; else take what it says."""
+        for key, value in identity(item.fields):
+            before, who = self.known.setdefault((item.unit, key), (value, f"item {at}"))
+            if before != value:
+                raise Refused(f"item {at}: unit {item.unit} would get {key} {value}, and {who}, {before}: where both"
+                              " are for one luminaire, --same-luminaire says so; else add this once that one has ended"
+                              " and the next luminaire is there")
+
+
+def identity(fields: str) -> list[tuple[str, str]]:
+    """Give what the fields of an order say of which luminaire it is for, spelled so that the same has the same text."""
+    try:
+        found = json.loads(fields)
+    except ValueError:
+        found = None
+    if not isinstance(found, dict):
+        return []  # another program has put it into the store: `check` refuses it before it is sent
+    return [(key, "unknown" if found[key] is None else str(found[key]).upper().zfill(length))
+            for key, length in (("gtin", LENGTH_OF_GTIN), ("identification", 0)) if key in found]
 
 
 def known_references(database: Database, bus: str, references: list[str]) -> dict:
@@ -106,21 +146,6 @@ def insert(database: Database, values: list) -> None:
         some = values[at:at + ROWS * len(COLUMNS)]
         rows = ", ".join([row] * (len(some) // len(COLUMNS)))
         database.change(f"insert into bench_orders ({', '.join(COLUMNS)}) values {rows}", *some)
-
-
-def cancel(database: Database, number: int) -> None:
-    """Cancel an order that wasn't sent. It is refused of one that was, since the drive may have it."""
-    with database.transaction():
-        database.change("update bench_orders set state = 'cancelled', ended = ? where number = ? and state = 'added'",
-                        now(), number)
-        found = database.rows("select state, told from bench_orders where number = ?", number)
-    if not found:
-        raise Refused(f"there is no order {number}")
-    state, told = found[0]
-    if state in AT_WORK:
-        raise Refused(f"order {number} is at work: it was sent, and is carried out or told as ended")
-    if state != "cancelled":
-        raise Refused(f"order {number} has ended: {told or state}")
 
 
 def listed(database: Database, state: str | None) -> list[str]:

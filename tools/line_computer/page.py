@@ -10,8 +10,7 @@ from typing import Optional
 
 from .charts import ENDS, HOURS, LAST_ORDERS, Hour, hours_picture, means_of, misses_picture
 from .database import Database
-from .incoming import LENGTH_OF_GTIN
-from .orders import now
+from .orders import LENGTH_OF_GTIN, now
 from .schema import LIVE, MOST_NUMBER
 
 # A bus that said nothing for so long has no process.
@@ -179,11 +178,16 @@ def order_part(database: Database, number: int) -> str:
     fields = json.loads(known.pop("fields"))
     for name in ("added", "sent", "ended"):
         known[name] = moment(known[name])
-    labels = database.rows("select made, taken from bench_labels where number = ?", number)
-    known["label"] = "none" if not labels else "taken " + moment(labels[0][1]) if labels[0][1] else "not taken yet"
+    labels = database.rows("select taken, printed from bench_labels where number = ?", number)
+    known["label"] = label_of(*labels[0]) if labels else "none"
     rows = "".join(f"<tr><th>{escape(name)}</th><td>{escape(str(value))}</td></tr>"
                    for name, value in {**fields, **known}.items() if value not in (None, "") or name in fields)
     return f"<h2>Order {number}</h2><table>{rows}</table>"
+
+
+def label_of(taken: Optional[int], printed: int) -> str:
+    """Tell what became of a label."""
+    return f"taken {moment(taken)}, printed {printed} time{'s' * (printed != 1)}" if taken else "not taken yet"
 
 
 def form_part(query: dict) -> str:

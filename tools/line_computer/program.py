@@ -14,6 +14,10 @@ ACCEPTED = re.compile("item ([0-9]+) order [0-9]+ unit ([0-9]+) bytes ([0-9]+)")
 FAULT = re.compile("(item [0-9]+ )?fault .*")
 COUNTS = re.compile("counts ([0-9]+) of ([0-9]+) orders ([0-9]+) standing (.*)")
 FREE = re.compile("free ([0-9]+|none)")
+BEGUN = re.compile("^B order ([0-9]+) ", re.MULTILINE)
+# What `check --journal` says of an order, and what of it tells that the order was never begun.
+SAID = re.compile("^(known .*|new|full)$", re.MULTILINE)
+NOT_BEGUN = ("new", "full")
 # From this location on an order needs the content format too.
 BEHIND_FORMAT = 0x13
 
@@ -74,10 +78,31 @@ class Program:
             raise Refused(f"the journal can't be read: {(ended.stdout + ended.stderr).strip().splitlines()[-1]}")
         return counts[4], counts[1] == counts[2]
 
+    def begun(self, journal: str) -> set[int]:
+        """Give the numbers of all orders that a journal has."""
+        ended = self.ask("journal", journal)
+        if ended.returncode:
+            raise Refused(f"the journal can't be read: {(ended.stdout + ended.stderr).strip().splitlines()[-1]}")
+        return set(map(int, BEGUN.findall(ended.stdout)))
+
+    def said_of(self, journals: list[str], order: dict) -> str:
+        """Give what these journals say of an order, as `new` or `known begun`; what they say is on the disk then."""
+        if not journals:
+            return NOT_BEGUN[0]
+        ended = self.beside(journals, json.dumps([order]).encode("ascii"))
+        found = SAID.search(ended.stdout)
+        if ended.returncode or not found:
+            raise Refused(f"the journals can't be read: {(ended.stderr or ended.stdout).strip()}")
+        return found[1]
+
+    def beside(self, journals: list[str], orders: bytes) -> subprocess.CompletedProcess:
+        """Check orders beside these journals."""
+        older = [word for journal in journals[1:] for word in ("--older", journal)]
+        return self.ask("check", "--journal", journals[0], *older, "-", given=orders)
+
     def free(self, journals: list[str]) -> int:
         """Give the first number above all that these journals have."""
-        older = [word for journal in journals[1:] for word in ("--older", journal)]
-        ended = self.ask("check", "--journal", journals[0], *older, "-", given=b"[]")
+        ended = self.beside(journals, b"[]")
         last = (ended.stdout.splitlines() or [""])[-1]
         found = FREE.fullmatch(last)
         if ended.returncode or not found:

@@ -83,8 +83,25 @@ create table bench_labels (
 );
 create index bench_labels_left on bench_labels (number) where taken is null;
 """
+# The place of an order's journal among those of its bus; who has asked to cancel an order that was sent, and what was
+# answered; how often a label was printed. An order was taken in a store of version 1 once the drive had said so, which
+# it does before the journal has it.
+SECOND = """
+alter table bench_orders add column place integer;
+alter table bench_labels add column printed integer not null default 0;
+create table bench_withdrawals (
+    number bigint primary key references bench_orders,
+    answer text
+);
+update bench_labels set printed = 1 where taken is not null;
+update bench_orders set place = 1 + (
+    select count(*) from bench_journals
+    where bench_journals.bus = bench_orders.bus and bench_journals.retired < bench_orders.ended
+) where state = 'ended' and report is not null;
+update bench_orders set state = 'sent' where state = 'taken';
+"""
 # The statements that bring a store up, each from the version that is its place here to the next one.
-MIGRATIONS = (FIRST,)
+MIGRATIONS = (FIRST, SECOND)
 
 
 def version_of(database: Database) -> int:

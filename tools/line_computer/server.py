@@ -2,6 +2,7 @@
 
 from __future__ import annotations
 
+import ipaddress
 import socket
 import urllib.parse
 from html import escape
@@ -76,6 +77,15 @@ class Server(ThreadingHTTPServer):
 
     def handle_error(self, *_) -> None:
         """Tell nothing of a browser that has gone."""
+
+
+def is_of_this_computer(host: str) -> bool:
+    """Tell whether none but this computer reaches a host."""
+    try:
+        found = socket.getaddrinfo(host, None)
+    except OSError:
+        return True  # it can't be listened at: the system says why
+    return all(ipaddress.ip_address(place[0].partition("%")[0]).is_loopback for *_, place in found)
 
 
 def serve(place: str, host: str, port: int, tell: Callable[[str], None]) -> None:

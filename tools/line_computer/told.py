@@ -12,6 +12,7 @@ LAST = re.compile("kept [0-5] [A-Za-z]+|reused|full|blocked [0-9]+")
 REPLY = re.compile(f"reply ([0-9]+) (?:{LAST.pattern})")
 # The faults of an item that say nothing of the order, but of the line or of the memory that there was for it.
 FAULTS_OF_A_LINE = ("11", "12", "13", "20")
+REUSED = "the journal has its number for another order, and nothing was done: add it again"
 KINDS = {"code": (int, type(None)), "frames": int, "misses": int, "moment": (int, type(None)), "order": int,
          "reply": str}
 
@@ -42,6 +43,17 @@ class Reported(NamedTuple):
     frames: int
     misses: int
     line: str
+
+
+    def words(self) -> str:
+        """Tell a person what it means, of a reply that is no end."""
+        what, _, unit = self.reply.partition(" ")
+        if what == "blocked":
+            return (f"order {self.number} waits: unit {unit} was left open and is silent; put it back, or any unit at"
+                    f" address {unit}")
+        if what == "reused":
+            return f"order {self.number} reused: {REUSED}"
+        return f"order {self.number} {self.reply}"
 
 
 class Unaccepted(NamedTuple):

@@ -8,7 +8,11 @@ from typing import Optional
 from .database import Database
 from .orders import Order, now
 from .schema import LIVE, SENT
-from .told import Ready, Reported, Taken, Told, Unaccepted
+from .told import REUSED, Ready, Reported, Told, Unaccepted
+
+
+# The place that the journal in use gets among those of its bus, once it is retired.
+PLACE = "1 + (select count(*) from bench_journals where bus = ?)"
 
 
 @dataclass
@@ -70,16 +74,18 @@ class Work:
         """Keep all that was told, and what the bus says of itself behind it."""
         with self.database.transaction():
             for it in told:
-                if isinstance(it, Taken):
-                    self.database.change("update bench_orders set state = 'taken' where number = ? and bus = ?"
-                                         f" and {SENT}", it.number, self.bus)
-                elif isinstance(it, Reported):
+                if isinstance(it, Reported):
                     self._keep_reply(it)
                 elif isinstance(it, Unaccepted) and it.number is not None:
                     self._refuse(it.number, it.line)
                 elif isinstance(it, Ready):
                     self.database.change("update bench_buses set has_journal = 1 where bus = ?", self.bus)
             self._say(state)
+
+    def keep_begun(self, number: int) -> None:
+        """Keep that the journal has an order, on the disk."""
+        self.database.change(f"update bench_orders set state = 'taken', place = {PLACE} where number = ? and bus = ?"
+                             f" and {SENT}", self.bus, number, self.bus)
 
     def _keep_reply(self, it: Reported) -> None:
         """Keep the last reply to an order that was sent; one that wasn't is none of this store's."""
@@ -93,10 +99,11 @@ class Work:
                                  it.number)
             return
         is_known = it.code is not None and it.moment != found[0][0]
+        words = REUSED if it.code is None else f"{it.reply}, known before" if is_known else it.reply
         self.database.change(
-            "update bench_orders set state = ?, code = ?, told = ?, ended = ?, report = ?, frames = ?, misses = ?"
-            " where number = ?", "reused" if it.code is None else "ended", it.code,
-            f"{it.reply}, known before" if is_known else it.reply, now(), it.line, it.frames, it.misses, it.number)
+            "update bench_orders set state = ?, code = ?, told = ?, ended = ?, report = ?, frames = ?, misses = ?,"
+            f" place = {PLACE} where number = ?", "reused" if it.code is None else "ended", it.code,
+            words, now(), it.line, it.frames, it.misses, self.bus, it.number)
         if it.code == 0 and not is_known:
             self.database.change("insert into bench_labels (number, made) values (?, ?)", it.number, now())
 
@@ -114,6 +121,15 @@ class Work:
     def is_asked_to_retire(self) -> bool:
         """Tell whether the journal is asked to be retired."""
         return bool(self.database.rows("select 1 from bench_buses where bus = ? and retire = 1", self.bus))
+
+    def waited_for(self) -> Optional[str]:
+        """Tell what the retiring of the journal waits for, if an order is at work."""
+        order = self.next_order()
+        if order is None or order.state == "added":
+            return None
+        told = self.database.rows("select told from bench_orders where number = ?", order.number)[0][0]
+        unit = (told or "").partition("blocked ")[2]
+        return f"waits for order {order.number}" + (f", blocked by unit {unit}" if unit else "")
 
     def refuse_retire(self, words: str) -> None:
         """Keep why the journal isn't retired, for whoever asked."""

@@ -6,10 +6,12 @@ ghost use Rattle.std.specs.List.{AllByRecursion};
 ghost use Rattle.dali_link_commands.specs.LinkCommands.{IsShort};
 
 mod fault_stream;
+mod link_note;
 mod refusal;
 mod settled;
 
 use crate::fault_stream::{FaultStream, out_of_memory, print_fault, tell_cause, unopened};
+use crate::link_note::tell_refused;
 use crate::refusal::refused;
 use crate::settled::Settled;
 use dali_drive::{Sought, StdSink, StdSource, StoreDesk};
@@ -104,6 +106,7 @@ fn run(rt: &HostRuntime, words: &Vec<String>) -> Status {
                 short_plan,
                 require_done,
                 require_now,
+                require_journal,
                 progress,
                 report,
                 older,
@@ -116,6 +119,7 @@ fn run(rt: &HostRuntime, words: &Vec<String>) -> Status {
                 moment,
                 pace: pace_of(short_plan),
                 required: Required::of(require_done, require_now),
+                require_journal,
                 follow,
                 report,
             };
@@ -374,7 +378,7 @@ fn named_twice(units: &[u8]) -> Option<u8> {
 
 // Carries out a command over standard input and output. Where standard error can't be written, nothing more is. A
 // person at a terminal is told what is missing: the frames would be printed there, and the answers waited for. Who asks
-// for it watches how far the command is.
+// for it watches how far the command is, and is told what may be wrong where it is refused.
 fn on_link(rt: &HostRuntime, command: LinkCommand<'_>, is_watched: bool) -> Status
     requires { IsShort command }
 {
@@ -386,6 +390,9 @@ fn on_link(rt: &HostRuntime, command: LinkCommand<'_>, is_watched: bool) -> Stat
     let status = carried_out(rt, command, progress.as_ref());
     if let Some(progress) = &progress {
         progress.end();
+    }
+    if is_watched && status == Status::Refused {
+        tell_refused(rt, command);
     }
     status
 }

@@ -13,6 +13,9 @@ const AS_A_VALUE: &str = "  tip: to pass '";
 const A_MOMENT: &str =
     "A moment is a whole number from 0 to 18446744073709551615, as the clock's seconds: --moment $(date +%s)";
 
+// What is told behind a wrong unit of `read`.
+const A_UNIT: &str = "UNIT, 0 to 63, comes first, then HEXFILE";
+
 // Prints what `clap` says of a wrong command line, in which it repeats words of that.
 pub(crate) fn refused(
     rt: &HostRuntime,
@@ -34,6 +37,9 @@ pub(crate) fn refused(
     }
     if text.as_str().contains("'--moment <M>'") || has_signed_moment(words) {
         let _ = eprintln!(rt; "{A_MOMENT}");
+    }
+    if words.len() > 1 && words[1] == "read" && text.as_str().contains("'<UNIT>'") {
+        let _ = eprintln!(rt; "{A_UNIT}");
     }
     Status::Refused
 }

@@ -90,6 +90,7 @@ fn task_of<'a>(drive: &Drive<'a>, name: &'a str) -> DriveTask<'a> {
         moment: 0,
         pace: Pace::Checked,
         required: Required::Nothing,
+        require_journal: false,
         follow: false,
         report: None,
     }

@@ -37,6 +37,7 @@ fn is_driven(alloc: Global) -> bool {
         moment: 7,
         pace: Pace::Checked,
         required: Required::Done,
+        require_journal: false,
         follow: false,
         report: None,
     };

@@ -73,6 +73,7 @@ fn is_followed(alloc: Global, stream: &Stream<'_>) -> bool {
         moment: 7,
         pace: Pace::Checked,
         required: Required::Nothing,
+        require_journal: false,
         follow: true,
         report: None,
     };

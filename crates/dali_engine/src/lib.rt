@@ -10,5 +10,5 @@ mod writer;
 pub use dali_laws::laws;
 pub use dali_trace::{Event, Happening, Reply, RunFault, Want};
 pub use dali_write::{Cause, Pace};
-pub use runs::{Outcome, run, run_sim};
+pub use runs::{Outcome, run, run_sim, run_sim_with_pace, run_with_pace};
 pub use writer::{Writer, known_reply};

@@ -139,7 +139,7 @@ pub(crate) fn after_check(pace: Pace, order: Order, verdict: Verdict) -> Phase
 {
     match verdict {
         Verdict::MayOpen => {
-            let session = Session::opened(order.copy(), pace);
+            let session = Session::opened_with_pace(order.copy(), pace);
             Phase::Writes(order, session)
         }
         _ => Phase::Says(order.id(), check_code(verdict)),
@@ -154,11 +154,11 @@ pub(crate) fn resumed_phase(pace: Pace, standing: Standing) -> Phase
         Standing::Idle => Phase::Idle,
         Standing::Left(_) => Phase::Idle,
         Standing::Began(order) => {
-            let session = Session::fresh(order.copy(), pace);
+            let session = Session::fresh_with_pace(order.copy(), pace);
             Phase::Checks(order, session)
         }
         Standing::Opened(order) => {
-            let session = Session::opened(order.copy(), pace);
+            let session = Session::opened_with_pace(order.copy(), pace);
             Phase::Writes(order, session)
         }
     }

@@ -1,6 +1,7 @@
 ghost use Rattle.std.specs.Prelude.{◌≡◌, ◌↔◌, ◌∷◌, List, reverse, is_some, IfSome, IsNone, IfOk, OnOk, OnErr, IfErr};
 ghost use Rattle.std.specs.Prelude.{Err, ℕ, [], take, IsOk};
 ghost use Rattle.dali_journal.specs.declared.version.Version.TheVariants.{Two};
+ghost use Rattle.dali_write.specs.declared.pace.Pace.{Pace};
 ghost use Rattle.dali_journal.specs.Spelling.{journal_spelling};
 ghost use Rattle.dali_journal.specs.JournalState.{IsLimit};
 ghost use Rattle.dali_trace.specs.declared.happening.Happening.{Happening};
@@ -108,6 +109,23 @@ pub struct Outcome {
     pub trace: Vec<Happening>,
 }
 
+/// As `run_with_pace`, by the checked plan.
+pub fn run<B: Bus>(
+    alloc: Global,
+    bus: &mut B,
+    limit: u32,
+    events: &[Event],
+) -> Result<Outcome, RunFault>
+    ensures ok { IfOk result
+        (λ outcome. IsRun B.world B.step limit Pace.Checked events.now bus.old outcome.trace.items
+        outcome.journal.items bus.new) }
+    ensures limit { (result ≡ Err faults.Limit) ↔ (¬ IsLimit limit) }
+    ensures untouched { result ≡ Err faults.Limit → bus.new ≡ bus.old }
+    ensures err { OnErr result (IsCutShort B.world B.step limit Pace.Checked events.now bus.old bus.new) }
+{
+    run_with_pace(alloc, bus, limit, Pace::Checked, events)
+}
+
 /// Serves the events in their order by this plan, over a bus and an empty journal for at most so many orders
 /// (profile).
 ///
@@ -118,7 +136,7 @@ pub struct Outcome {
 ///
 /// Fault 1 Limit where the limit is 0 or over 100000, before anything is done; 2 NoMemory where there
 /// is no memory: then the bus stands where the events so far left it.
-pub fn run<B: Bus>(
+pub fn run_with_pace<B: Bus>(
     alloc: Global,
     bus: &mut B,
     limit: u32,
@@ -175,10 +193,27 @@ fn serve_all<B: Bus>(
     })
 }
 
-/// Serves the events as `run` does, over a simulated bus (profile).
-///
-/// Faults as of `run`.
+/// As `run_sim_with_pace`, by the checked plan.
 pub fn run_sim(
+    alloc: Global,
+    bus: &mut SimBus,
+    limit: u32,
+    events: &[Event],
+) -> Result<Outcome, RunFault>
+    ensures ok { IfOk result
+        (λ outcome. IsSimRun limit Pace.Checked events.now bus.old outcome.trace.items outcome.journal.items bus.new) }
+    ensures limit { (result ≡ Err faults.Limit) ↔ (¬ IsLimit limit) }
+    ensures untouched { result ≡ Err faults.Limit → bus.new ≡ bus.old }
+    ensures err { OnErr result (IsCutShort (λ state. world_of state.units) SimStep limit Pace.Checked events.now
+        bus.old bus.new) }
+{
+    run_sim_with_pace(alloc, bus, limit, Pace::Checked, events)
+}
+
+/// Serves the events as `run_with_pace` does, over a simulated bus (profile).
+///
+/// Faults as of `run_with_pace`.
+pub fn run_sim_with_pace(
     alloc: Global,
     bus: &mut SimBus,
     limit: u32,
@@ -192,5 +227,5 @@ pub fn run_sim(
     ensures err { OnErr result (IsCutShort (λ state. world_of state.units) SimStep limit pace events.now
         bus.old bus.new) }
 {
-    run(alloc, bus, limit, pace, events)
+    run_with_pace(alloc, bus, limit, pace, events)
 }

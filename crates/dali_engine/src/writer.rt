@@ -215,7 +215,7 @@ impl Writer {
         match mem::replace(&mut self.phase, Phase::Idle) {
             Phase::Begins(order, moment) => {
                 self.journal.append(Record::Began(order.copy(), moment));
-                let session = Session::fresh(order.copy(), self.pace);
+                let session = Session::fresh_with_pace(order.copy(), self.pace);
                 self.phase = Phase::Checks(order, session);
             }
             Phase::Checks(order, session) => {

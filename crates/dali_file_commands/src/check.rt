@@ -19,13 +19,13 @@ use dali_bank::Order;
 use dali_faults::{Fault, Status, write_refused_item};
 use dali_input::{Input, Item, ItemFault, Items, ORDERS_LIMIT, read_input};
 use dali_journal::Journal;
-use dali_notes::{Note, Repeats, note_of_item, note_of_orders};
+use dali_notes::{Note, Repeats, note_of_accepted, note_of_item, note_of_orders};
 use dali_text::{Output, OutputFailed, write_order, write_tally};
 use json::Scratch;
 use std::alloc::Global;
 use std::io::{Read, Write};
 
-// An item, its number in the list, counted from 1, and its keys that orders don't have.
+// An item, its number in the list, counted from 1, and its keys that orders don't have or that stand there again.
 #[derive(Drop)]
 struct NumberedItem<'a> {
     number: u64,
@@ -46,9 +46,9 @@ struct NumberedItem<'a> {
 ///
 /// Where a call of the output fails later ones write nothing more to it, and it ends as `Unwritten`.
 ///
-/// A person is told in `notes` where the input or an item is wrong and what its rule is, and which items have the
-/// number of an earlier one that is another order (the writer replies `reused`). Whatever becomes of the notes, the
-/// answer is the same.
+/// A person is told in `notes` where the input or an item is wrong and what its rule is, and what is odd about an
+/// accepted one, as the number of an earlier one that is another order (the writer replies `reused`). Whatever becomes
+/// of the notes, the answer is the same.
 pub fn check<R: Read, W: Write, N: Write>(
     alloc: Global,
     input: &mut Input<R>,
@@ -174,7 +174,7 @@ fn write_items<W: Write, N: Write>(
     let count = items.left();
     'items: while let Some(item) = items.next() {
         let number = count - items.left();
-        let keys = items.unknown_keys().as_slice();
+        let keys = items.odd_keys().as_slice();
         let item = NumberedItem { number, item, keys };
         if write_item(alloc, output, &item, ledger, notes, &mut repeats)? {
             accepted += 1;
@@ -205,7 +205,7 @@ fn write_item<W: Write, N: Write>(
     match item.item.order() {
         Ok(order) => {
             let written = write_accepted(output, item.number, &order, ledger);
-            note_accepted(notes, item.number, &order, repeats);
+            note_accepted(alloc, notes, item, &order, repeats);
             written?;
             Ok(true)
         }
@@ -235,12 +235,19 @@ fn write_accepted<W: Write>(
     write_known(output, ledger.known(order))
 }
 
-// Tells where an accepted item has the number of an earlier one.
-fn note_accepted<N: Write>(notes: &mut Output<N>, number: u64, order: &Order, repeats: &mut Repeats)
-    ensures { Tells N.contents notes.old notes.new (λ note. (note ≡ []) ⊎ SomeAbout (codes "item") number note) }
+// Tells what is odd about an accepted item.
+fn note_accepted<N: Write>(
+    alloc: Global,
+    notes: &mut Output<N>,
+    item: &NumberedItem<'_>,
+    order: &Order,
+    repeats: &mut Repeats,
+)
+    ensures { Tells N.contents notes.old notes.new
+        (λ note. (note ≡ []) ⊎ SomeAbout (codes "item") item.now.number note) }
 {
-    if let Some(note) = repeats.note_of(number, order) {
-        note.tell_about(notes, "item", number);
+    if let Some(note) = note_of_accepted(alloc, item.number, order, item.keys, repeats) {
+        note.tell_about(notes, "item", item.number);
     }
 }
 

@@ -13,7 +13,7 @@ ghost use Rattle.dali_file_commands.specs.Notes.{IsNotedAnswer};
 ghost use Rattle.dali_file_commands.specs.RunAnswers.{IsRan, IsRunAnswer, IsUnrun, scenario_limit};
 
 use crate::notes::write_noted_failure;
-use dali_engine::{Outcome, RunFault, run_sim};
+use dali_engine::{Outcome, RunFault, run_sim_with_pace};
 use dali_faults::{Fault, Status};
 use dali_gear::SimBus;
 use dali_input::{
@@ -116,7 +116,7 @@ fn ran_of<R: Read>(alloc: Global, input: &mut Input<R>, note: &mut Note) -> Resu
     drop(scenario);
     drop(json);
     drop(bytes);
-    let outcome = run_sim(alloc, &mut bus, limit, pace, events.as_slice())?;
+    let outcome = run_sim_with_pace(alloc, &mut bus, limit, pace, events.as_slice())?;
     Ok(Ran { outcome, bus })
 }
 

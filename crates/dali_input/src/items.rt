@@ -15,8 +15,8 @@ ghost use Rattle.dali_input.specs.Orders.{AreItems, IsInputFault};
 use crate::fault::InputFault;
 use crate::item::Item;
 use crate::members::{Members, read_members};
+use crate::odd_keys::OddKeys;
 use crate::shallow::Shallow;
-use crate::unknown_keys::UnknownKeys;
 use crate::value::{MAX_DEPTH, read_value, value_of};
 use json::{Invalid, Reader, Scratch, Token};
 use simdutf8::compat::from_utf8;
@@ -25,8 +25,8 @@ use std::alloc::Global;
 // How deep an item may nest: the array around it is one level.
 const ITEM_DEPTH: usize = MAX_DEPTH - 1;
 
-// How many keys of an item are kept that orders don't have: more than are told.
-const MOST_UNKNOWN: usize = 1001;
+// How many keys of an item are kept to be told of: more than are told.
+const MOST_ODD: usize = 1001;
 
 /// The items of an array that are still to come, of a text that is known to be JSON to its end (profile). Of each no
 /// more is held than its members' values.
@@ -35,8 +35,8 @@ pub struct Items<'a> {
     reader: Reader<'a>,
     // How many there are.
     left: u64,
-    // The keys of the last one that orders don't have.
-    unknown: UnknownKeys<'a>,
+    // The keys of the last one that orders don't have, or that stand there again.
+    odd: OddKeys<'a>,
 }
 
 impl<'a> Items<'a> {
@@ -60,7 +60,7 @@ impl<'a> Items<'a> {
         Ok(Items {
             reader,
             left,
-            unknown: UnknownKeys::new(alloc, MOST_UNKNOWN),
+            odd: OddKeys::new(alloc, MOST_ODD),
         })
     }
 
@@ -79,13 +79,13 @@ impl<'a> Items<'a> {
         ensures fewer { IfSome result (λ _. left_of self.new + 1 ≡ left_of self.old) }
     {
         self.left = self.left.checked_sub(1)?;
-        self.unknown.clear();
-        read_item(&mut self.reader, &mut self.unknown).ok()
+        self.odd.clear();
+        read_item(&mut self.reader, &mut self.odd).ok()
     }
 
-    /// The keys of the last item that orders don't have, for whoever tells of them.
-    pub fn unknown_keys(&self) -> &UnknownKeys<'a> {
-        &self.unknown
+    /// The keys of the last item that orders don't have or that stand there again, for whoever tells of them.
+    pub fn odd_keys(&self) -> &OddKeys<'a> {
+        &self.odd
     }
 }
 
@@ -157,10 +157,7 @@ fn fault_of_other<'a>(reader: &mut Reader<'a>, token: Token<'a>) -> InputFault
 }
 
 // The item that comes next, and its keys that orders don't have. Invalid where there is none that `serde_json` reads.
-fn read_item<'a>(
-    reader: &mut Reader<'a>,
-    unknown: &mut UnknownKeys<'a>,
-) -> Result<Item<'a>, Invalid>
+fn read_item<'a>(reader: &mut Reader<'a>, odd: &mut OddKeys<'a>) -> Result<Item<'a>, Invalid>
     ensures ok { IfOk result (λ found. (source : Data) × IsItem source found
         × (converted of_json (value item_depth reader.old) ≡ Some (source, reader.new))) }
     ensures err { is_err result ≡ true → converted of_json (value item_depth reader.old) ≡ None }
@@ -168,7 +165,7 @@ fn read_item<'a>(
 {
     match reader.next() {
         Some(Token::BeginObject) => {
-            let members = read_members(reader, ITEM_DEPTH - 1, unknown)?;
+            let members = read_members(reader, ITEM_DEPTH - 1, odd)?;
             Ok(Item {
                 value: Shallow::Object,
                 members,

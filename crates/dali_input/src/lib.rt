@@ -12,12 +12,12 @@ mod items;
 mod key;
 mod members;
 mod number;
+mod odd_keys;
 mod orders;
 mod scenario;
 pub mod scenario_key;
 mod setup;
 mod shallow;
-mod unknown_keys;
 mod value;
 mod values;
 
@@ -27,11 +27,11 @@ pub use input::{Input, json_of, read_input};
 pub use item::{Item, ItemFault, field_fault, order_of};
 pub use items::Items;
 pub use members::Members;
+pub use odd_keys::OddKeys;
 pub use orders::{ORDERS_LIMIT, read_orders};
 pub use scenario::{
     EventPlan, FatePlan, MOST_EVENTS, Scenario, UnitPlan, scenario_of, submission_of,
 };
 pub use setup::{Setup, SetupFault, setup_of};
 pub use shallow::Shallow;
-pub use unknown_keys::UnknownKeys;
 pub use value::value_of_text;

@@ -12,8 +12,8 @@ ghost use Rattle.dali_input.specs.declared.key.Key.{Key as KeyName};
 ghost use Rattle.dali_input.specs.declared.key.Key.TheVariants.{Of};
 
 use crate::key::{Key, key_named};
+use crate::odd_keys::OddKeys;
 use crate::shallow::Shallow;
-use crate::unknown_keys::UnknownKeys;
 use crate::value::read_value;
 use dali_bank::Field;
 use json::{Invalid, Reader};
@@ -52,6 +52,19 @@ impl<'a> Members<'a> {
     {
         let fields = &self.fields[..];
         fields[field as usize]
+    }
+
+    // Adds a key that orders have, where a member with it was taken before.
+    fn tell_again<'b>(&self, key: &'b str, odd: &mut OddKeys<'b>) {
+        let is_again = match key_named(key) {
+            Some(Key::Order) => self.order.is_some(),
+            Some(Key::Unit) => self.unit.is_some(),
+            Some(Key::Of(field)) => self.field(field).is_some(),
+            None => false,
+        };
+        if is_again {
+            odd.add(key);
+        }
     }
 
     // Takes the member with this key, and tells whether orders have the key.
@@ -98,7 +111,7 @@ pub fn members_of(item: &Json) -> Members<'_>
 pub fn read_members<'a>(
     reader: &mut Reader<'a>,
     depth: usize,
-    unknown: &mut UnknownKeys<'a>,
+    odd: &mut OddKeys<'a>,
 ) -> Result<Members<'a>, Invalid>
     ensures ok { IfOk result (λ members. (found : JsonMembers) × AreMembersOf (object found) members
         × (converted (λ ms. of_members ms no_members) (members_in (value depth) (length reader.old) reader.old)
@@ -110,8 +123,9 @@ pub fn read_members<'a>(
     let mut members = Members::new();
     'members: while let Some(key) = reader.next_key()? {
         let value = read_value(reader, depth)?;
+        members.tell_again(key, odd);
         if !members.put(key, value) {
-            unknown.add(key);
+            odd.add(key);
         }
     }
     Ok(members)

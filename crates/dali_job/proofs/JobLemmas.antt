@@ -223,8 +223,8 @@ no_job _ _ _ _ _ _ no_read _ _ _ (Read unit bank progress) = no_read unit bank p
 no_job _ _ _ _ _ _ _ no_check _ _ (Check orders journal older) = no_check orders journal older
 no_job _ _ _ _ _ _ _ _ no_scan _ (Scan units with_gtin progress) = no_scan units with_gtin progress
 no_job _ _ _ _ _ _ _ _ _ no_drive
-    (Drive orders journal moment follow short_plan require_done require_now progress report older) =
-    no_drive orders journal moment follow short_plan require_done require_now progress report older
+    (Drive orders journal moment follow short_plan require_done require_now require_journal progress report older) =
+    no_drive orders journal moment follow short_plan require_done require_now require_journal progress report older
 
 -- what follows from what there is where no job was found
 pub none_then : (found : Option Job) (P Q : Type 0) → (P → Q) → IfNone found P → IfNone found Q

@@ -84,7 +84,7 @@ run_app = with_rule (command_app (codes "run") (codes "SCENARIO")) (flag_rule (c
 abbrev pub journal_app : App
 journal_app = with_rule (command_app (codes "journal") (codes "FILE")) (flag_rule (codes "updates"))
 
--- the command that drives, with its two files, the moment, which is 0 where it isn't given, its five flags, its
+-- the command that drives, with its two files, the moment, which is 0 where it isn't given, its six flags, its
 -- report, and the older journals
 abbrev pub drive_app : App
 drive_app = let files = with_rule (command_app (codes "drive") (codes "ORDERS")) (value_rule (codes "JOURNAL")) in
@@ -93,7 +93,8 @@ drive_app = let files = with_rule (command_app (codes "drive") (codes "ORDERS"))
     let planned = with_rule followed (flag_rule (codes "short-plan")) in
     let flagged = with_rule planned (flag_rule (codes "require-done")) in
     let strict = with_rule flagged (flag_rule (codes "require-now")) in
-    let watched = with_rule strict (flag_rule (codes "progress")) in
+    let there = with_rule strict (flag_rule (codes "require-journal")) in
+    let watched = with_rule there (flag_rule (codes "progress")) in
     with_rule (with_rule watched (option_rule (codes "report"))) (many_rule (codes "older"))
 
 -- the command that reads, with its unit, its file and its flag
@@ -190,7 +191,8 @@ IsJob entered (Show dump) = HasValue entered (codes "show") (codes "HEXFILE") du
 IsJob entered (Journal records with_updates) =
     HasValue entered (codes "journal") (codes "FILE") records.now
     × Decides with_updates (HasFlag entered (codes "journal") (codes "updates"))
-IsJob entered (Drive orders journal moment follow short_plan require_done require_now progress report older) =
+IsJob entered
+    (Drive orders journal moment follow short_plan require_done require_now require_journal progress report older) =
     HasValue entered (codes "drive") (codes "ORDERS") orders.now
     × HasValue entered (codes "drive") (codes "JOURNAL") journal.now
     × HasNumber entered (codes "drive") (codes "moment") moment
@@ -198,6 +200,7 @@ IsJob entered (Drive orders journal moment follow short_plan require_done requir
     × Decides short_plan (HasFlag entered (codes "drive") (codes "short-plan"))
     × Decides require_done (HasFlag entered (codes "drive") (codes "require-done"))
     × Decides require_now (HasFlag entered (codes "drive") (codes "require-now"))
+    × Decides require_journal (HasFlag entered (codes "drive") (codes "require-journal"))
     × Decides progress (HasFlag entered (codes "drive") (codes "progress"))
     × HasOption entered (codes "drive") (codes "report") report
     × HasValues entered (codes "drive") (codes "older") (map (λ value. value.now) older.items)
@@ -222,9 +225,10 @@ IsNoCheck entered = (orders : Bor Text) (journal : Option (Bor Text)) (older : V
 -- no job of driving is that of the command that a parse entered
 abbrev pub IsNoDrive : Option (Text × List Row) → Type 0
 IsNoDrive entered = (orders journal : Bor Text) (moment : ℕ)
-    (follow short_plan require_done require_now progress : Bool)
+    (follow short_plan require_done require_now require_journal progress : Bool)
     (report : Option (Bor Text)) (older : Vec (Bor Text) Global)
-    → ¬ IsJob entered (Drive orders journal moment follow short_plan require_done require_now progress report older)
+    → ¬ IsJob entered
+    (Drive orders journal moment follow short_plan require_done require_now require_journal progress report older)
 
 -- no job of looking which units answer is that of the command that a parse entered
 abbrev pub IsNoScan : Option (Text × List Row) → Type 0

@@ -8,10 +8,10 @@ ghost use Rattle.dali_job.specs.Jobs.{scan_app, unit_rule, units_rule, value_rul
 use crate::usages::{
     ABOUT, Argument, CHECK, CHECK_JOURNAL_HELP, CHECK_OLDER_HELP, CHECK_ORDERS, DRIVE,
     DRIVE_DONE_HELP, DRIVE_FOLLOW_HELP, DRIVE_JOURNAL_HELP, DRIVE_MOMENT_HELP, DRIVE_NOW_HELP,
-    DRIVE_OLDER_HELP, DRIVE_REPORT_HELP, DRIVE_SHORT_HELP, FRAME, FRAME_HEX, JOURNAL, JOURNAL_FILE,
-    JOURNAL_UPDATES_HELP, LINK_ORDERS, PROGRESS_HELP, READ, READ_BANK_HELP, READ_UNIT_HELP, RUN,
-    RUN_FRAMES_HELP, RUN_SCENARIO, SCAN, SCAN_GTIN_HELP, SCAN_UNITS_HELP, SHOW, SHOW_DUMP,
-    TOP_HELP, Usage, VERIFY, VERIFY_REPORT_HELP,
+    DRIVE_OLDER_HELP, DRIVE_REPORT_HELP, DRIVE_SHORT_HELP, DRIVE_THERE_HELP, FRAME, FRAME_HEX,
+    JOURNAL, JOURNAL_FILE, JOURNAL_UPDATES_HELP, LINK_ORDERS, PROGRESS_HELP, READ, READ_BANK_HELP,
+    READ_UNIT_HELP, RUN, RUN_FRAMES_HELP, RUN_SCENARIO, SCAN, SCAN_GTIN_HELP, SCAN_UNITS_HELP,
+    SHOW, SHOW_DUMP, TOP_HELP, Usage, VERIFY, VERIFY_REPORT_HELP,
 };
 use clap::{Arg, ArgAction, Command, value_parser};
 use std::alloc::{AllocError, Global};
@@ -90,7 +90,8 @@ fn drive_command<'a>(alloc: Global) -> Result<Command<'a>, AllocError>
     let planned = with_argument(followed, flag_of(alloc, "short-plan", DRIVE_SHORT_HELP));
     let flagged = with_argument(planned, flag_of(alloc, "require-done", DRIVE_DONE_HELP));
     let strict = with_argument(flagged, flag_of(alloc, "require-now", DRIVE_NOW_HELP));
-    let watched = with_argument(strict, flag_of(alloc, "progress", PROGRESS_HELP));
+    let there = with_argument(strict, flag_of(alloc, "require-journal", DRIVE_THERE_HELP));
+    let watched = with_argument(there, flag_of(alloc, "progress", PROGRESS_HELP));
     let reported = with_argument(watched, file_option(alloc, "report", DRIVE_REPORT_HELP));
     with_argument(reported, older_option(alloc, DRIVE_OLDER_HELP))
 }

@@ -40,9 +40,10 @@ pub enum Job<'a> {
     /// each order that begins. With `follow` the file is a stream, of which each line is carried out
     /// before the next is read. With `short_plan` its sessions keep to the short plan. With
     /// `require_done` it is to end well only where each order is done, with `require_now` only where
-    /// each was done by it. With `progress` a person sees on standard error how far it is. `report` is
-    /// the file, if one is wanted, that gets a line for each order at its last reply. `older` are the
-    /// journals whose orders get their kept replies, in the order in which they were given.
+    /// each was done by it. With `require_journal` no journal is made. With `progress` a person sees on
+    /// standard error how far it is. `report` is the file, if one is wanted, that gets a line for each
+    /// order at its last reply. `older` are the journals whose orders get their kept replies, in the
+    /// order in which they were given.
     Drive {
         orders: &'a str,
         journal: &'a str,
@@ -51,6 +52,7 @@ pub enum Job<'a> {
         short_plan: bool,
         require_done: bool,
         require_now: bool,
+        require_journal: bool,
         progress: bool,
         report: Option<&'a str>,
         older: Vec<&'a str>,
@@ -260,6 +262,7 @@ fn drive_in<'a>(alloc: Global, matches: &ArgMatches<'a>) -> Result<Option<Job<'a
     let short_plan = has_flag(matches, "drive", "short-plan");
     let require_done = has_flag(matches, "drive", "require-done");
     let require_now = has_flag(matches, "drive", "require-now");
+    let require_journal = has_flag(matches, "drive", "require-journal");
     let progress = has_flag(matches, "drive", "progress");
     let report = value_of(matches, "drive", "report");
     let job = Job::Drive {
@@ -270,6 +273,7 @@ fn drive_in<'a>(alloc: Global, matches: &ArgMatches<'a>) -> Result<Option<Job<'a
         short_plan,
         require_done,
         require_now,
+        require_journal,
         progress,
         report,
         older,

@@ -144,8 +144,9 @@ Standard output has a line for each frame, four hexadecimal digits. For each, on
 input: two hexadecimal digits, or -- for no answer. Replies and faults go to standard error.
 Nothing is sent where an item is refused, with the faults of `check`, or where a file has a fault:
 of ORDERS 11 Json, 12 Document, 13 TooBig (over 16777216 bytes), of JOURNAL 13 TooBig (over 33554432 bytes)
-and those of `journal`; 20 Memory, 21 File (can't be opened, read, written anew or synced, or another drive has
-the journal). A journal that is empty or of version 1 is written anew, in version 2, before anything is sent.
+and those of `journal`; 20 Memory, 21 File (can't be opened, read, written anew or synced, another drive has
+the journal, or with --require-journal there is none).
+A journal that is empty or of version 1 is written anew, in version 2, before anything is sent.
 With --older the named journals are read first: 15 Older (one is no journal, isn't at rest, or has an order
 number that another one or JOURNAL has), 20 Memory, 21 File.
 With --follow ORDERS has JSON line by line: an order, or {\"submit\": ORDER, \"moment\": M}. Each line is carried out
@@ -182,6 +183,9 @@ pub(crate) const DRIVE_DONE_HELP: &str =
 
 pub(crate) const DRIVE_NOW_HELP: &str =
     "The same, and where it isn't this drive that ended the order";
+
+pub(crate) const DRIVE_THERE_HELP: &str =
+    "Makes no journal: it has to be there, as from the second order on";
 
 pub(crate) const PROGRESS_HELP: &str =
     "Shows on standard error, for a person, how far it is, and at the end what it came to";

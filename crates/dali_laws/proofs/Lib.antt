@@ -14,6 +14,7 @@ pub mod RepeatLemmas
 pub mod Comings
 pub mod OnPlanLemmas
 pub mod WorkLemmas
+pub mod NoiseLemmas
 pub mod NextLemmas
 pub mod RunLossLemmas
 pub mod SparedLemmas

@@ -17,7 +17,7 @@ use Rattle.dali_write.specs.Worlds.{Selects}
 use Rattle.dali_write.proofs.GuardLemmas.{opened_guarded, closing_guarded}
 use Rattle.dali_write.proofs.RestLemmas.{older_reads, rests_on_too, opened_rests, closing_rests}
 use Rattle.dali_write.proofs.FreshRestLemmas.{fresh_rests}
-use Rattle.dali_write.proofs.ShapeLemmas.{asked_moved, asked_set}
+use Rattle.dali_write.proofs.ShapeLemmas.{questioned, selected}
 use Rattle.dali_trace.specs.declared.happening.Reply.{Reply}
 use Rattle.dali_trace.specs.declared.happening.Reply.TheVariants as replies
 use Rattle.dali_trace.specs.declared.happening.Happening.{Happening}
@@ -89,13 +89,15 @@ told_newest past =
 
 -- Frames
 
+no_ask : (byte to : ℕ) → Dtr0 byte ≡ AskDtr1 to → ⊥
+no_ask byte to e = cc
+
 -- a place that was made sure to be selected by the newest of these exchanges, where some place was by the front of them
 selects_front : (unit location other place : ℕ) (front back : List Exchange) → Selects unit location (front ++ back)
     → Selects other place front → Selects unit location front
-selects_front unit location other place front back (newer, older, is, (true, try))
-    (first, behind, front_is, (true, asks)) =
-    let one = asked_moved unit location newer try in
-    let two = asked_moved other place first asks in
+selects_front unit location other place front back (newer, older, is, inl try) (first, behind, front_is, inl asks) =
+    let one = questioned unit location newer try in
+    let two = questioned other place first asks in
     let same : one.x2 ∷ one.x1 ∷ older ≡ two.x2 ∷ two.x1 ∷ (behind ++ back) =
     ap (λ (t : List Exchange). t ++ older) (sym one.is) ∙ sym is
     ∙ ap (λ (t : List Exchange). t ++ back) (front_is ∙ ap (λ (t : List Exchange). t ++ behind) two.is) in
@@ -103,48 +105,38 @@ selects_front unit location other place front back (newer, older, is, (true, try
       newer,
       behind,
       front_is ∙ ap (λ (t : List Exchange). t ++ behind) (two.is ∙ sym both ∙ sym one.is),
-      (true, try),
+      inl try,
     )
-selects_front unit location other place front back (newer, older, is, (true, try))
-    (first, behind, front_is, (false, asks)) =
-    let one = asked_moved unit location newer try in
-    let two = asked_set other place first asks in
-    let same : one.x2 ∷ one.x1 ∷ older ≡ two.x3 ∷ two.x2 ∷ two.x1 ∷ (behind ++ back) =
+selects_front unit location other place front back (newer, older, is, inl try) (first, behind, front_is, inr asks) =
+    let one = questioned unit location newer try in
+    let two = selected other place first asks in
+    let same : one.x2 ∷ one.x1 ∷ older ≡ two.x4 ∷ two.x3 ∷ two.x2 ∷ two.x1 ∷ (behind ++ back) =
     ap (λ (t : List Exchange). t ++ older) (sym one.is) ∙ sym is
     ∙ ap (λ (t : List Exchange). t ++ back) (front_is ∙ ap (λ (t : List Exchange). t ++ behind) two.is) in
-    let both : one.x2 ∷ one.x1 ∷ [] ≡ two.x3 ∷ two.x2 ∷ [] = cc in (
-      newer,
-      two.x1 ∷ behind,
-      front_is ∙ ap (λ (t : List Exchange). t ++ behind) two.is
-          ∙ ap (λ (t : List Exchange). t ++ (two.x1 ∷ behind)) (sym both ∙ sym one.is),
-      (true, try),
-    )
-selects_front unit location other place front back (newer, older, is, (false, try))
-    (first, behind, front_is, (false, asks)) =
-    let one = asked_set unit location newer try in
-    let two = asked_set other place first asks in
-    let same : one.x3 ∷ one.x2 ∷ one.x1 ∷ older ≡ two.x3 ∷ two.x2 ∷ two.x1 ∷ (behind ++ back) =
+    let next : two.x3 ≡ one.x1 = cc in
+    absurd (no_ask place unit
+    (sym two.got3.frame_is ∙ (ap (λ (e : Exchange). e.frame) next ∙ one.got1.frame_is)))
+selects_front unit location other place front back (newer, older, is, inr try) (first, behind, front_is, inr asks) =
+    let one = selected unit location newer try in
+    let two = selected other place first asks in
+    let same : one.x4 ∷ one.x3 ∷ one.x2 ∷ one.x1 ∷ older ≡ two.x4 ∷ two.x3 ∷ two.x2 ∷ two.x1 ∷ (behind ++ back) =
     ap (λ (t : List Exchange). t ++ older) (sym one.is) ∙ sym is
     ∙ ap (λ (t : List Exchange). t ++ back) (front_is ∙ ap (λ (t : List Exchange). t ++ behind) two.is) in
-    let all : one.x3 ∷ one.x2 ∷ one.x1 ∷ [] ≡ two.x3 ∷ two.x2 ∷ two.x1 ∷ [] = cc in (
+    let all : one.x4 ∷ one.x3 ∷ one.x2 ∷ one.x1 ∷ [] ≡ two.x4 ∷ two.x3 ∷ two.x2 ∷ two.x1 ∷ [] = cc in (
       newer,
       behind,
       front_is ∙ ap (λ (t : List Exchange). t ++ behind) (two.is ∙ sym all ∙ sym one.is),
-      (false, try),
+      inr try,
     )
-selects_front unit location other place front back (newer, older, is, (false, try))
-    (first, behind, front_is, (true, asks)) =
-    let one = asked_set unit location newer try in
-    let two = asked_moved other place first asks in
-    let same : one.x3 ∷ one.x2 ∷ one.x1 ∷ older ≡ two.x2 ∷ two.x1 ∷ (behind ++ back) =
+selects_front unit location other place front back (newer, older, is, inr try) (first, behind, front_is, inl asks) =
+    let one = selected unit location newer try in
+    let two = questioned other place first asks in
+    let same : one.x4 ∷ one.x3 ∷ one.x2 ∷ one.x1 ∷ older ≡ two.x2 ∷ two.x1 ∷ (behind ++ back) =
     ap (λ (t : List Exchange). t ++ older) (sym one.is) ∙ sym is
     ∙ ap (λ (t : List Exchange). t ++ back) (front_is ∙ ap (λ (t : List Exchange). t ++ behind) two.is) in
-    let next : one.x2 ≡ two.x1 = cc in
+    let next : one.x3 ≡ two.x1 = cc in
     absurd (no_ask location other
-    (sym one.got2.frame_is ∙ (ap (λ (e : Exchange). e.frame) next ∙ two.got1.frame_is)))
-  where
-    no_ask : (byte to : ℕ) → Dtr0 byte ≡ AskDtr1 to → ⊥
-    no_ask byte to e = cc
+    (sym one.got3.frame_is ∙ (ap (λ (e : Exchange). e.frame) next ∙ two.got1.frame_is)))
 
 selects_older : (unit location : ℕ) (told older : List Exchange) → Selects unit location told
     → Selects unit location (told ++ older)

@@ -55,7 +55,7 @@ use Rattle.dali_write.specs.Frames.{format_frames}
 use Rattle.dali_write.specs.declared.pace.Pace.TheVariants.{Checked, Short}
 
 -- the session at hand wants something
-abbrev InSession : Pace → Standing → List Exchange → Type 0
+abbrev pub InSession : Pace → Standing → List Exchange → Type 0
 InSession pace standings.Idle told = ⊤
 InSession pace (standings.Began order) told = (ask : Ask) × Asks pace (standings.Began order) told ask
 InSession pace (standings.Opened order) told = (ask : Ask) × Asks pace (standings.Opened order) told ask
@@ -77,7 +77,7 @@ next_in pace (standings.Opened order) told frame answer asked =
 next_in pace (standings.Left unit) told frame answer asked =
     next_wanted unit (close verdicts.Closed verdicts.NotClosed) told frame answer asked
 
-in_session : (start : Start) (past : List Happening) → ByPlan start past
+pub in_session : (start : Start) (past : List Happening) → ByPlan start past
     → InSession (pace_at start past) (standing_at start past) (told_in past)
 in_session start [] planned = begins_session start.pace (standing_of start.records)
 in_session start (Answered id replies.Taken ∷ past) planned = begins_session (pace_at start past)

@@ -29,11 +29,12 @@ IsShort (Read unit bank) = unit ≤ 63
 IsShort (Scan addresses sought) = AllByRecursion (λ address. address ≤ 63) addresses.now
 IsShort other = ⊤
 
--- the store is in the file that it writes: its journal, or the text of a bank; one without a name where it writes none
+-- the store is in the file that it writes: its journal, which may have to be there, or the text of a bank; one
+-- without a name where it writes none
 abbrev pub HasStore : {R : Type 0} → LinkCommand → FileStore R → Type 0
-HasStore (Drive task) store = IsIn true task.journal.now store
-HasStore (Read unit bank) store = IsIn false bank.now store
-HasStore other store = IsIn false [] store
+HasStore (Drive task) store = IsIn true (not task.require_journal) task.journal.now store
+HasStore (Read unit bank) store = IsIn false true bank.now store
+HasStore other store = IsIn false true [] store
 
 -- of what a person watches how far it is
 abbrev pub watched_of : LinkCommand → Watched

@@ -2,7 +2,7 @@
 use Rattle.std.specs.Prelude.{◌≡◌, ◌⊎◌, ℕ, Bool, List, [], Option, Some, None, length, if◌then◌else◌}
 use Rattle.std.specs.List.{range_with_len}
 use Rattle.dali_bank.specs.Order.{Contents}
-use Rattle.dali_input.specs.declared.fault.InputFault.TheVariants.{File}
+use Rattle.dali_input.specs.declared.fault.InputFault.{InputFault}
 use Rattle.dali_input.specs.BankText.{rows_text}
 use Rattle.dali_store.specs.declared.opening.OpenFault.TheVariants.{Store}
 use Rattle.dali_store.specs.declared.store.StoreFault.TheVariants as stores
@@ -22,6 +22,7 @@ use Rattle.dali_faults.specs.declared.fault.Status.{Status}
 use Rattle.dali_faults.specs.declared.fault.Status.TheVariants.{Good, Refused}
 use Rattle.dali_link_commands.specs.Benches.{with_lines}
 use Rattle.dali_link_commands.specs.Bare.{TellsBare, is_empty}
+use Rattle.dali_link_commands.specs.OrdersAnswers.{IsUnread}
 use Rattle.dali_link_commands.specs.Told.{IsFaultTold, IsFileFaultTold, TellsLine}
 
 -- what a survey goes over: a desk without its journal, which is left alone
@@ -56,7 +57,7 @@ module _ (unit : ℕ) (leaves_only : (List ℕ → Type 0) → Type 0) (first : 
     pub unfailed : IsUnfailed (with_lines last first.streams.out lost).failed
     pub told : TellsLine (silent_line unit) Refused status first.streams.out last.streams.out
 
-  -- the whole bank was read, and the file failed, which is told
+  -- the whole bank was read, and the file failed or there was no memory for it, which is told
   pub record EndsUnkept : Type 0 where
     pub bytes : List ℕ
     pub read : IsUnitRead unit bank_course (Some bytes) (link_of first.streams) (link_of last.streams)
@@ -64,7 +65,8 @@ module _ (unit : ℕ) (leaves_only : (List ℕ → Type 0) → Type 0) (first : 
     pub leaves : leaves_only (λ c. first.may_leave c ⊎ (c ≡ rows_text bytes))
     pub lost : Bool
     pub failed : FailsOpen (Store stores.Failed) (with_lines last first.streams.out lost).failed
-    pub told : IsFileFaultTold (Input File) status first.streams.out last.streams.out
+    pub told : (fault : InputFault) × IsUnread fault
+        × IsFileFaultTold (Input fault) status first.streams.out last.streams.out
 
   -- the link broke the reading off, which is told, and the file is as it was
   pub record EndsUnread : Type 0 where

@@ -40,6 +40,8 @@ pub struct DriveTask<'a> {
     pub pace: Pace,
     /// What the last replies have to be.
     pub required: Required,
+    /// Whether the journal has to be there: none is made then.
+    pub require_journal: bool,
     /// Whether the orders come line by line, each carried out before the next is read.
     pub follow: bool,
     /// The file, if one is wanted, that gets a line for each order at its last reply.

@@ -180,7 +180,7 @@ pub(crate) enum FileFault<'a> {
     /// It gives no orders.
     Unread(InputFault, Option<io::Error>),
     /// It can't be written.
-    Unwritten(Option<&'a str>),
+    Unwritten(&'a str),
 }
 
 /// Writes why the file of this name is of no use.
@@ -211,7 +211,7 @@ fn write_file_fault<W: Write>(
         FileFault::Unopened(fault, words) => write_unopened(alloc, output, name, fault, words),
         FileFault::Older(fault, words) => write_older(alloc, output, name, fault, words),
         FileFault::Unread(fault, cause) => write_unread(alloc, output, name, fault, cause),
-        FileFault::Unwritten(words) => write_unusable(alloc, output, name, words),
+        FileFault::Unwritten(words) => write_unusable(alloc, output, name, Some(words)),
     }
 }
 

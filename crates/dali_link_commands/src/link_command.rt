@@ -51,6 +51,10 @@ impl<'a> LinkCommand<'a> {
         ensures { HasStore self.now result }
     {
         match *self {
+            LinkCommand::Drive(task) if task.require_journal => FileStore::found_journal(
+                rt,
+                task.journal,
+            ),
             LinkCommand::Drive(task) => FileStore::journal(rt, task.journal),
             LinkCommand::Read { bank, .. } => FileStore::text(rt, bank),
             LinkCommand::Verify { .. } | LinkCommand::Scan { .. } => FileStore::text(rt, ""),

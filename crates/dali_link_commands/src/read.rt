@@ -4,15 +4,18 @@ ghost use Rattle.dali_store.specs.Stores.{LeavesOnly};
 ghost use Rattle.dali_text.specs.Output.{has_failed, held};
 ghost use Rattle.dali_link_commands.specs.Benches.{TellsUnwritten, bench};
 ghost use Rattle.dali_link_commands.specs.ReadAnswers.{IsReadAnswer};
-ghost use Rattle.dali_link_commands.specs.Told.{TellsLine};
+ghost use Rattle.dali_input.specs.declared.fault.InputFault.{InputFault};
+ghost use Rattle.dali_link_commands.specs.OrdersAnswers.{IsUnread};
+ghost use Rattle.dali_link_commands.specs.Told.{IsFileFaultTold, TellsLine};
 
 use crate::drive_lines::{Causes, FileFault, tell_fault, tell_file};
 use crate::lines::Lines;
 use dali_drive::{Sink, Source, StoreDesk, bytes_line, put_all, read_unit, silent_line};
-use dali_faults::Status;
-use dali_input::text_of;
+use dali_faults::{Fault, Status};
+use dali_input::{InputFault, text_of};
 use dali_read::Places;
 use dali_store::Store;
+use dali_text::Output;
 use std::alloc::Global;
 use std::io::Write;
 
@@ -20,8 +23,8 @@ use std::io::Write;
 /// into a store as text, whole: `unit U bytes N` where they stand there, or `unit U silent`, where the store is as it
 /// was. It ends as `Good`, or as `Refused` where the unit was silent.
 ///
-/// Faults are 2 Link, 3 Line, 4 End and 6 TooLong of the link, and 21 File where the store fails. Where `lines` fails
-/// there stands a first part of a line, and it ends as `Unwritten`.
+/// Faults are 2 Link, 3 Line, 4 End and 6 TooLong of the link, and where the store fails 21 File, or 20 Memory where it
+/// says nothing of that. Where `lines` fails there stands a first part of a line, and it ends as `Unwritten`.
 pub fn read_bank<I: Source, L: Sink, S: Store, W: Write>(
     alloc: Global,
     unit: u8,
@@ -43,8 +46,7 @@ pub fn read_bank<I: Source, L: Sink, S: Store, W: Write>(
                 let line = bytes_line(unit, bytes.len() as u8);
                 tell_line(&mut desk.out, &line, Status::Good)
             } else {
-                let fault = FileFault::Unwritten(desk.journal.cause());
-                tell_file(alloc, &mut desk.out.output, name, fault)
+                tell_unwritten(alloc, &mut desk.out.output, name, desk.journal.cause())
             }
         }
         Ok(None) => tell_line(&mut desk.out, &silent_line(unit), Status::Refused),
@@ -56,6 +58,28 @@ pub fn read_bank<I: Source, L: Sink, S: Store, W: Write>(
             };
             tell_fault(alloc, &mut desk.out, fault, causes)
         }
+    }
+}
+
+// Writes that the file of a bank can't be written, and why: where nothing is said of that, memory ran out for it.
+fn tell_unwritten<W: Write>(
+    alloc: Global,
+    output: &mut Output<W>,
+    name: &str,
+    words: Option<&str>,
+) -> Status
+    ensures told { (fault : InputFault) × IsUnread fault × IsFileFaultTold (Fault.Input fault) result
+        (held W.contents output.old) (held W.contents output.new) }
+    ensures unwritten { result ≡ Status.Unwritten ↔ has_failed output.new ≡ true }
+{
+    match words {
+        Some(words) => tell_file(alloc, output, name, FileFault::Unwritten(words)),
+        None => tell_file(
+            alloc,
+            output,
+            name,
+            FileFault::Unread(InputFault::Memory, None),
+        ),
     }
 }
 

@@ -6,11 +6,11 @@ ghost use Rattle.dali_link_commands.specs.LinkCommands.{EndsReported, is_lost};
 ghost use Rattle.dali_link_commands.specs.Told.{IsPlain, error_line};
 
 use crate::lines::Lines;
-use crate::report_lines::ReportLines;
+use crate::report_lines::{Held, Onward, look_through};
 use crate::report_output::ReportOutput;
 use crate::words::plain_words;
 use dali_faults::Status;
-use dali_report::{Progress, Report, run_behind};
+use dali_report::{Progress, Report};
 use dali_text::{Output, OutputFailed};
 use std::alloc::Global;
 use std::fs::{File, Files, Metadata, OpenOptions, TryLockError};
@@ -27,8 +27,8 @@ enum Unopened {
     Link,
     // It is a file of the command's own.
     Taken,
-    // It has something else, as a journal or orders, and is left alone.
-    NoReport,
+    // It has something else, as a journal or orders, in this line, and is left alone.
+    NoReport(u64),
     // Another command writes it.
     InUse,
     // The system refuses it.
@@ -111,7 +111,7 @@ impl<'a> ReportFile<'a> {
             (Some(Unopened::Dash), _) => "it is standard output, where the frames go",
             (Some(Unopened::Link), _) => "it is a link: name the file itself",
             (Some(Unopened::Taken), _) => "the command has this file for something else",
-            (Some(Unopened::NoReport), _) => "what is there is no report",
+            (Some(Unopened::NoReport(line)), _) => return no_report_words(alloc, *line),
             (Some(Unopened::InUse), _) => "another command writes it",
             (None, None) => "memory ran out",
         };
@@ -144,8 +144,8 @@ fn opened<R: Files<File = File> + AllocGlobal>(
         Ok(file) => file,
         Err(error) => return Err(Unopened::Refused(error)),
     };
-    let lines = judged(rt, &mut file, others)?;
-    Ok((lines.run(), ReportOutput::new(file, lines.is_torn())))
+    let onward = judged(rt, &mut file, others)?;
+    Ok((onward.run, ReportOutput::new(file, onward)))
 }
 
 // Whether the name is one of these: a file that isn't there yet isn't made then. (One that was made by another name of
@@ -175,7 +175,10 @@ fn opened_other<R: Files<File = File>>(
     let opened = how.open(rt, name);
     drop(held);
     match opened {
-        Ok(file) => Ok((run_behind(0), ReportOutput::new(file, false))),
+        Ok(file) => {
+            let onward = Onward::first();
+            Ok((onward.run, ReportOutput::new(file, onward)))
+        }
         Err(error) => Err(Unopened::Refused(error)),
     }
 }
@@ -195,7 +198,7 @@ fn judged<R: Files<File = File> + AllocGlobal>(
     rt: &R,
     file: &mut File,
     others: Others<'_>,
-) -> Result<ReportLines, Unopened> {
+) -> Result<Onward, Unopened> {
     match is_taken(rt, file, others) {
         Ok(true) => return Err(Unopened::Taken),
         Ok(false) => {}
@@ -206,9 +209,9 @@ fn judged<R: Files<File = File> + AllocGlobal>(
         Err(TryLockError::WouldBlock) => return Err(Unopened::InUse),
         Err(TryLockError::Error(error)) => return Err(Unopened::Refused(error)),
     }
-    match ReportLines::read(rt.alloc(), file) {
-        Ok(Some(lines)) => Ok(lines),
-        Ok(None) => Err(Unopened::NoReport),
+    match look_through(rt.alloc(), file) {
+        Ok(Held::Report(onward)) => Ok(onward),
+        Ok(Held::Other(line)) => Err(Unopened::NoReport(line)),
         Err(error) => Err(Unopened::Refused(error)),
     }
 }
@@ -269,6 +272,12 @@ fn write_unreported<W: Write>(
         Some(words) => write_error(output, words.as_str()),
         None => write_error(output, "the report can't be written"),
     }
+}
+
+fn no_report_words(alloc: Global, line: u64) -> Option<String> {
+    format!(in alloc;
+        "line {line} there is none of a report: name another file, or take that line out"
+    ).ok()
 }
 
 fn unreported_words(alloc: Global, name: &str, cause: Option<String>) -> Option<String> {

@@ -66,6 +66,10 @@ fn tell_gtin<W: fmt::Write>(f: &mut fmt::Formatter<W>, text: &str) -> fmt::Resul
             let (last, right) = (last.wrapping_sub(b'0'), check_digit(front));
             write!(f, "; its check digit is {last}, and would be {right}")
         }
+        _ if matches!(count, 1..=13) => write!(
+            f,
+            "; it has {count} digits, and a spreadsheet may have dropped leading zeros"
+        ),
         _ => write!(f, "; it has {count} digits"),
     }
 }

@@ -8,8 +8,8 @@ use dali_gear::MOST_ADDRESS;
 use dali_input::{Item, ItemFault, Members, Shallow, field_fault};
 use std::alloc::Global;
 
-/// All that is wrong with an item that is refused for a fault, a line each. Of its keys, those that orders don't have
-/// are among these.
+/// All that is wrong with an item that is refused for a fault, a line each. Of its keys, those that orders don't have,
+/// and those that stand there again, are among these.
 pub fn note_of_item(alloc: Global, item: &Item<'_>, keys: &[&str], fault: ItemFault) -> Note {
     let members = &item.members;
     let mut note = Note::of_order(alloc, whole(members.order));
@@ -52,14 +52,16 @@ fn note_number(note: &mut Note, key: &str, value: Option<Shallow<'_>>, most: u64
     }
 }
 
-// Tells a key, where orders don't have it.
-fn note_key(note: &mut Note, key: &str) {
+/// Tells a key that orders don't have, or that stands there again.
+pub(crate) fn note_key(note: &mut Note, key: &str) {
     if key == "order" || key == "unit" {
+        note_again(note, key);
         return;
     }
     let mut meant = near_key(key, &["order", "unit"]);
     for field in Field::ALL {
         if field.key() == key {
+            note_again(note, key);
             return;
         }
         meant = meant.or(near_key(key, &[field.key()]));
@@ -69,6 +71,11 @@ fn note_key(note: &mut Note, key: &str) {
         Some(meant) => note.add(format_args!("{told}: no such key ({meant}?)")),
         None => note.add(format_args!("{told}: no such key")),
     }
+}
+
+// Tells that a key stands there again.
+fn note_again(note: &mut Note, key: &str) {
+    note.add(format_args!("{key}: the key stands there more than once, and the last one counts"));
 }
 
 // Tells where a unit's number is no short address.
@@ -97,8 +104,17 @@ fn note_field(note: &mut Note, field: Field, value: Option<Shallow<'_>>) {
             let flaw = Flaw { field, text };
             note.add(format_args!("{key}: {found}, and it is {rule}{flaw}"));
         }
+        Shallow::Number(_) if field == Field::Year && is_whole_year(value) => {
+            let digits = whole(value).unwrap_or(0) % 100;
+            note.add(format_args!("{key}: {found}, and it is {rule}; two digits: {digits:02}"));
+        }
         _ => note.add(format_args!("{key}: {found}, and it is {rule}")),
     }
+}
+
+// Whether a number is a year with its century.
+fn is_whole_year(value: Option<Shallow<'_>>) -> bool {
+    matches!(whole(value), Some(1900..=2199))
 }
 
 // Tells what is wrong with the fields together.

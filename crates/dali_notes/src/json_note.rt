@@ -14,6 +14,13 @@ const MARK: &[u8] = b"\xef\xbb\xbf";
 pub fn note_of_orders(alloc: Global, input: &[u8], fault: InputFault) -> Note {
     match fault {
         InputFault::Document => no_list_note(alloc, input),
+        InputFault::Json if is_table_of_orders(alloc, input) => {
+            let mut note = Note::new(alloc);
+            note.add(
+                "the input is a table, as CSV, and has to be JSON: make orders of it by orders_from_csv",
+            );
+            note
+        }
         InputFault::Json
         | InputFault::TooBig
         | InputFault::Hex
@@ -43,11 +50,45 @@ pub fn note_of_size(alloc: Global, most: usize) -> Note {
 
 // Tells why an input is no JSON.
 fn note_no_json(alloc: Global, note: &mut Note, input: &[u8]) {
-    match Kind::of(alloc, input.strip_prefix(MARK).unwrap_or(input)) {
+    if let Some(words) = other_file(input) {
+        note.add(words);
+        return;
+    }
+    match Kind::of(alloc, without_mark(input)) {
         Some(kind @ (Kind::Journal | Kind::Bank | Kind::Table)) => {
             note.add(format_args!("the input is {kind}, and has to be JSON"))
         }
         Some(Kind::Array | Kind::Object) | None => note_spelling(alloc, note, input),
+    }
+}
+
+// Whether an input is a table of which orders can be made.
+fn is_table_of_orders(alloc: Global, input: &[u8]) -> bool {
+    other_file(input).is_none() && Kind::of(alloc, without_mark(input)) == Some(Kind::Table)
+}
+
+// An input without the mark that it may begin with.
+fn without_mark(input: &[u8]) -> &[u8] {
+    input.strip_prefix(MARK).unwrap_or(input)
+}
+
+// What is told of an input that is a file of another program, where its first bytes tell.
+fn other_file(input: &[u8]) -> Option<&'static str> {
+    let text = without_mark(input);
+    let (_, text) = text.split_at(blanks_of(text).min(text.len()));
+    match text {
+        [b'P', b'K', 3, 4, ..] | [0xd0, 0xcf, 0x11, 0xe0, ..] => {
+            Some(
+                "the input is a workbook of a spreadsheet, and has to be JSON: save its sheet as CSV in UTF-8, and \
+                make orders of it by orders_from_csv",
+            )
+        }
+        [b'<', b'?', ..] => Some("the input is XML, and has to be JSON"),
+        [b'<', b'!' | b'h' | b'H', ..] => {
+            Some("the input is HTML, as of a page on the web, and has to be JSON")
+        }
+        [b'<', ..] => Some("the input is XML or HTML, and has to be JSON"),
+        _ => None,
     }
 }
 
@@ -130,6 +171,18 @@ fn trouble_at(alloc: Global, input: &[u8], count: usize) -> &'static str {
     match (last_of(front), rest) {
         (_, [b'/', b'/' | b'*', ..] | [b'#', ..]) => "here a comment begins, and JSON has none",
         (_, [b'\'', ..]) => "here stands a single quote, and JSON has double quotes alone",
+        (_, [0xe2, 0x80, 0x98..=0x9f, ..] | [0xc2, 0xab | 0xbb, ..]) => {
+            "here stands a curly quote, as of a word processor, and JSON has straight double quotes alone"
+        }
+        (_, [b'N', b'a', b'N', ..] | [b'I', b'n', b'f', ..] | [b'-', b'I', b'n', b'f', ..]) => {
+            "here stands a number that is none, as NaN, and JSON has none such: null writes a field as unknown"
+        }
+        (
+            _,
+            [b'N', b'o', b'n', b'e', ..]
+            | [b'T', b'r', b'u', b'e', ..]
+            | [b'F', b'a', b'l', b's', b'e', ..],
+        ) => { "here stands a word of Python, as None, and JSON has null, true and false" }
         (Some(b','), [b']' | b'}', ..]) => "the comma before this bracket is one too many",
         (_, [next, ..]) if is_value(alloc, value) => match next {
             b'{' | b'[' | b',' => {

@@ -5,6 +5,7 @@
 //! more there then.
 #![tactic(auto)]
 
+mod accepted_note;
 mod bank_note;
 mod described;
 mod first_lines;
@@ -25,6 +26,7 @@ mod setup_note;
 mod told_key;
 mod word_note;
 
+pub use accepted_note::note_of_accepted;
 pub use bank_note::note_of_bank;
 pub use first_lines::FirstLines;
 pub use item_note::note_of_item;

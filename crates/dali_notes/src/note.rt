@@ -52,6 +52,11 @@ impl Note {
         }
     }
 
+    // Whether it has a line.
+    pub(crate) fn has_a_line(&self) -> bool {
+        self.lines.len() > 0
+    }
+
     // Whether no more lines are kept.
     pub(crate) fn is_full(&self) -> bool {
         self.lines.len() == MOST

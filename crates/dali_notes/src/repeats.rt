@@ -6,7 +6,6 @@ use std::alloc::Global;
 /// The numbers of the orders of a list as far as it was read, to tell those that are given again for another order.
 #[derive(Drop)]
 pub struct Repeats {
-    alloc: Global,
     firsts: Firsts,
     // Whether there is no more memory to remember them.
     is_full: bool,
@@ -16,37 +15,31 @@ impl Repeats {
     /// No orders.
     pub fn new(alloc: Global) -> Repeats {
         Repeats {
-            alloc,
             firsts: Firsts::new(alloc),
             is_full: false,
         }
     }
 
-    /// What is told of an item where an earlier one of the list has its number and is another order: the writer
-    /// replies `reused` to the later one, once the earlier has begun. Where there is no memory to remember an order, no
-    /// more are told.
-    pub fn note_of(&mut self, item: u64, order: &Order) -> Option<Note> {
+    // Tells of an item where an earlier one of the list has its number and is another order: the writer replies
+    // `reused` to the later one, once the earlier has begun. Where there is no memory to remember an order, no more are
+    // told.
+    pub(crate) fn add_repeat(&mut self, note: &mut Note, item: u64, order: &Order) {
         if self.is_full {
-            return None;
+            return;
         }
         let Ok(item) = u32::try_from(item) else {
-            return None;
+            return;
         };
         let (id, sum) = (order.id(), sum_of(order));
         match self.firsts.earlier_or_add(First { id, item, sum }) {
             Ok(Some(first)) if first.sum != sum => {
-                let mut note = Note::of_order(self.alloc, Some(id));
                 let first = first.item;
                 note.add(format_args!(
                     "the number of item {first}, which is another order: behind that one it is told as reused"
                 ));
-                Some(note)
             }
-            Ok(_) => None,
-            Err(_) => {
-                self.is_full = true;
-                None
-            }
+            Ok(_) => {}
+            Err(_) => self.is_full = true,
         }
     }
 }

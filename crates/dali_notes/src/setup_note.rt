@@ -1,5 +1,6 @@
 use crate::item_note::note_of_item;
 use crate::note::Note;
+use dali_bank::Field;
 use dali_gear::{GearFault, LEAST_BANK, MOST_ADDRESS, MOST_BANK};
 use dali_input::{EventPlan, InputFault, Item, MOST_EVENTS, Scenario, SetupFault, UnitPlan};
 use serde_json::Value as Json;
@@ -30,15 +31,27 @@ pub fn note_of_setup(alloc: Global, scenario: &Scenario<'_>, fault: SetupFault) 
     note
 }
 
-// The keys of an object. Those for which there is no memory are left out.
+// The keys of an object that orders don't have. Those for which there is no memory are left out.
 fn keys_of(alloc: Global, json: &Json) -> Vec<&str> {
     let mut keys = Vec::new(alloc);
     if let Some(object) = json.as_object() {
         for (key, _) in object.iter() {
-            let _no_memory = keys.push(key.as_str()).is_err();
+            if !is_of_orders(key.as_str()) {
+                let _no_memory = keys.push(key.as_str()).is_err();
+            }
         }
     }
     keys
+}
+
+// Whether orders have a key.
+fn is_of_orders(key: &str) -> bool {
+    for field in Field::ALL {
+        if field.key() == key {
+            return true;
+        }
+    }
+    key == "order" || key == "unit"
 }
 
 // The one of some things that has this number, counted from 1.

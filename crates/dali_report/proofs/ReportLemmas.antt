@@ -1,6 +1,6 @@
 -- How a report goes on.
 use Rattle.std.specs.List.{list_any}
-use Rattle.std.proofs.Common.{◌≡◌, ◌∙◌, refl, sym, true≢false, ◌||◌, ◌&&◌, ◌++◌, ℕ, Bool, true, false, List, [], ◌∷◌, Option, Some, None}
+use Rattle.std.proofs.Common.{◌≡◌, ◌∙◌, refl, sym, true≢false, ◌&&◌, ◌++◌, ℕ, Bool, true, false, List, [], ◌∷◌, Option, Some, None}
 use Rattle.std.proofs.Common.{option_map, subst, inl, inr, ◌⊎◌, IsOkAnd, IfOk, Result, Ok, Err, Vec, Global}
 use Rattle.std.specs.Io.KnownBytes.{Appends}
 use Rattle.std.proofs.KnownBytes.{Appends-trans}
@@ -19,7 +19,7 @@ use Rattle.dali_report.specs.declared.outcome.Outcome.{Outcome}
 use Rattle.dali_report.specs.declared.report.Report.{Report}
 use Rattle.dali_report.specs.declared.report.Spoken.{Spoken}
 use Rattle.dali_report.specs.Lines.{line_of, last_data}
-use Rattle.dali_report.specs.Reports.{resumed, spoken_of, is_number_of, exchanges, told_at, is_last_reply, IsReportText}
+use Rattle.dali_report.specs.Reports.{spoken_of, newly_ended, is_number_of, exchanges, told_at, is_last_reply, IsReportText}
 use Rattle.dali_report.specs.Reports.{IsCauseTold, is_ended_now}
 use Rattle.dali_report.specs.Outcomes.{all_done, all_ended_now, is_well, outcome_by, outcome_of}
 use Rattle.dali_report.specs.Tallies.{IsTally}
@@ -127,6 +127,17 @@ none_since : (past : List Happening) (id : ℕ) (reply : Reply) → is_last_repl
     → exchanges (Answered id reply ∷ past) ≡ []
 none_since past id reply last = rw last refl
 
+-- and no end
+none_ended : (start : Start) (past : List Happening) (id : ℕ) (reply : Reply)
+    → is_last_reply (Answered id reply) ≡ true
+    → None ≡ option_map spoken (newly_ended start (Answered id reply ∷ past))
+none_ended start past id replies.Taken last = cc
+none_ended start past id (replies.Kept code) last = refl
+none_ended start past id replies.IdReused last = refl
+none_ended start past id replies.Busy last = refl
+none_ended start past id replies.Full last = refl
+none_ended start past id (replies.Blocked unit) last = refl
+
 module _ {W : Type 0} (contents : W → Option (List ℕ)) (start : Start) (first old : Report W) (past : List Happening)
     (told : IsTold contents start first old past) (id : ℕ) (reply : Reply) where
   -- what a report has in hand is what is told at the reply
@@ -137,7 +148,7 @@ module _ {W : Type 0} (contents : W → Option (List ℕ)) (start : Start) (firs
         unit = option_map (λ (one : Spoken). one.unit) old.spoken;
         moment = moment_of id records;
         reply = reply;
-        ended_now = old.ended || is_number id old.resumed;
+        ended_now = is_number id old.ended;
         cause = old.cause;
         frames = old.tally.frames;
         misses = old.tally.misses;
@@ -149,17 +160,16 @@ module _ {W : Type 0} (contents : W → Option (List ℕ)) (start : Start) (firs
         sym same,
         told.run_is,
         told.spoken_is,
-        told.resumed_is,
         told.ended_is,
         told.tally_is.frames,
         told.tally_is.misses,
         unit_of (spoken_of start past),
-        number_of id (resumed start),
+        number_of id (newly_ended start past),
       ) refl
 
   -- and what all come to with it
   pub with_last : (done now : Bool) (comes : Outcome) → done ≡ is_well reply
-      → now ≡ (old.ended || is_number id old.resumed)
+      → now ≡ is_number id old.ended
       → ((had every all_now : Bool) → old.outcome ≡ outcome_by had every all_now
       → (had ≡ false → (every ≡ true) × (all_now ≡ true))
       → comes ≡ outcome_by true (every && done) (all_now && now))
@@ -167,14 +177,14 @@ module _ {W : Type 0} (contents : W → Option (List ℕ)) (start : Start) (firs
       (all_ended_now start past && is_ended_now start past id)
   with_last done now comes well ends with =
       let is_now : now ≡ is_ended_now start past id =
-      rw (ends, told.ended_is, told.resumed_is, number_of id (resumed start)) refl in
+      rw (ends, told.ended_is, number_of id (newly_ended start past)) refl in
       rw (← is_now, ← well)
       (with (list_any is_last_reply past) (all_done past) (all_ended_now start past) told.outcome_is
       (none_yet start past))
 
   -- its line was written, and the next one begins
   pub told_last : (new : Report W) → is_last_reply (Answered id reply) ≡ true
-      → new.resumed ≡ old.resumed → new.spoken ≡ old.spoken → new.ended ≡ old.ended → new.cause ≡ old.cause
+      → new.unfinished ≡ old.unfinished → new.spoken ≡ old.spoken → new.ended ≡ None → new.cause ≡ old.cause
       → IsTally [] new.tally → new.run ≡ old.run
       → new.outcome ≡ outcome_by true (all_done past && is_well reply)
       (all_ended_now start past && is_ended_now start past id)
@@ -183,10 +193,10 @@ module _ {W : Type 0} (contents : W → Option (List ℕ)) (start : Start) (firs
       (line_of (last_data (told_at first.run start past id reply old.cause))))
       → (has_failed old ≡ true → IsSilent old new)
       → IsTold contents start first new (Answered id reply ∷ past)
-  told_last new last resumes speaks ends causes tallies runs comes writes silent = record {
-    resumed_is = resumes ∙ told.resumed_is;
+  told_last new last remains speaks ends causes tallies runs comes writes silent = record {
+    unfinished_is = remains ∙ told.unfinished_is;
     spoken_is = speaks ∙ told.spoken_is;
-    ended_is = ends ∙ told.ended_is;
+    ended_is = ends ∙ none_ended start past id reply last;
     tally_is = subst (λ (x : List Exchange). IsTally x new.tally) (sym (none_since past id reply last)) tallies;
     outcome_is = comes ∙ sym (outcome_of_last start past id reply last);
     cause_is = rw causes told.cause_is;

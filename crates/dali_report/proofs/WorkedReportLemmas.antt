@@ -19,7 +19,7 @@ use Rattle.dali_report.specs.declared.report.Report.{Report}
 use Rattle.dali_report.specs.declared.tally.Tally.{Tally}
 use Rattle.dali_drive.specs.Found.{Found, was_found}
 use Rattle.dali_report.specs.Lines.{cause_data, end_data, escaped, found_data, is_plain, last_data}
-use Rattle.dali_report.specs.Reports.{exchanges, is_ended_now, IsReportText, resumed, spoken_of}
+use Rattle.dali_report.specs.Reports.{exchanges, is_ended_now, IsReportText, spoken_of, unfinished_at}
 use Rattle.dali_report.specs.Outcomes.{all_done, outcome_of}
 use Rattle.dali_report.specs.Reports.{IsCauseTold, told_at}
 use Rattle.dali_report.specs.Tallies.{IsTally}
@@ -51,22 +51,47 @@ pub the_newest_is_spoken_of : (spoken_of begun_start (Asked second 0 ∷ []) ≡
     × (spoken_of begun_start [] ≡ Some first)
 the_newest_is_spoken_of = (refl, refl)
 
-pub of_an_ended_order_none_is_resumed :
-    resumed ended_start ≡ None
-of_an_ended_order_none_is_resumed = refl
+pub an_ended_order_is_finished :
+    (unfinished_at ended_start [] ≡ None) × (unfinished_at begun_start (Kept (Ended Done) ∷ []) ≡ None)
+    × (unfinished_at begun_start [] ≡ Some first)
+an_ended_order_is_finished = (refl, refl, refl)
 
-pub ended_now : is_ended_now new_start (Kept (Ended Done) ∷ Asked first 0 ∷ []) 1 ≡ true
-ended_now = refl
+-- the first is carried out, and its reply is said
+abbrev first_done : List Happening
+first_done = Kept (Ended Done) ∷ Kept (Opened 5) ∷ Kept (Began first 0) ∷ Answered 1 replies.Taken ∷ Asked first 0 ∷ []
 
--- where it was asked again, its end stood before
-pub ended_before : is_ended_now new_start (Asked first 0 ∷ Kept (Ended Done) ∷ Asked first 0 ∷ []) 1 ≡ false
-ended_before = refl
+abbrev first_said : List Happening
+first_said = Answered 1 (replies.Kept Done) ∷ first_done
 
-pub resumed_ends_now : is_ended_now begun_start (Asked first 0 ∷ []) 1 ≡ true
-resumed_ends_now = refl
+-- and it is, where a journal had begun it
+abbrev resumed_done : List Happening
+resumed_done = Kept (Ended Done) ∷ Kept (Opened 5) ∷ []
 
-pub no_other_ends_with_it : is_ended_now begun_start (Asked second 0 ∷ []) 2 ≡ false
-no_other_ends_with_it = refl
+abbrev resumed_said : List Happening
+resumed_said = Answered 1 (replies.Kept Done) ∷ resumed_done
+
+pub ended_now : (is_ended_now new_start first_done 1 ≡ true) × (is_ended_now begun_start resumed_done 1 ≡ true)
+ended_now = (refl, refl)
+
+-- also where the order is taken once more between its end and its reply
+pub taken_tells_no_end : is_ended_now new_start (Answered 1 replies.Taken ∷ first_done) 1 ≡ true
+taken_tells_no_end = refl
+
+-- once its reply was said, its end stood before: where it is asked again, and where it was resumed and is then asked
+pub ended_before :
+    (is_ended_now new_start (Asked first 0 ∷ first_said) 1 ≡ false)
+    × (is_ended_now begun_start (Asked first 0 ∷ resumed_said) 1 ≡ false)
+    × (is_ended_now ended_start (Asked first 0 ∷ []) 1 ≡ false)
+ended_before = (refl, refl, refl)
+
+-- and before its end was kept it hasn't ended
+pub not_ended_yet :
+    (is_ended_now begun_start [] 1 ≡ false) × (is_ended_now begun_start (Kept (Opened 5) ∷ []) 1 ≡ false)
+not_ended_yet = (refl, refl)
+
+pub no_other_ends_with_it :
+    (is_ended_now begun_start resumed_done 2 ≡ false) × (is_ended_now new_start first_done 2 ≡ false)
+no_other_ends_with_it = (refl, refl)
 
 -- ---- which frames are counted
 
@@ -120,8 +145,8 @@ pub nothing_where_none_is_replied :
     × (outcome_of new_start (Answered 1 replies.Taken ∷ Asked first 0 ∷ []) ≡ Nothing)
 nothing_where_none_is_replied = (refl, refl)
 
-pub done_now : outcome_of new_start (Answered 1 (replies.Kept Done) ∷ Kept (Ended Done) ∷ Asked first 0 ∷ []) ≡ DoneNow
-done_now = refl
+pub done_now : (outcome_of new_start first_said ≡ DoneNow) × (outcome_of begun_start resumed_said ≡ DoneNow)
+done_now = (refl, refl)
 
 -- one that the journal had ended is done, and not by this drive
 pub done_before : outcome_of ended_start (Answered 1 (replies.Kept Done) ∷ Asked first 0 ∷ []) ≡ outcomes.Done
@@ -129,20 +154,19 @@ done_before = refl
 
 -- though another one is
 pub one_done_before_is_enough :
-    outcome_of ended_start (Answered 2 (replies.Kept Done) ∷ Kept (Ended Done) ∷ Asked second 0
-    ∷ Answered 1 (replies.Kept Done) ∷ Asked first 0 ∷ []) ≡ outcomes.Done
+    outcome_of ended_start (Answered 2 (replies.Kept Done) ∷ Kept (Ended Done) ∷ Kept (Opened 6)
+    ∷ Kept (Began second 0) ∷ Asked second 0 ∷ Answered 1 (replies.Kept Done) ∷ Asked first 0 ∷ []) ≡ outcomes.Done
 one_done_before_is_enough = refl
 
 -- one that is asked twice was done before the second time
 pub asked_twice_is_done_before :
-    outcome_of new_start (Answered 1 (replies.Kept Done) ∷ Asked first 0
-    ∷ Answered 1 (replies.Kept Done) ∷ Kept (Ended Done) ∷ Asked first 0 ∷ []) ≡ outcomes.Done
+    outcome_of new_start (Answered 1 (replies.Kept Done) ∷ Asked first 0 ∷ first_said) ≡ outcomes.Done
 asked_twice_is_done_before = refl
 
--- one that is resumed and comes again is done by this drive
-pub resumed_is_done_now :
-    outcome_of begun_start (Answered 1 (replies.Kept Done) ∷ Asked first 0 ∷ Kept (Ended Done) ∷ []) ≡ DoneNow
-resumed_is_done_now = refl
+-- and so was one that is resumed and then asked
+pub resumed_and_asked_is_done_before :
+    outcome_of begun_start (Answered 1 (replies.Kept Done) ∷ Asked first 0 ∷ resumed_said) ≡ outcomes.Done
+resumed_and_asked_is_done_before = refl
 
 pub not_done_where_one_has_no_end :
     (outcome_of ended_start (Answered 1 replies.IdReused ∷ Asked first 0 ∷ []) ≡ NotDone)
@@ -212,8 +236,8 @@ module _ {W : Type 0} (contents : W → Option (List ℕ)) (first_report now : R
   not_done_though_broken_off fault frame text told = told.outcome_is
 
   pub speaks_of_the_newest : IsTold contents begun_start first_report now (Asked second 0 ∷ [])
-      → (now.spoken ≡ Some (spoken second)) × (now.resumed ≡ Some (spoken first)) × (now.ended ≡ false)
-  speaks_of_the_newest told = (told.spoken_is, told.resumed_is, told.ended_is)
+      → (now.spoken ≡ Some (spoken second)) × (now.unfinished ≡ Some (spoken first)) × (now.ended ≡ None)
+  speaks_of_the_newest told = (told.spoken_is, told.unfinished_is, told.ended_is)
 
   -- a report never becomes that of another run
   pub run_stays : (found : List Found) → first_report.run ≡ 3
@@ -223,5 +247,5 @@ module _ {W : Type 0} (contents : W → Option (List ℕ)) (first_report now : R
   run_stays found is (inr told) = told.same_run ∙ is
 
   pub end_is_kept_in_mind : IsTold contents begun_start first_report now (Kept (Ended Done) ∷ [])
-      → now.ended ≡ true
+      → now.ended ≡ Some (spoken first)
   end_is_kept_in_mind told = told.ended_is

@@ -82,8 +82,9 @@ pub torn_anywhere :
     × (begins_so (codes "{\"answer\":\"--\",\"fau") ≡ true) × (begins_so (codes "{\"cause\":nul") ≡ true)
 torn_anywhere = (refl, refl, refl, refl)
 
-pub nothing_is_not_torn : begins_so [] ≡ false
-nothing_is_not_torn = refl
+-- of a line nothing may be there
+pub no_byte_is_torn : begins_so [] ≡ true
+no_byte_is_torn = refl
 
 pub others_are_not_torn :
     (begins_so (codes "{\"order\":1") ≡ false) × (begins_so (codes "{ \"code\":") ≡ false)

@@ -1,5 +1,5 @@
 -- What a report tells of a drive: a line for each order at its last reply. A trace has the newest happening first.
-use Rattle.std.specs.Prelude.{◌≡◌, ◌==◌, ◌||◌, ℕ, Bool, true, false, List, [], ◌∷◌, ◌++◌, Option, Some, None, length}
+use Rattle.std.specs.Prelude.{◌≡◌, ◌==◌, ℕ, Bool, true, false, List, [], ◌∷◌, ◌++◌, Option, Some, None, length}
 use Rattle.std.specs.Prelude.{option_map}
 use Rattle.dali_bank.specs.Order.{Contents}
 use Rattle.dali_frame.specs.declared.forward.Frame.{Frame}
@@ -7,7 +7,6 @@ use Rattle.dali_journal.specs.declared.record.Record.TheVariants.{Ended}
 use Rattle.dali_journal.specs.declared.standing.Standing.{Standing}
 use Rattle.dali_journal.specs.declared.standing.Standing.TheVariants as standings
 use Rattle.dali_journal.specs.Orders.{moment_of}
-use Rattle.dali_journal.specs.Sentence.{standing_of}
 use Rattle.dali_write.specs.Exchanges.{Exchange}
 use Rattle.dali_write.specs.declared.ask.Cause.{Cause}
 use Rattle.dali_write.specs.Misses.{misses_in}
@@ -16,7 +15,7 @@ use Rattle.dali_trace.specs.declared.happening.Reply.TheVariants as replies
 use Rattle.dali_trace.specs.declared.happening.Happening.{Happening}
 use Rattle.dali_trace.specs.declared.happening.Happening.TheVariants.{Asked, Answered, Kept}
 use Rattle.dali_trace.specs.Cut.{since, frames_in}
-use Rattle.dali_trace.specs.Trace.{Start, records_of}
+use Rattle.dali_trace.specs.Trace.{Start, records_of, standing_at}
 use Rattle.dali_trace.specs.Causes.{IsCauseBeside}
 use Rattle.dali_trace.specs.declared.fault.DriveFault.{DriveFault}
 use Rattle.dali_drive.specs.Found.{Found}
@@ -29,40 +28,38 @@ unfinished_in (standings.Began order) = Some order
 unfinished_in (standings.Opened order) = Some order
 unfinished_in other = None
 
--- the one that the journal had left unfinished when the drive began
-abbrev pub resumed : Start → Option Contents
-resumed start = unfinished_in (standing_of start.records)
+-- the one that was begun by now and hasn't ended
+abbrev pub unfinished_at : Start → List Happening → Option Contents
+unfinished_at start past = unfinished_in (standing_at start past)
 
 -- the order that is spoken of: the newest that was asked, and before any was the one that is resumed
 abbrev pub spoken_of : Start → List Happening → Option Contents
-spoken_of start [] = resumed start
+spoken_of start [] = unfinished_at start []
 spoken_of start (Asked order moment ∷ past) = Some order
 spoken_of start (other ∷ past) = spoken_of start past
 
--- ---- where a look back ends: where an order was asked, and at a last reply, which is any but `taken`
-
-abbrev pub is_asked : Happening → Bool
-is_asked (Asked order moment) = true
-is_asked other = false
+-- ---- where a look back ends: at a last reply, which is any but `taken`
 
 abbrev pub is_last_reply : Happening → Bool
 is_last_reply (Answered id replies.Taken) = false
 is_last_reply (Answered id reply) = true
 is_last_reply other = false
 
--- an end was kept among these
-abbrev pub has_end : List Happening → Bool
-has_end [] = false
-has_end (Kept (Ended code) ∷ past) = true
-has_end (other ∷ past) = has_end past
+-- the order whose end was kept since the last reply before
+abbrev pub newly_ended : Start → List Happening → Option Contents
+newly_ended start [] = None
+newly_ended start (Kept (Ended code) ∷ past) = unfinished_at start past
+newly_ended start (Answered id replies.Taken ∷ past) = newly_ended start past
+newly_ended start (Answered id reply ∷ past) = None
+newly_ended start (other ∷ past) = newly_ended start past
 
--- the end of the order of this number was kept in this drive: since it was asked, or it is the one that was resumed
+-- it is the one of this number: so an end is told once as of now, in the drive that kept it
 abbrev pub is_number_of : ℕ → Option Contents → Bool
 is_number_of id None = false
 is_number_of id (Some order) = order.id == id
 
 abbrev pub is_ended_now : Start → List Happening → ℕ → Bool
-is_ended_now start past id = has_end (since is_asked past) || is_number_of id (resumed start)
+is_ended_now start past id = is_number_of id (newly_ended start past)
 
 -- the exchanges since the last reply before
 abbrev pub exchanges : List Happening → List Exchange

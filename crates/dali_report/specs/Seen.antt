@@ -1,6 +1,6 @@
 -- What a line of a file is to a report: a line of one, a first part of one, or neither.
 use Rattle.std.specs.Prelude.{◌≡◌, ◌⊎◌, ◌||◌, ◌&&◌, ◌==◌, ◌+◌, ℕ, Bool, true, false, List, Option, Some, None}
-use Rattle.std.specs.Prelude.{codes, is_some, length, min, not, option_and_then, suc, take, if◌then◌else◌}
+use Rattle.std.specs.Prelude.{codes, is_some, length, min, option_and_then, suc, take, if◌then◌else◌}
 use Rattle.std.specs.Option.{option_map_or}
 use Rattle.std.specs.Str.{IsUtf8, bytes_eq}
 use Rattle.serde_json.specs.Data.{Data, Members, no_members, member}
@@ -68,12 +68,11 @@ seen_by None = Other
 abbrev pub begin_alike : List ℕ → List ℕ → Bool
 begin_alike one other = let count = min (length one) (length other) in bytes_eq (take count one) (take count other)
 
--- it begins as a line of one of the three kinds does
+-- it begins as a line of one of the three kinds does: so does one that has no byte
 abbrev pub begins_so : List ℕ → Bool
 begins_so line =
-    not (length line == 0)
-    && (begin_alike line (codes "{\"code\":") || begin_alike line (codes "{\"answer\":")
-    || begin_alike line (codes "{\"byte\":") || begin_alike line (codes "{\"cause\":"))
+    begin_alike line (codes "{\"code\":") || begin_alike line (codes "{\"answer\":")
+    || begin_alike line (codes "{\"byte\":") || begin_alike line (codes "{\"cause\":")
 
 -- a line that is no JSON
 abbrev pub IsUnread : List ℕ → Type 0

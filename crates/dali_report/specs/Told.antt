@@ -8,14 +8,13 @@ use Rattle.dali_frame.specs.declared.forward.Frame.{Frame}
 use Rattle.dali_text.specs.declared.output.Output.{Output}
 use Rattle.dali_text.specs.Output as output
 use Rattle.dali_trace.specs.declared.happening.Happening.{Happening}
-use Rattle.dali_trace.specs.Cut.{since}
 use Rattle.dali_trace.specs.Trace.{Start}
 use Rattle.dali_trace.specs.declared.fault.DriveFault.{DriveFault}
 use Rattle.dali_drive.specs.Found.{Found}
 use Rattle.dali_report.specs.declared.outcome.Outcome.{Outcome}
 use Rattle.dali_report.specs.declared.report.Report.{Report}
 use Rattle.dali_report.specs.declared.report.Spoken.{Spoken}
-use Rattle.dali_report.specs.Reports.{resumed, spoken_of, is_asked, has_end, exchanges, IsCauseTold, IsReportText}
+use Rattle.dali_report.specs.Reports.{unfinished_at, spoken_of, newly_ended, exchanges, IsCauseTold, IsReportText}
 use Rattle.dali_report.specs.Reports.{IsBrokenText, AreFoundLines}
 use Rattle.dali_report.specs.Outcomes.{outcome_of}
 use Rattle.dali_report.specs.Tallies.{IsTally}
@@ -83,9 +82,9 @@ HasWrittenAs contents first now is_so = (text : List ℕ) × is_so text × HasWr
 -- since it was the first of the two, it was told this trace from that start
 pub record IsTold {W : Type 0} (contents : W → Option (List ℕ)) (start : Start) (first now : Report W)
     (past : List Happening) : Type 0 where
-  pub resumed_is : now.resumed ≡ option_map spoken (resumed start)
+  pub unfinished_is : now.unfinished ≡ option_map spoken (unfinished_at start past)
   pub spoken_is : now.spoken ≡ option_map spoken (spoken_of start past)
-  pub ended_is : now.ended ≡ has_end (since is_asked past)
+  pub ended_is : now.ended ≡ option_map spoken (newly_ended start past)
   pub tally_is : IsTally (exchanges past) now.tally
   pub outcome_is : now.outcome ≡ outcome_of start past
   pub cause_is : IsCauseTold start past now.cause

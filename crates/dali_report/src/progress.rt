@@ -126,7 +126,7 @@ impl Progress {
     // A drive begins with this journal.
     pub(crate) fn resume(&self, journal: &Journal) {
         let mut state = self.state.get();
-        state.resume(&journal.standing());
+        state.resume(journal);
         state.meter.start(&self.rt);
         self.state.set(state);
         self.begin();

@@ -119,6 +119,9 @@ impl fmt::Display for Totals {
 
 impl Totals {
     fn write_driven<W: fmt::Write>(&self, f: &mut fmt::Formatter<W>) -> fmt::Result {
+        if self.state.is_new {
+            f.write_str("new journal, ")?;
+        }
         self.write_undone(f, "not done")?;
         let WatchState {
             good,

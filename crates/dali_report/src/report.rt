@@ -1,11 +1,12 @@
-ghost use Rattle.std.specs.Prelude.{◌≡◌, ◌∷◌, ◌⊎◌, ◌||◌, List, IsOkAnd, OnOk, None, false, true, is_some, option_map};
+ghost use Rattle.std.specs.Prelude.{◌≡◌, ◌∷◌, ◌⊎◌, List, IsOkAnd, OnOk, None, false, true, is_some, option_map};
 ghost use Rattle.std.specs.Io.KnownBytes.{Appends};
 ghost use Rattle.dali_text.specs.Output.{Takes, TellsFailure, is_flushed};
 ghost use Rattle.dali_trace.specs.declared.happening.Happening.{Happening};
 ghost use Rattle.dali_trace.specs.declared.happening.Happening.TheVariants.{Answered};
 ghost use Rattle.dali_trace.specs.Trace.{Start, records_of};
 ghost use Rattle.dali_report.specs.Lines.{last_data, line_of};
-ghost use Rattle.dali_report.specs.Reports.{is_last_reply, resumed};
+ghost use Rattle.dali_journal.specs.Sentence.{standing_of};
+ghost use Rattle.dali_report.specs.Reports.{is_last_reply, unfinished_in};
 ghost use Rattle.dali_report.specs.Outcomes.{is_well as well};
 ghost use Rattle.dali_report.specs.Told.{IsTold, IsToldEnd, output_held, output_failed, report_held};
 ghost use Rattle.dali_report.specs.Told.{has_failed as report_failed, has_failed_output, has_output};
@@ -57,13 +58,13 @@ pub struct Report<'a, W> {
     progress: Option<&'a Progress>,
     // Whether there was no memory for a line.
     starved: bool,
-    // The order that the journal had left unfinished.
-    resumed: Option<Spoken>,
+    // The order that was begun and hasn't ended.
+    unfinished: Option<Spoken>,
     // The order that was asked last, or the one that is resumed.
     spoken: Option<Spoken>,
-    // Whether an end was kept since an order was asked.
-    ended: bool,
-    // Why that came to no good end, if it did.
+    // The order whose end was kept since the last reply before.
+    ended: Option<Spoken>,
+    // Why the order that is spoken of came to no good end, if it did.
     cause: Option<Cause>,
     tally: Tally,
     outcome: Outcome,
@@ -90,9 +91,9 @@ impl<'a, W: Write> Report<'a, W> {
             output,
             progress,
             starved: false,
-            resumed: None,
+            unfinished: None,
             spoken: None,
-            ended: false,
+            ended: None,
             cause: None,
             tally: Tally::new(),
             outcome: Outcome::Nothing,
@@ -171,6 +172,7 @@ impl<'a, W: Write> Report<'a, W> {
             misses: self.tally.misses,
             run: self.run,
         });
+        self.ended = None;
         self.tally = Tally::new();
         self.outcome = self.outcome.with(is_well(reply), ended_now);
     }
@@ -185,21 +187,14 @@ impl<'a, W: Write> Report<'a, W> {
         }
     }
 
-    // Whether the order of this number is the one that is resumed.
-    fn is_resumed(&self, id: u64) -> bool
-        ensures { result ≡ is_number id self.now.resumed }
+    // Whether the end of the order of this number was kept since the last reply before.
+    fn ends_now(&self, id: u64) -> bool
+        ensures { result ≡ is_number id self.now.ended }
     {
-        match self.resumed {
+        match self.ended {
             Some(spoken) => spoken.id == id,
             None => false,
         }
-    }
-
-    // Whether the end of the order of this number was kept in this drive.
-    fn ends_now(&self, id: u64) -> bool
-        ensures { result ≡ (self.now.ended || is_number id self.now.resumed) }
-    {
-        self.ended || self.is_resumed(id)
     }
 
     // Writes what is told of an order.
@@ -247,9 +242,9 @@ impl<W: Write + Drop> Observer for Report<'_, W> {
 
     fn begin(&mut self, journal: &Journal) {
         self.show_begun(journal);
-        self.resumed = unfinished(journal);
-        self.spoken = self.resumed;
-        self.ended = false;
+        self.unfinished = unfinished(journal);
+        self.spoken = self.unfinished;
+        self.ended = None;
         self.cause = None;
         self.tally = Tally::new();
         self.outcome = Outcome::Nothing;
@@ -260,17 +255,18 @@ impl<W: Write + Drop> Observer for Report<'_, W> {
         match happening {
             Happening::Asked(order, _) => {
                 self.spoken = Some(Spoken::of(order));
-                self.ended = false;
                 self.cause = None;
             }
             Happening::Sent(frame, answer) => self.tally.add(frame, *answer),
             Happening::Kept(Record::Ended(_)) => {
-                self.ended = true;
+                self.ended = self.unfinished;
+                self.unfinished = unfinished(journal);
                 self.cause = cause;
             }
+            Happening::Kept(_) => self.unfinished = unfinished(journal),
             Happening::Answered(_, Reply::Taken) => {}
             Happening::Answered(id, reply) => self.tell(*id, *reply, journal),
-            Happening::Kept(_) | Happening::Stopped(_) | Happening::Powered(_) => {}
+            Happening::Stopped(_) | Happening::Powered(_) => {}
         }
     }
 
@@ -296,7 +292,7 @@ impl<W: Write + Drop> FindingObserver for Report<'_, W> {
 
 // The order that a journal leaves unfinished.
 fn unfinished(journal: &Journal) -> Option<Spoken>
-    ensures { (start : Start) → start.records ≡ journal.now.records → result ≡ option_map spoken (resumed start) }
+    ensures { result ≡ option_map spoken (unfinished_in (standing_of journal.now.records)) }
 {
     match journal.standing() {
         Standing::Began(order) | Standing::Opened(order) => Some(Spoken::of(&order)),

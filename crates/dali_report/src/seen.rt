@@ -18,7 +18,7 @@ pub const LINE_LIMIT: usize = 2048;
 pub enum Seen {
     /// A line of this run; 0 where it tells none, as one of an earlier version.
     Line(u64),
-    /// A first part of a line, which a kill or a full disk left.
+    /// A first part of a line, which a kill or a full disk left: also one of no byte.
     Torn,
     /// Neither.
     Other,
@@ -151,11 +151,10 @@ fn has(value: &Value, key: &str) -> bool
 fn begins_so(line: &[u8]) -> bool
     ensures { result ≡ beginning line.now }
 {
-    !line.is_empty()
-        && (begins_as(line, b"{\"code\":")
-            || begins_as(line, b"{\"answer\":")
-            || begins_as(line, b"{\"byte\":")
-            || begins_as(line, b"{\"cause\":"))
+    begins_as(line, b"{\"code\":")
+        || begins_as(line, b"{\"answer\":")
+        || begins_as(line, b"{\"byte\":")
+        || begins_as(line, b"{\"cause\":")
 }
 
 // Whether both begin alike, as far as the shorter one goes.

@@ -73,11 +73,9 @@ impl AtHand {
 
     // One more frame of it, with this answer or none.
     fn add(&mut self, frame: &Frame, answer: Option<u8>) {
-        let before = self.tally;
+        let misses = self.tally.misses;
         self.tally.add(frame, answer);
-        let more = self
-            .attempt
-            .add(frame, self.tally.misses > before.misses, before.location);
+        let more = self.attempt.add(frame, self.tally.misses > misses);
         if let Some(expected) = self.expected {
             self.expected = Some(expected.saturating_add(more).max(self.tally.frames));
         }
@@ -113,6 +111,8 @@ pub(crate) struct WatchState {
     /// The orders that are done by this command, or are the same, and those that were done before.
     pub(crate) good: u64,
     pub(crate) known: u64,
+    /// Whether the journal had no order when the drive began.
+    pub(crate) is_new: bool,
     pub(crate) undone: Undone,
     pub(crate) meter: Meter,
 }
@@ -132,15 +132,17 @@ impl WatchState {
             misses: 0,
             good: 0,
             known: 0,
+            is_new: false,
             undone: Undone::new(),
             meter: Meter::new(),
         }
     }
 
-    /// A journal leaves this to be done.
-    pub(crate) fn resume(&mut self, standing: &Standing) {
-        if let Standing::Began(order) | Standing::Opened(order) = standing {
-            self.at_hand = Some(AtHand::new(order, true, None));
+    /// A drive begins with this journal, which may leave an order to be done.
+    pub(crate) fn resume(&mut self, journal: &Journal) {
+        self.is_new = journal.orders() == 0;
+        if let Standing::Began(order) | Standing::Opened(order) = journal.standing() {
+            self.at_hand = Some(AtHand::new(&order, true, None));
         }
     }
 
@@ -181,7 +183,7 @@ impl WatchState {
     /// The order of this number had its last reply: it is done or not.
     pub(crate) fn answer(&mut self, id: u64, is_done: bool) {
         let ended_now = match self.at_hand {
-            Some(order) => order.has_ended || order.is_resumed && order.id == id,
+            Some(order) => order.has_ended && order.id == id,
             None => false,
         };
         if !is_done {

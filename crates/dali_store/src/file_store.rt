@@ -1,7 +1,7 @@
 // A file as a store. No contract tells of a real file: its bytes aren't known, and that these calls do what a store's
 // do is trusted.
 ghost use Rattle.std.specs.Prelude.{Bool, List, ℕ, ◌≡◌, ◌||◌, not, false, true};
-ghost use Rattle.dali_store.specs.Files.{IsIn, has_failed};
+ghost use Rattle.dali_store.specs.Files.{IsIn, has_failed, is_made, is_of_journal};
 
 use crate::files::{Hindrance, unopened};
 use crate::journal_file::JournalFile;
@@ -35,26 +35,33 @@ impl<'a, R: Files<File = File> + AllocGlobal> FileStore<'a, R> {
     /// The store in the file of a journal, of this name. The first call has to be `read`, which opens the file, made
     /// where there is none, and locks it for as long as the store lasts; any other fails before it.
     pub fn journal(rt: &'a R, name: &'a str) -> FileStore<'a, R>
-        ensures { IsIn true name.now result }
+        ensures { IsIn true true name.now result }
     {
-        FileStore {
-            rt,
-            name,
-            kind: Kind::Journal(JournalFile::new()),
-            failed: false,
-            cause: None,
-        }
+        FileStore::of_kind(rt, name, Kind::Journal(JournalFile::new(true)))
+    }
+
+    /// The same, of a file that is there and has a byte: where there is none, `read` makes none and fails.
+    pub fn found_journal(rt: &'a R, name: &'a str) -> FileStore<'a, R>
+        ensures { IsIn true false name.now result }
+    {
+        FileStore::of_kind(rt, name, Kind::Journal(JournalFile::new(false)))
     }
 
     /// The store in the file of a text, of this name. It is only ever replaced, and needn't exist; any other call
     /// fails.
     pub fn text(rt: &'a R, name: &'a str) -> FileStore<'a, R>
-        ensures { IsIn false name.now result }
+        ensures { IsIn false true name.now result }
+    {
+        FileStore::of_kind(rt, name, Kind::Text)
+    }
+
+    fn of_kind(rt: &'a R, name: &'a str, kind: Kind) -> FileStore<'a, R>
+        ensures { IsIn (is_of_journal kind) (is_made kind) name.now result }
     {
         FileStore {
             rt,
             name,
-            kind: Kind::Text,
+            kind,
             failed: false,
             cause: None,
         }
@@ -63,7 +70,8 @@ impl<'a, R: Files<File = File> + AllocGlobal> FileStore<'a, R> {
     /// Says in which file the orders are: the journal that `read` opens can't be that one. It has to stay open until
     /// then, since its number is given to another file once it is gone. A text stays as it is.
     pub fn set_orders(&mut self, orders: &Metadata)
-        ensures same { (journal : Bool) (name : List ℕ) → IsIn journal name self.old → IsIn journal name self.new }
+        ensures same { (journal made : Bool) (name : List ℕ)
+            → IsIn journal made name self.old → IsIn journal made name self.new }
         ensures failed { has_failed self.new ≡ has_failed self.old }
     {
         if let Kind::Journal(file) = &mut self.kind {

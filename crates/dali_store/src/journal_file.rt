@@ -1,5 +1,5 @@
 // The file of a journal. No contract tells of a real file: its bytes aren't known.
-ghost use Rattle.std.specs.Prelude.{◌<◌, ◌≤◌, IfOk, length};
+ghost use Rattle.std.specs.Prelude.{◌≡◌, ◌<◌, ◌≤◌, IfOk, length};
 
 use crate::files::{Hindrance, given, lock, read_up_to, refused, unopened, unusable};
 use crate::new_file::{Writer, successor};
@@ -10,12 +10,14 @@ use std::io;
 use std::io::{ErrorKind, Seek, SeekFrom, Write};
 use std::os::unix::fs::FileTypeExt;
 
-// The file of a journal: `read` opens it, made where there is none, and locks it for as long as this lasts. Any other
-// call fails before that.
+// The file of a journal: `read` opens it, made where there is none or not, and locks it for as long as this lasts. Any
+// other call fails before that.
 #[derive(Drop)]
 pub(crate) struct JournalFile {
     // The file of the orders, where one is known: the journal can't be that one.
     orders: Option<FileId>,
+    // Whether it is made where there is none.
+    is_made: bool,
     opened: Option<Opened>,
 }
 
@@ -28,14 +30,19 @@ struct Opened {
 }
 
 impl JournalFile {
-    pub(crate) fn new() -> JournalFile {
+    pub(crate) fn new(is_made: bool) -> JournalFile
+        ensures { result.is_made ≡ is_made }
+    {
         JournalFile {
             orders: None,
+            is_made,
             opened: None,
         }
     }
 
-    pub(crate) fn set_orders(&mut self, orders: &Metadata) {
+    pub(crate) fn set_orders(&mut self, orders: &Metadata)
+        ensures { self.new.is_made ≡ self.old.is_made }
+    {
         self.orders = Some(id_of(orders));
     }
 
@@ -55,7 +62,7 @@ impl JournalFile {
                 read_up_to(alloc, name, &mut opened.file, limit)
             }
             None => {
-                let mut fresh = open(rt, alloc, name, self.orders)?;
+                let mut fresh = open(rt, alloc, name, self.orders, self.is_made)?;
                 let bytes = read_up_to(alloc, name, &mut fresh.file, limit)?;
                 self.opened = Some(fresh);
                 Ok(bytes)
@@ -130,25 +137,37 @@ impl JournalFile {
     }
 }
 
-// Opens a file to read it and to append to it, made where there is none, and locks it.
+// Opens a file to read it and to append to it, made where there is none or not, and locks it.
 fn open<R: Files<File = File>>(
     rt: &R,
     alloc: Global,
     name: &str,
     orders: Option<FileId>,
+    is_made: bool,
 ) -> Result<Opened, Hindrance> {
     if name == "-" {
         return Err(refused(alloc, "the journal has to be a file, and no stream", name));
     }
     let mut how = OpenOptions::new();
-    how.read(true).append(true).create(true);
-    let file = opened_or_made(rt, alloc, name, &how)?;
+    how.read(true).append(true);
+    let file = if is_made {
+        opened_or_made(rt, alloc, name, how.create(true))?
+    } else {
+        opened_as_it_is(rt, alloc, name, &how)?
+    };
     let found = given(alloc, name, file.metadata())?;
     if !found.is_file() {
         return Err(refused(alloc, irregular(&found), name));
     }
     if orders == Some(id_of(&found)) {
         return Err(refused(alloc, "ORDERS and JOURNAL are one file", name));
+    }
+    if !is_made && found.len() == 0 {
+        return Err(refused(
+            alloc,
+            "the journal has no byte, and none is to be made",
+            name,
+        ));
     }
     lock(alloc, &file, name, Writer::Drive)?;
     let place = place_of(rt, alloc, name, found)?;
@@ -157,6 +176,22 @@ fn open<R: Files<File = File>>(
         place,
         is_settled: false,
     })
+}
+
+// Opens a file that has to be there.
+fn opened_as_it_is<R: Files<File = File>>(
+    rt: &R,
+    alloc: Global,
+    name: &str,
+    how: &OpenOptions,
+) -> Result<File, Hindrance> {
+    match how.open(rt, name) {
+        Ok(file) => Ok(file),
+        Err(cause) if cause.kind() == ErrorKind::NotFound => {
+            Err(refused(alloc, "there is no journal, and none is to be made", name))
+        }
+        Err(cause) => Err(unusable(alloc, name, cause)),
+    }
 }
 
 // Why what is no regular file can't be a journal.

@@ -14,7 +14,7 @@ use Rattle.dali_write.specs.Worlds.{Selects}
 use Rattle.dali_write.specs.Reads.{EndsInRead, StillRead, HasRead}
 use Rattle.dali_write.proofs.ShapeLemmas.{Got}
 use Rattle.dali_write.specs.declared.request.Wish.TheVariants.{Nothing, Exactly}
-use Rattle.dali_write.proofs.EndLemmas.{reads_by, ends_selecting, ends_reading, one_location}
+use Rattle.dali_write.proofs.EndLemmas.{reads_by, ends_selecting, fourth_is, ends_reading, one_location}
 use Rattle.dali_trace.specs.declared.happening.Reply.TheVariants as replies
 use Rattle.dali_trace.specs.declared.happening.Happening.{Happening}
 use Rattle.dali_trace.specs.declared.happening.Happening.TheVariants.{Answered, Sent, Powered}
@@ -22,7 +22,7 @@ use Rattle.dali_trace.specs.Trace.{sent_of, sent_since_taken, waiting, powered_o
 use Rattle.dali_trace.specs.Replies.{IsReply}
 use Rattle.dali_trace.specs.Legal.{MayPut, MayKeep, Legal}
 use Rattle.dali_trace.specs.Worked.{read_at, write_at, taken, said, second_taken, empty, left_open, first_order, locked, unguarded}
-use Rattle.dali_trace.specs.Worked.{enabled_between, bank_not_asked, written_twice, another_byte, idle_frame, frame_to_another_unit}
+use Rattle.dali_trace.specs.Worked.{enabled_between, set_between, bank_not_asked, written_twice, another_byte, idle_frame, frame_to_another_unit}
 use Rattle.dali_trace.specs.Worked.{enabled_before_opened, opened_unread, done_unread, done_with_the_lock_unread}
 use Rattle.dali_trace.specs.Worked.{begun_twice, busy_at_once, reply_to_another, said_before_ended, begun_while_left}
 use Rattle.dali_trace.specs.Worked.{closed_unread, blocked_after_a_read, left_unit_unlocked, begun_after_a_stop}
@@ -51,12 +51,12 @@ next_is unit location x y z told selects =
   where
     by : {first : Exchange} (next : Exchange) (older : List Exchange) → x ∷ y ∷ z ∷ told ≡ first ∷ next ∷ older
         → Got next (AskDtr1 unit) (Exactly 1)
-        ⊎ (Got next (Dtr0 location) Nothing × ((third : Exchange) × (before : List Exchange) × (older ≡ third ∷ before)
-        × Got third (AskDtr1 unit) (Exactly 1)))
+        ⊎ (Got next (Dtr0 location) Nothing × ((third fourth : Exchange) × (before : List Exchange)
+        × (older ≡ third ∷ fourth ∷ before) × Got third (AskDtr1 unit) (Exactly 1) × Got fourth (Dtr1 1) Nothing))
         → (y.frame ≡ AskDtr1 unit) ⊎ ((y.frame ≡ Dtr0 location) × (z.frame ≡ AskDtr1 unit))
     by next older is (inl asks) =
         let same : y ≡ next = cc in inl (ap (λ (e : Exchange). e.frame) same ∙ asks.frame_is)
-    by next older is (inr (sets, (third, before, older_is, asks))) =
+    by next older is (inr (sets, (third, fourth, before, older_is, asks, first))) =
         let same : y ≡ next = cc in
         let behind : z ≡ third = cc in
         inr (
@@ -101,6 +101,9 @@ enable_or_bank to unit e = cc
 
 set_or_ask : (byte unit : ℕ) → Dtr1 byte ≡ AskDtr1 unit → ⊥
 set_or_ask byte unit e = cc
+
+set_or_bank : (byte unit : ℕ) → Dtr0 byte ≡ AskDtr1 unit → ⊥
+set_or_bank byte unit e = cc
 
 write_or_end : (byte unit : ℕ) → Write byte ≡ AskDtr1 unit → ⊥
 write_or_end byte unit e = cc
@@ -188,6 +191,12 @@ not_with_the_bank_not_asked legal = elim (next_is legal.1.unit legal.1.location 
 pub not_enabled_between : Legal empty enabled_between → ⊥
 not_enabled_between legal = elim (next_is legal.1.unit legal.1.location _ _ _ _ legal.1.selected) [
   | inl asks ↦ enable_or_bank 5 legal.1.unit asks
+  | inr sets ↦ cc
+]
+
+pub not_set_between : Legal empty set_between → ⊥
+not_set_between legal = elim (fourth_is legal.1.unit legal.1.location _ _ _ _ _ legal.1.selected) [
+  | inl asks ↦ set_or_bank 5 legal.1.unit asks
   | inr sets ↦ cc
 ]
 

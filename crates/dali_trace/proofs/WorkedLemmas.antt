@@ -18,7 +18,7 @@ use Rattle.dali_trace.specs.Legal.{Serves, MayPut, MaySend, MayFollow, Legal}
 use Rattle.dali_trace.specs.Worked.{select_at, read_at, enable_twice, write_at, reads_of, write_all, first_order, empty}
 use Rattle.dali_trace.specs.Worked.{taken, begun, measured, opened, unlocked, all_written, locked, lock_read}
 use Rattle.dali_trace.specs.Worked.{all_read_back, ended, said, first_carried_out, first_elsewhere, busy_while_at_work}
-use Rattle.dali_trace.specs.Worked.{number_used_again, one_of_one, full, written_on}
+use Rattle.dali_trace.specs.Worked.{number_used_again, one_of_one, full, written_on, jumped_on}
 
 -- a unit that is served is so after one frame more
 pub next : (past : List Happening) (frame : Frame) (answer : Option ℕ) (stands : Standing) (unit : ℕ)
@@ -179,6 +179,20 @@ written_on_legal = (
     is_named = refl;
     may = inl refl;
     selected = moved_by 5 3 (sent_of unlocked);
+  },
+)
+
+-- and of four to another location
+pub jumped_on_legal : Legal empty jumped_on
+jumped_on_legal = (
+  (((unlocked_legal, (5, refl)), refl), refl),
+  record {
+    unit = 5;
+    location = 5;
+    serves = refl;
+    is_named = refl;
+    may = inl refl;
+    selected = moved_by 5 5 (sent_of (Sent (Dtr0 5) None ∷ unlocked));
   },
 )
 

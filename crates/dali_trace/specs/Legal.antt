@@ -40,8 +40,8 @@ MayPut (standings.Opened order) location byte =
 MayPut (standings.Left unit) location byte = (location ≡ 0x02) × (byte ≡ 0xFF)
 MayPut other location byte = ⊥
 
--- a write is guarded: just before it the named unit was asked for both registers, with at most DTR0 set between, and
--- told bank 1 and the location
+-- a write is guarded: just before it the named unit told bank 1 and then the location, with nothing between the two
+-- questions or in the four frames that select the location
 pub record IsGuardedWrite (past : List Happening) (stands : Standing) (byte : ℕ) : Type 0 where
   pub unit : ℕ
   pub location : ℕ

@@ -151,6 +151,18 @@ moved_on = Sent (AskDtr0 5) (Some 3) ∷ Sent (AskDtr1 5) (Some 1) ∷ unlocked
 abbrev pub written_on : List Happening
 written_on = Sent (Write 0x03) (Some 0x03) ∷ moved_on
 
+-- the third update written where DTR0 was set before both were asked back
+abbrev pub jumped_on : List Happening
+jumped_on =
+    Sent (Write 0xCE) (Some 0xCE) ∷ Sent (AskDtr0 5) (Some 5) ∷ Sent (AskDtr1 5) (Some 1)
+    ∷ Sent (Dtr0 5) None ∷ unlocked
+
+-- and where it was set between the two questions, while DTR1 wasn't set before them
+abbrev pub set_between : List Happening
+set_between =
+    Sent (Write 0xCE) (Some 0xCE) ∷ Sent (AskDtr0 5) (Some 5) ∷ Sent (Dtr0 5) None
+    ∷ Sent (AskDtr1 5) (Some 1) ∷ unlocked
+
 -- the unit enabled between the two questions: it may have lost its power before, and then have bank 0 selected
 abbrev pub enabled_between : List Happening
 enabled_between =

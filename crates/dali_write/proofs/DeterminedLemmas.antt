@@ -7,10 +7,10 @@ use Rattle.dali_write.specs.declared.request.Request.{Request}
 use Rattle.dali_write.specs.declared.request.Wish.{Wish}
 use Rattle.dali_write.specs.declared.request.Wish.TheVariants.{Nothing, Exactly, Anything}
 use Rattle.dali_write.specs.declared.access.Access.{Access}
-use Rattle.dali_write.specs.declared.access.Access.TheVariants.{ReadFrom, WriteTo, WriteOn}
 use Rattle.dali_write.specs.declared.ask.Ask.{Ask}
 use Rattle.dali_write.specs.declared.ask.Ask.TheVariants.{Send}
 use Rattle.dali_write.specs.Requests.{Meets, request, access_requests, read_answer}
+use Rattle.dali_write.proofs.StandingLemmas.{first_of}
 use Rattle.dali_write.specs.Plans.{Plan, Finish, Make, next_plan, plan_after}
 use Rattle.dali_write.specs.Tries.{Trying, Missed, Misses, bytes_of, AccessEnds, AccessesEnd, plan_requests, IsGoing}
 use Rattle.dali_write.specs.Tries.{Stands}
@@ -76,10 +76,7 @@ misses_is Anything (Some other) misses = absurd (misses refl)
 
 -- an access has a frame
 some_requests : (unit : ℕ) (access : Access) (misses : ℕ) → [] ≡ access_requests unit access misses → ⊥
-some_requests unit (ReadFrom location) misses none = cc
-some_requests unit (WriteTo location byte) misses none = cc
-some_requests unit (WriteOn before location byte) zero none = cc
-some_requests unit (WriteOn before location byte) (suc misses) none = cc
+some_requests unit access misses none = let some = (first_of unit access misses).is in cc
 
 -- The newest exchange was of the frame that was wanted, and it led from where the session stood.
 record Peeled (unit : ℕ) (plan : Plan) (told : List Exchange) (state : PlanState) : Type 0 where

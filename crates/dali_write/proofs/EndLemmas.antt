@@ -1,5 +1,5 @@
 -- Exchanges that end in the four that select a location, or in a checked read.
-use Rattle.std.proofs.Common.{true, false, ◌⊎◌, inl, inr, ◌≡◌, refl, sym, ap, subst, slice_get, ◌∙◌, ℕ, zero, suc, List, [], ◌∷◌, ◌++◌, Option, Some, None}
+use Rattle.std.proofs.Common.{◌⊎◌, inl, inr, ◌≡◌, refl, sym, ap, subst, slice_get, ◌∙◌, ℕ, zero, suc, List, [], ◌∷◌, ◌++◌, Option, Some, None}
 use Rattle.std.specs.Option.{option_to_list}
 use Rattle.dali_frame.specs.declared.forward.Frame.{Frame}
 use Rattle.dali_frame.specs.declared.forward.Frame.TheVariants.{Dtr0, Dtr1, AskDtr0, AskDtr1, Read}
@@ -12,7 +12,7 @@ use Rattle.dali_write.specs.Requests.{block, moved_on}
 use Rattle.dali_write.specs.Requests.{read_answer}
 use Rattle.dali_write.specs.Tries.{bytes_of}
 use Rattle.dali_write.specs.Blocks.{Tells}
-use Rattle.dali_write.proofs.ShapeLemmas.{Got, asked_moved, asked_set}
+use Rattle.dali_write.proofs.ShapeLemmas.{Got, questioned, selected}
 use Rattle.dali_write.proofs.BlockShapeLemmas.{AllReads, WasBlock}
 use Rattle.dali_write.proofs.BlockBytesLemmas.{ToldBlock, told_block}
 
@@ -25,17 +25,17 @@ pub selects_by : (unit location : ℕ) (one three : Option ℕ) (older : List Ex
     → Selects unit location (exchange (AskDtr0 unit) (Some location) ∷ exchange (Dtr0 location) three
     ∷ exchange (AskDtr1 unit) (Some 1) ∷ exchange (Dtr1 1) one ∷ older)
 selects_by unit location one three older = (
-  _ ∷ _ ∷ _ ∷ [],
-  exchange (Dtr1 1) one ∷ older,
+  _ ∷ _ ∷ _ ∷ _ ∷ [],
+  older,
   refl,
-  (false, (Exactly location, refl, (Nothing, tt, (Exactly 1, refl, refl)))),
+  inr (Exactly location, refl, (Nothing, tt, (Exactly 1, refl, (Nothing, tt, refl)))),
 )
 
 -- two that do
 pub moved_by : (unit location : ℕ) (older : List Exchange)
     → Selects unit location (exchange (AskDtr0 unit) (Some location) ∷ exchange (AskDtr1 unit) (Some 1) ∷ older)
 moved_by unit location older =
-    (_ ∷ _ ∷ [], older, refl, (true, (Exactly location, refl, (Exactly 1, refl, refl))))
+    (_ ∷ _ ∷ [], older, refl, inl (Exactly location, refl, (Exactly 1, refl, refl)))
 
 -- seven that are a checked read
 pub reads_by : (unit location byte : ℕ) (one three : Option ℕ) (older : List Exchange) → EndsInRead unit location byte
@@ -67,7 +67,8 @@ reads_by unit location byte one three older = (
   },
 )
 
--- and the other way round: the newest asks DTR0, and the next one DTR1 or sets DTR0 behind one that asks DTR1
+-- and the other way round: the newest asks DTR0, and the next one asks DTR1, or sets DTR0 behind one that asks DTR1,
+-- which comes behind one that sets it
 pub record EndsSelecting (unit location : ℕ) (told : List Exchange) : Type 0 where
   pub x : Exchange
   pub next : Exchange
@@ -75,13 +76,13 @@ pub record EndsSelecting (unit location : ℕ) (told : List Exchange) : Type 0 w
   pub is : told ≡ x ∷ next ∷ older
   pub got : Got x (AskDtr0 unit) (Exactly location)
   pub asks : Got next (AskDtr1 unit) (Exactly 1)
-      ⊎ (Got next (Dtr0 location) Nothing × ((y : Exchange) × (before : List Exchange) × (older ≡ y ∷ before)
-      × Got y (AskDtr1 unit) (Exactly 1)))
+      ⊎ (Got next (Dtr0 location) Nothing × ((y z : Exchange) × (before : List Exchange) × (older ≡ y ∷ z ∷ before)
+      × Got y (AskDtr1 unit) (Exactly 1) × Got z (Dtr1 1) Nothing))
 
 pub ends_selecting : (unit location : ℕ) (told : List Exchange) → Selects unit location told
     → EndsSelecting unit location told
-ends_selecting unit location told (newer, older, parts, (true, try)) =
-    let s = asked_moved unit location newer try in
+ends_selecting unit location told (newer, older, parts, inl try) =
+    let s = questioned unit location newer try in
     record {
       x = s.x2;
       next = s.x1;
@@ -90,16 +91,27 @@ ends_selecting unit location told (newer, older, parts, (true, try)) =
       got = s.got2;
       asks = inl s.got1;
     }
-ends_selecting unit location told (newer, older, parts, (false, try)) =
-    let s = asked_set unit location newer try in
+ends_selecting unit location told (newer, older, parts, inr try) =
+    let s = selected unit location newer try in
     record {
-      x = s.x3;
-      next = s.x2;
-      older = s.x1 ∷ older;
+      x = s.x4;
+      next = s.x3;
+      older = s.x2 ∷ s.x1 ∷ older;
       is = parts ∙ ap (λ (newer : List Exchange). newer ++ older) s.is;
-      got = s.got3;
-      asks = inr (s.got2, (s.x1, older, refl, s.got1));
+      got = s.got4;
+      asks = inr (s.got3, (s.x2, s.x1, older, refl, s.got2, s.got1));
     }
+
+-- so the second one asks DTR1, or the fourth one sets it
+pub fourth_is : (unit location : ℕ) (x y z w : Exchange) (told : List Exchange)
+    → Selects unit location (x ∷ y ∷ z ∷ w ∷ told) → (y.frame ≡ AskDtr1 unit) ⊎ (w.frame ≡ Dtr1 1)
+fourth_is unit location x y z w told selects =
+    let ends = ends_selecting unit location (x ∷ y ∷ z ∷ w ∷ told) selects in
+    let is = ends.is in elim ends.asks [
+      | inl asks ↦ let same : y ≡ ends.next = cc in inl (ap (λ (e : Exchange). e.frame) same ∙ asks.frame_is)
+      | inr (sets, (third, fourth, before, older_is, asks, first)) ↦
+          let same : w ≡ fourth = cc in inr (ap (λ (e : Exchange). e.frame) same ∙ first.frame_is)
+    ]
 
 -- the three newest exchanges of a read that told a byte
 pub record EndsReading (unit : ℕ) (told : List Exchange) : Type 0 where

@@ -38,7 +38,7 @@ use Rattle.std.proofs.lemmas.Bool.{ltb-true}
 use Rattle.dali_write.specs.declared.block.Block.{Block}
 
 -- no plan that gives up ends Done
-never_done : (unit : ℕ) (outcomes : List (Option (List ℕ))) (told : List Exchange)
+pub never_done : (unit : ℕ) (outcomes : List (Option (List ℕ))) (told : List Exchange)
     → Walk unit give_up outcomes told (Finish Done) → ⊥
 never_done unit [] told walk = let differs = walk.1 in cc
 never_done unit (o ∷ []) told walk = let differs = walk.4.1 in cc

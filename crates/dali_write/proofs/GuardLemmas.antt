@@ -1,53 +1,44 @@
 -- The frames that a session wants are guarded.
 use Rattle.std.proofs.Common.{zero, suc, ◌≡◌, refl, ap, ◌∙◌, inl, inr, ℕ, List, [], ◌∷◌, ◌++◌}
-use Rattle.std.proofs.Common.{append_assoc, Option, Some, Bool, true, false, ◌==◌, arith}
+use Rattle.std.proofs.Common.{append_assoc, append-nil, subst, sym, Option, Bool, true, false, ◌==◌, arith}
 use Rattle.dali_bus.specs.Hears.{up}
-use Rattle.std.specs.Prelude.{⊤, slice_get}
+use Rattle.std.specs.Prelude.{⊤}
 use Rattle.dali_frame.specs.declared.forward.Frame.{Frame}
 use Rattle.dali_frame.specs.declared.forward.Frame.TheVariants.{Dtr0, Dtr1, Dtr2, Write, WriteSilent, Enable, AskDtr0}
 use Rattle.dali_frame.specs.declared.forward.Frame.TheVariants.{AskDtr1, AskDtr2, Read, Other}
 use Rattle.dali_write.specs.Exchanges.{Exchange}
 use Rattle.dali_write.specs.declared.request.Request.{Request}
-use Rattle.dali_write.specs.declared.request.Wish.{Wish}
-use Rattle.dali_write.specs.declared.request.Wish.TheVariants.{Exactly}
+use Rattle.dali_write.specs.declared.request.Wish.TheVariants.{Exactly, Nothing}
 use Rattle.dali_write.specs.declared.access.Access.TheVariants.{ReadFrom, WriteTo, WriteOn}
 use Rattle.dali_write.specs.declared.ask.Ask.TheVariants.{Send}
 use Rattle.dali_write.specs.declared.ask.Verdict.{Verdict}
 use Rattle.dali_write.specs.declared.ask.Verdict.TheVariants.{Doubt, DoubtOpen, Closed, NotClosed}
 use Rattle.dali_write.specs.declared.block.Block.{Block}
-use Rattle.dali_write.specs.Requests.{request, asked_requests, block_requests, write_requests}
+use Rattle.dali_write.specs.Requests.{request, questions, select_requests, block_requests, write_requests}
 use Rattle.dali_write.specs.Plans.{Plan, Finish, Make, next_plan, plan_after, close, give_up, read_back}
 use Rattle.dali_write.specs.Plans.{write_on, unlock}
 use Rattle.dali_write.specs.Tries.{Trying, Wants, plan_requests}
 use Rattle.dali_write.proofs.AskLemmas.{shown_ask, ask_shown}
 use Rattle.dali_write.specs.Touches.{Has, writes_of}
 use Rattle.dali_write.specs.Guards.{IsGuarded}
-use Rattle.dali_write.proofs.ShapeLemmas.{trying_length, none_left}
+use Rattle.dali_write.proofs.ShapeLemmas.{AllOf, asked_requests, front_or_last, none_left}
+use Rattle.dali_write.proofs.BlockShapeLemmas.{Parts, in_parts}
 use Rattle.dali_write.proofs.AskedLemmas.{IsCalm, block_calm, next_asked}
 use Rattle.dali_write.proofs.PlanLemmas.{either_all, if_all}
 use Rattle.dali_write.specs.declared.pace.Pace.{Pace}
 use Rattle.dali_write.specs.declared.pace.Pace.TheVariants.{Checked, Short}
 use Rattle.dali_write.specs.Plans.{rows_of, most_of, read_backs, read_all_back, write_next}
 use Rattle.dali_write.specs.Requests.{put_requests}
+use Rattle.dali_write.specs.Worlds.{Selects}
 use Rattle.std.specs.Str.{bytes_eq}
 use Rattle.dali_write.specs.Plans.{most_once, pieces_of, expect_all, read_again}
 use Rattle.std.proofs.Common.{nat_lt, length}
 
--- the request at a number
-abbrev pub request_at : ℕ → List Request → Option Request
-request_at number requests = slice_get requests number
-
 -- each frame of a try of these requests is guarded when it is next
-abbrev GuardedRequests : List (ℕ × ℕ) → ℕ → List Request → Type 0
+abbrev pub GuardedRequests : List (ℕ × ℕ) → ℕ → List Request → Type 0
 GuardedRequests writes unit requests =
     (tried : List Exchange) (next : Request) (left : List Request) → Trying requests tried (next ∷ left)
     → IsGuarded writes unit tried next.frame
-
--- the next request is this one
-guarded_as : (writes : List (ℕ × ℕ)) (unit : ℕ) (tried : List Exchange) (next : Request) (frame : Frame) (wish : Wish)
-    → Some next ≡ Some (request frame wish)
-    → IsGuarded writes unit tried frame → IsGuarded writes unit tried next.frame
-guarded_as writes unit tried next frame wish is guarded = grind arith
 
 -- the frames of a read
 read_guarded : (writes : List (ℕ × ℕ)) (unit : ℕ) (block : Block)
@@ -55,68 +46,52 @@ read_guarded : (writes : List (ℕ × ℕ)) (unit : ℕ) (block : Block)
 read_guarded writes unit block tried next left try =
     (next_asked (IsCalm unit) (block_requests unit block) tried next left (block_calm unit block) try).1 writes tried
 
--- the last three of six requests that were sent are the asking ones
-pub three_of : (unit location byte : ℕ) (l1 l2 l3 l4 l5 l6 next : Request) (left : List Request)
-    → l1 ∷ l2 ∷ l3 ∷ l4 ∷ l5 ∷ l6 ∷ next ∷ left ≡ write_requests unit location byte
-    → l4 ∷ l5 ∷ l6 ∷ [] ≡ asked_requests false unit location
-three_of unit location byte l1 l2 l3 l4 l5 l6 next left is = grind arith
+-- a try whose last frame writes, where those before it are guarded and make sure of the location
+last_guarded : (writes : List (ℕ × ℕ)) (unit location byte : ℕ) (front : List Request) → Has writes location byte
+    → AllOf (λ (r : Request). (told : List Exchange) → IsGuarded writes unit told r.frame) front
+    → ((tried : List Exchange) → Trying front tried [] → Selects unit location tried)
+    → GuardedRequests writes unit (front ++ request (Write byte) (Exactly byte) ∷ [])
+last_guarded writes unit location byte front has all selects tried next left try =
+    elim (front_or_last (λ (r : Request). (told : List Exchange) → IsGuarded writes unit told r.frame) front
+    (request (Write byte) (Exactly byte)) tried next left all try) [
+      | inl guarded ↦ guarded tried
+      | inr (is, sent) ↦ subst (λ (r : Request). IsGuarded writes unit tried r.frame) (sym is)
+          (location, has, selects tried sent)
+    ]
 
-first_three : (unit location byte : ℕ) (l1 l2 l3 next : Request) (left : List Request)
-    → l1 ∷ l2 ∷ l3 ∷ next ∷ left ≡ put_requests false unit location byte
-    → l1 ∷ l2 ∷ l3 ∷ [] ≡ asked_requests false unit location
-first_three unit location byte l1 l2 l3 next left is = grind arith
+-- the frames before the write of a checked write, of which the last four select its location
+abbrev pub enabled_requests : ℕ → ℕ → List Request
+enabled_requests unit location =
+    request (Enable unit) Nothing ∷ request (Enable unit) Nothing ∷ select_requests unit location
 
-first_two : (unit location byte : ℕ) (l1 l2 next : Request) (left : List Request)
-    → l1 ∷ l2 ∷ next ∷ left ≡ put_requests true unit location byte
-    → l1 ∷ l2 ∷ [] ≡ asked_requests true unit location
-first_two unit location byte l1 l2 next left is = grind arith
+pub enabled_parts : (unit location : ℕ) (tried : List Exchange) → Trying (enabled_requests unit location) tried []
+    → Parts (request (Enable unit) Nothing ∷ request (Enable unit) Nothing ∷ []) (select_requests unit location)
+    tried []
+enabled_parts unit location tried try =
+    in_parts (request (Enable unit) Nothing ∷ request (Enable unit) Nothing ∷ []) (select_requests unit location) tried
+    [] try (omega arith)
 
--- the frames of a checked write
 write_guarded : (writes : List (ℕ × ℕ)) (unit location byte : ℕ) → Has writes location byte
     → GuardedRequests writes unit (write_requests unit location byte)
-write_guarded writes unit location byte has [] next left try = grind (arith, guarded_as)
-write_guarded writes unit location byte has (x1 ∷ []) next left try = grind (arith, guarded_as)
-write_guarded writes unit location byte has (x2 ∷ x1 ∷ []) next left try = grind (arith, guarded_as)
-write_guarded writes unit location byte has (x3 ∷ x2 ∷ x1 ∷ []) next left try = grind (arith, guarded_as)
-write_guarded writes unit location byte has (x4 ∷ x3 ∷ x2 ∷ x1 ∷ []) next left try = grind (arith, guarded_as)
-write_guarded writes unit location byte has (x5 ∷ x4 ∷ x3 ∷ x2 ∷ x1 ∷ []) next left try = grind (arith, guarded_as)
-write_guarded writes unit location byte has (x6 ∷ x5 ∷ x4 ∷ x3 ∷ x2 ∷ x1 ∷ []) next left try =
-    let e = try.2.2.2.2.2.2 in
-    let three : Trying (asked_requests false unit location) (x6 ∷ x5 ∷ x4 ∷ []) [] = (
-      try.0,
-      try.1,
-      (try.2.0, try.2.1, (try.2.2.0, try.2.2.1, three_of unit location byte _ _ _ _ _ _ next left e)),
-    ) in
-    guarded_as writes unit (x6 ∷ x5 ∷ x4 ∷ x3 ∷ x2 ∷ x1 ∷ []) next (Write byte) (Exactly byte) (ap (request_at 6) e)
-    (location, has, (x6 ∷ x5 ∷ x4 ∷ [], x3 ∷ x2 ∷ x1 ∷ [], refl, (false, three)))
-write_guarded writes unit location byte has (x7 ∷ x6 ∷ x5 ∷ x4 ∷ x3 ∷ x2 ∷ x1 ∷ rest) next left try =
-    grind (arith, trying_length)
+write_guarded writes unit location byte has =
+    let enables : (told : List Exchange) → IsGuarded writes unit told (Enable unit) =
+    λ told. (refl, (location, byte, has)) in
+    last_guarded writes unit location byte (enabled_requests unit location) has
+    (enables, (enables, (λ told. tt, (λ told. refl, (λ told. tt, (λ told. refl, tt))))))
+    (λ tried try. let p = enabled_parts unit location tried try in (p.newer, p.older, p.is, inr p.newer_is))
 
 -- the frames of a write at a unit that is enabled
 put_guarded : (writes : List (ℕ × ℕ)) (moved : Bool) (unit location byte : ℕ) → Has writes location byte
     → GuardedRequests writes unit (put_requests moved unit location byte)
-put_guarded writes true unit location byte has [] next left try = grind (arith, guarded_as)
-put_guarded writes true unit location byte has (x1 ∷ []) next left try = grind (arith, guarded_as)
-put_guarded writes true unit location byte has (x2 ∷ x1 ∷ []) next left try =
-    let e = try.2.2 in
-    let two : Trying (asked_requests true unit location) (x2 ∷ x1 ∷ []) [] =
-    (try.0, try.1, (try.2.0, try.2.1, first_two unit location byte _ _ next left e)) in
-    guarded_as writes unit (x2 ∷ x1 ∷ []) next (Write byte) (Exactly byte) (ap (request_at 2) e)
-    (location, has, (x2 ∷ x1 ∷ [], [], refl, (true, two)))
-put_guarded writes true unit location byte has (x3 ∷ x2 ∷ x1 ∷ rest) next left try = grind (arith, trying_length)
-put_guarded writes false unit location byte has [] next left try = grind (arith, guarded_as)
-put_guarded writes false unit location byte has (x1 ∷ []) next left try = grind (arith, guarded_as)
-put_guarded writes false unit location byte has (x2 ∷ x1 ∷ []) next left try = grind (arith, guarded_as)
-put_guarded writes false unit location byte has (x3 ∷ x2 ∷ x1 ∷ []) next left try =
-    let e = try.2.2.2 in
-    let three : Trying (asked_requests false unit location) (x3 ∷ x2 ∷ x1 ∷ []) [] = (
-      try.0,
-      try.1,
-      (try.2.0, try.2.1, (try.2.2.0, try.2.2.1, first_three unit location byte _ _ _ next left e)),
-    ) in
-    guarded_as writes unit (x3 ∷ x2 ∷ x1 ∷ []) next (Write byte) (Exactly byte) (ap (request_at 3) e)
-    (location, has, (x3 ∷ x2 ∷ x1 ∷ [], [], refl, (false, three)))
-put_guarded writes false unit location byte has (x4 ∷ x3 ∷ x2 ∷ x1 ∷ rest) next left try = grind (arith, trying_length)
+put_guarded writes true unit location byte has =
+    last_guarded writes unit location byte (questions unit location) has (λ told. refl, (λ told. refl, tt))
+    (λ tried try. (tried, [], sym (append-nil tried), inl try))
+put_guarded writes false unit location byte has =
+    last_guarded writes unit location byte (asked_requests false unit location) has
+    (λ told. tt, (λ told. refl, (λ told. refl, tt)))
+    (λ tried try.
+    let p = in_parts (request (Dtr0 location) Nothing ∷ []) (questions unit location) tried [] try (omega arith) in
+    (p.newer, p.older, p.is, inl p.newer_is))
 
 -- each write of the plan is one of these
 abbrev pub OnlyWrites : List (ℕ × ℕ) → Plan → Type 0
@@ -229,7 +204,7 @@ read_back_writes writes (row ∷ rows) has =
     (λ read. if_all (OnlyWrites writes) (bytes_eq read row.1) (read_back rows) again rest otherwise)
 
 -- the updates that are left are among the writes
-write_on_writes : (writes : List (ℕ × ℕ)) (pace : Pace) (updates : List (ℕ × ℕ)) (before : ℕ) (left : List (ℕ × ℕ))
+pub write_on_writes : (writes : List (ℕ × ℕ)) (pace : Pace) (updates : List (ℕ × ℕ)) (before : ℕ) (left : List (ℕ × ℕ))
     → Has writes 2 0xFF
     → ((location byte : ℕ) → Has left location byte → Has writes location byte)
     → OnlyWrites writes (write_on pace updates before left)

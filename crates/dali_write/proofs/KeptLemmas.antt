@@ -176,7 +176,10 @@ safe_put : (keep : BankState → Type 0) (moved : Bool) (at location byte : ℕ)
     → Keeps keep (WriteTo location byte) → keep unit.bank1
     → Safe keep (HasPut location byte) (put_requests moved at location byte) unit
 safe_put keep true at location byte unit keeps kept = safe_moved keep at location byte keeps unit kept
-safe_put keep false at location byte unit keeps kept = safe_ask1 keep at location byte keeps unit kept
+safe_put keep false at location byte unit keeps kept =
+    quiet_first keep (HasPut location byte) (request (Dtr0 location) Nothing ∷ [])
+    (put_requests true at location byte) unit
+    (tt, tt) kept (λ new still. safe_moved keep at location byte keeps new still)
 
 safe_full : (keep : BankState → Type 0) (at location byte : ℕ) (unit : UnitState)
     → Keeps keep (WriteTo location byte) → keep unit.bank1
@@ -184,8 +187,9 @@ safe_full : (keep : BankState → Type 0) (at location byte : ℕ) (unit : UnitS
 safe_full keep at location byte unit keeps kept =
     quiet_first keep (HasPut location byte)
     (request (Enable at) Nothing ∷ request (Enable at) Nothing ∷ request (Dtr1 1) Nothing ∷ [])
-    (put_requests false at location byte) unit (tt, (tt, (tt, tt))) kept
-    (λ new still. safe_put keep false at location byte new keeps still)
+    (request (AskDtr1 at) (Exactly 1) ∷ request (Dtr0 location) Nothing ∷ request (AskDtr0 at) (Exactly location)
+    ∷ request (Write byte) (Exactly byte) ∷ []) unit (tt, (tt, (tt, tt))) kept
+    (λ new still. safe_ask1 keep at location byte keeps new still)
 
 safe_access : (keep : BankState → Type 0) (at : ℕ) (access : Access) (misses : ℕ) (unit : UnitState)
     → Keeps keep access → keep unit.bank1 → Safe keep (Ends access) (access_requests at access misses) unit

@@ -4,7 +4,7 @@ use Rattle.std.proofs.Common.{Option, Some, None, IsTrue, arith}
 use Rattle.std.specs.Prelude.{◌==◌, if◌then◌else◌, ⊤}
 use Rattle.std.proofs.lemmas.Bool.{eq-eqb, eqb-true}
 use Rattle.std.proofs.Math.Nat.{pos_of_ne-zero}
-use Rattle.dali_frame.specs.declared.forward.Frame.TheVariants.{Dtr1, Enable, AskDtr0, AskDtr1, Read}
+use Rattle.dali_frame.specs.declared.forward.Frame.TheVariants.{Enable, Write, AskDtr0, AskDtr1, Read}
 use Rattle.dali_bus.specs.Hears.{up}
 use Rattle.dali_write.specs.Exchanges.{Exchange}
 use Rattle.dali_gear.specs.UnitState.{UnitState, after_frame, after_enable, answer_to, is_writable}
@@ -15,7 +15,7 @@ use Rattle.dali_write.specs.declared.request.Wish.TheVariants.{Nothing, Exactly,
 use Rattle.dali_write.specs.declared.access.Access.{Access}
 use Rattle.dali_write.specs.declared.access.Access.TheVariants.{ReadFrom, WriteTo, WriteOn}
 use Rattle.dali_write.specs.declared.block.Block.{Block}
-use Rattle.dali_write.specs.Requests.{Meets, request, moved_on, reads, block_requests, write_requests}
+use Rattle.dali_write.specs.Requests.{Meets, request, select_requests, moved_on, reads, block_requests, write_requests}
 use Rattle.dali_write.specs.Requests.{access_requests}
 use Rattle.dali_write.specs.Tries.{Trying, Missed}
 use Rattle.dali_write.specs.Losses.{is_loss, IsAlone, HasFrom, StandsBehind, CanDo}
@@ -38,7 +38,7 @@ AllFor at requests = Asks (IsFor at) requests
 
 put_for : (at : ℕ) (moved : Bool) (location byte : ℕ) → AllFor at (put_requests moved at location byte)
 put_for at true location byte = (refl, (refl, (tt, tt)))
-put_for at false location byte = (refl, (tt, (refl, (tt, tt))))
+put_for at false location byte = (tt, (refl, (refl, (tt, tt))))
 
 pub all_for : (at : ℕ) (access : Access) (misses : ℕ) → AllFor at (access_requests at access misses)
 all_for at (WriteOn before location byte) zero = put_for at (up before == location) location byte
@@ -86,7 +86,7 @@ suits_enabled at false location byte unit is on bank place can = grind (arith, e
 -- where it is enabled
 suits_selecting : (at location byte : ℕ) (unit : UnitState) → unit.address ≡ at → unit.enabled ≡ true
     → IsTrue (is_writable unit.bank1 location)
-    → Suits (request (Dtr1 1) Nothing ∷ put_requests false at location byte) unit
+    → Suits (select_requests at location ++ request (Write byte) (Exactly byte) ∷ []) unit
 suits_selecting at location byte unit is on can = grind (arith, eq-eqb)
 
 one_enable : (at : ℕ) (unit : UnitState) → unit.address ≡ at → after_frame false unit (Enable at) ≡ after_enable unit
@@ -110,7 +110,7 @@ suits_write at location byte unit is can = (
   tt,
   (
     tt,
-    subst (λ (u : UnitState). Suits (request (Dtr1 1) Nothing ∷ put_requests false at location byte) u)
+    subst (λ (u : UnitState). Suits (select_requests at location ++ request (Write byte) (Exactly byte) ∷ []) u)
         (sym (enabled_by_two at unit is))
         (suits_selecting at location byte (record unit { enabled = true }) is refl can),
   ),

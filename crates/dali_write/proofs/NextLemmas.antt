@@ -14,8 +14,7 @@ use Rattle.dali_write.specs.declared.ask.Ask.TheVariants.{Send, Ended}
 use Rattle.dali_write.specs.declared.ask.Verdict.TheVariants.{Closed, NotClosed}
 use Rattle.dali_write.specs.declared.ask.Verdict.{Verdict}
 use Rattle.dali_write.specs.declared.access.Access.{Access}
-use Rattle.dali_write.specs.declared.access.Access.TheVariants.{ReadFrom, WriteTo, WriteOn}
-use Rattle.dali_write.specs.Requests.{Meets, access_requests}
+use Rattle.dali_write.specs.Requests.{Meets}
 use Rattle.dali_write.proofs.DeterminedLemmas.{wants_one}
 use Rattle.dali_write.specs.declared.block.Block.{Block}
 use Rattle.dali_write.specs.Plans.{Plan, Finish, Make, read_length, close, unlock, read_block}
@@ -23,7 +22,7 @@ use Rattle.dali_write.specs.Tries.{most_tries, plan_requests, Stands, Wants}
 use Rattle.dali_write.proofs.AskLemmas.{shown_ask, ask_shown}
 use Rattle.dali_write.specs.Counts.{fresh_limit, opened_limit, closing_limit}
 use Rattle.dali_write.proofs.ShapeLemmas.{none_left}
-use Rattle.dali_write.proofs.StandingLemmas.{stands_at_first, stands_on, stands_again, stands_done, stands_failed}
+use Rattle.dali_write.proofs.StandingLemmas.{first_of, stands_at_first, stands_on, stands_again, stands_done, stands_failed}
 use Rattle.dali_write.proofs.BlockShapeLemmas.{block_frames_are}
 use Rattle.dali_write.proofs.CountLemmas.{stands_takes, block_takes, close_takes, unlock_takes, read_length_takes}
 use Rattle.dali_write.specs.declared.pace.Pace.{Pace}
@@ -152,42 +151,20 @@ block_fewer unit block told frame wants =
 -- no session with an access ends before its first frame
 sends_first : (unit : ℕ) (access : Access) (after : Option (List ℕ) → Plan)
     → (frame : Frame) × Wants unit (Make access after) [] (Send frame)
-sends_first unit (ReadFrom block) after = (
-  _,
-  record {
-    outcomes = [];
-    now = Make (ReadFrom block) after;
-    misses = 0;
-    left = access_requests unit (ReadFrom block) 0;
-    bytes = [];
-    stands = stands_at_first unit (Make (ReadFrom block) after);
-    ask_is = refl;
-  },
-)
-sends_first unit (WriteTo location byte) after = (
-  _,
-  record {
-    outcomes = [];
-    now = Make (WriteTo location byte) after;
-    misses = 0;
-    left = access_requests unit (WriteTo location byte) 0;
-    bytes = [];
-    stands = stands_at_first unit (Make (WriteTo location byte) after);
-    ask_is = refl;
-  },
-)
-sends_first unit (WriteOn before location byte) after = (
-  _,
-  record {
-    outcomes = [];
-    now = Make (WriteOn before location byte) after;
-    misses = 0;
-    left = access_requests unit (WriteOn before location byte) 0;
-    bytes = [];
-    stands = stands_at_first unit (Make (WriteOn before location byte) after);
-    ask_is = refl;
-  },
-)
+sends_first unit access after =
+    let f = first_of unit access 0 in
+    let plan = Make access after in (
+      f.first.frame,
+      record {
+        outcomes = [];
+        now = plan;
+        misses = 0;
+        left = f.first ∷ f.more;
+        bytes = [];
+        stands = subst (λ (l : List Request). Stands unit plan [] [] plan 0 l []) f.is (stands_at_first unit plan);
+        ask_is = refl;
+      },
+    )
 
 pub none_ended : (unit : ℕ) (access : Access) (after : Option (List ℕ) → Plan) (verdict : Verdict)
     → Wants unit (Make access after) [] (Ended verdict) → ⊥

@@ -1,21 +1,17 @@
 -- What one frame may change, and which frames of a session may be sent.
 use Rattle.std.proofs.Common.{◌≡◌, ◌⊎◌, refl, sym, ap, subst, ◌∙◌, inl, inr, ℕ, false}
-use Rattle.std.proofs.Common.{List, ◌∷◌, Option, Some, None, IsSome, is_some, Bool, true, arith}
+use Rattle.std.proofs.Common.{List, Option, Some, None, IsSome, is_some, Bool, true, arith}
 use Rattle.std.specs.Prelude.{◌≢◌}
 use Rattle.std.proofs.lemmas.Bool.{eqb-true}
 use Rattle.dali_frame.specs.declared.forward.Frame.{Frame}
-use Rattle.dali_frame.specs.declared.forward.Frame.TheVariants.{Dtr0, Dtr1, Dtr2, Write, WriteSilent, Enable, AskDtr0}
-use Rattle.dali_frame.specs.declared.forward.Frame.TheVariants.{AskDtr1, AskDtr2, Read, Other}
+use Rattle.dali_frame.specs.declared.forward.Frame.TheVariants.{Write, Enable}
 use Rattle.dali_bus.specs.World.{World, Gear, Memory, stored, byte_in}
 use Rattle.dali_bus.specs.Hears.{IsIndicator}
 use Rattle.dali_bus.specs.Power.{relocked, MayRelock}
 use Rattle.dali_bus.specs.Carry.{Carry, MayHear, Heard}
 use Rattle.dali_write.specs.Exchanges.{Exchange}
-use Rattle.dali_write.specs.declared.request.Request.{Request}
-use Rattle.dali_write.specs.Tries.{Trying}
 use Rattle.dali_write.specs.Worlds.{KeepsAt, Selects, OnlyEnabled, Written}
 use Rattle.dali_write.specs.Touches.{Has, OldOrNew, Touches}
-use Rattle.dali_write.specs.Guards.{IsGuarded}
 use Rattle.dali_write.proofs.GearLemmas.{end_steady, carry_stays, StaysAt, IsQuiet, same_byte, IsOff, memory_of}
 use Rattle.dali_write.proofs.PowerLemmas.{relock_then, keeps_then, stays_keeps}
 use Rattle.dali_write.proofs.TruthLemmas.{write_safe}
@@ -36,7 +32,7 @@ pub record Puts (writes : List (ℕ × ℕ)) (unit : ℕ) (first last : World) :
   pub others : (address : ℕ) → address ≢ unit → StaysAt first last address
   pub here : NowOldOrNew writes (first unit) (last unit)
 
-kept_old : (writes : List (ℕ × ℕ)) (old new : Option Gear) → memory_of new ≡ memory_of old
+pub kept_old : (writes : List (ℕ × ℕ)) (old new : Option Gear) → memory_of new ≡ memory_of old
     → NowOldOrNew writes old new
 kept_old writes old new same = λ bank location. inl (same_byte old new same bank location)
 
@@ -52,7 +48,7 @@ stored_some : (memory : Memory) (location byte bank place : ℕ) → IsSome (mem
 stored_some memory location byte bank place there = grind (arith, eqb-true)
 
 -- where one of the writes was stored, each place is old or new
-written_new : (writes : List (ℕ × ℕ)) (old new : Option Gear) (location byte : ℕ) → Has writes location byte
+pub written_new : (writes : List (ℕ × ℕ)) (old new : Option Gear) (location byte : ℕ) → Has writes location byte
     → Written location byte (memory_of old) (memory_of new) → NowOldOrNew writes old new
 written_new writes None new location byte has is = absurd is
 written_new writes (Some old) None location byte has is = absurd is
@@ -165,13 +161,29 @@ write_off : (at : ℕ) (old : Gear) (byte : ℕ) (new : Gear) → old.enabled �
 write_off at old byte new off heard = grind (arith, end_steady)
 
 -- the same of the unit at an address, if there is one
-write_off_here : (at : ℕ) (old : Option Gear) (byte : ℕ) (new : Option Gear) → MayHear at old (Write byte) new
+pub write_off_here : (at : ℕ) (old : Option Gear) (byte : ℕ) (new : Option Gear) → MayHear at old (Write byte) new
     → IsOff old → IsOff new
 write_off_here at None byte None hears off = off
 write_off_here at (Some old) byte (Some new) (inl same) off = ap (λ (g : Gear). g.enabled) same ∙ off
 write_off_here at (Some old) byte (Some new) (inr heard) off = write_off at old byte new off heard
 write_off_here at None byte (Some new) hears off = absurd hears
 write_off_here at (Some old) byte None hears off = absurd hears
+
+-- a quiet frame puts nothing
+pub quiet_puts : (writes : List (ℕ × ℕ)) (unit : ℕ) (before : World) (frame : Frame) (given : Option ℕ) (last : World)
+    → ((address : ℕ) → IsQuiet address frame) → Carry before frame given last → Puts writes unit before last
+quiet_puts writes unit before frame given last quiet carry =
+    let stays : (address : ℕ) → StaysAt before last address =
+    λ address. carry_stays before frame given last address (quiet address) carry in
+    record {
+      others = λ address other. stays address;
+      here = kept_old writes (before unit) (last unit) (stays unit).memory;
+    }
+
+-- nor does one that enables this unit
+pub enable_puts : (writes : List (ℕ × ℕ)) (unit : ℕ) (before : World) (given : Option ℕ) (last : World)
+    → Carry before (Enable unit) given last → Puts writes unit before last
+enable_puts writes unit before given last carry = grind (arith, carry_stays, kept_old, enable_here)
 
 -- After these exchanges the frame may be sent: where no other unit is enabled, it touches only the places of the
 -- writes.
@@ -180,24 +192,7 @@ SafeNext loses writes unit tried frame =
     (first before last : World) (answer : Option ℕ) → OnlyEnabled unit before
     → Leads WorldStep loses tried first before → Carry before frame answer last → Puts writes unit before last
 
--- each frame of a try of these requests may be sent when it is next
-abbrev pub SafeRequests : (ℕ → Type 0) → List (ℕ × ℕ) → ℕ → List Request → Type 0
-SafeRequests loses writes unit requests =
-    (tried : List Exchange) (next : Request) (left : List Request) → Trying requests tried (next ∷ left)
-    → SafeNext loses writes unit tried next.frame
-
--- a quiet frame may always be sent
-quiet_safe : (loses : ℕ → Type 0) (writes : List (ℕ × ℕ)) (unit : ℕ) (tried : List Exchange) (frame : Frame)
-    → ((address : ℕ) → IsQuiet address frame) → SafeNext loses writes unit tried frame
-quiet_safe loses writes unit tried frame quiet first before last answer only run carry =
-    let stays : (address : ℕ) → StaysAt before last address =
-    λ address. carry_stays before frame answer last address (quiet address) carry in
-    record {
-      others = λ address other. stays address;
-      here = kept_old writes (before unit) (last unit) (stays unit).memory;
-    }
-
--- so may one that enables this unit
+-- one that enables this unit may always be sent
 pub enable_safe : (loses : ℕ → Type 0) (writes : List (ℕ × ℕ)) (unit : ℕ) (tried : List Exchange)
     → SafeNext loses writes unit tried (Enable unit)
 enable_safe loses writes unit tried first before last answer only run carry =
@@ -210,19 +205,3 @@ pub guarded_safe : (loses : ℕ → Type 0) (writes : List (ℕ × ℕ)) (unit l
     → SafeNext loses writes unit tried (Write byte)
 guarded_safe loses writes unit location byte tried has selects first before last answer only run carry =
     grind (arith, write_safe, write_off_here, kept_old, written_new)
-
--- what is guarded is safe
-pub guarded_is_safe : (loses : ℕ → Type 0) (writes : List (ℕ × ℕ)) (unit : ℕ) (tried : List Exchange) (frame : Frame)
-    → IsGuarded writes unit tried frame → SafeNext loses writes unit tried frame
-guarded_is_safe loses writes unit tried (Dtr0 byte) guarded = quiet_safe _ writes unit tried _ (λ address. tt)
-guarded_is_safe loses writes unit tried (Dtr1 byte) guarded = quiet_safe _ writes unit tried _ (λ address. tt)
-guarded_is_safe loses writes unit tried (Dtr2 byte) guarded = absurd guarded
-guarded_is_safe loses writes unit tried (Write byte) guarded =
-    guarded_safe _ writes unit guarded.0 byte tried guarded.1 guarded.2
-guarded_is_safe loses writes unit tried (WriteSilent byte) guarded = absurd guarded
-guarded_is_safe loses writes unit tried (Enable to) guarded = rw guarded.0 (enable_safe _ writes unit tried)
-guarded_is_safe loses writes unit tried (AskDtr0 to) guarded = quiet_safe _ writes unit tried _ (λ address. tt)
-guarded_is_safe loses writes unit tried (AskDtr1 to) guarded = quiet_safe _ writes unit tried _ (λ address. tt)
-guarded_is_safe loses writes unit tried (AskDtr2 to) guarded = absurd guarded
-guarded_is_safe loses writes unit tried (Read to) guarded = quiet_safe _ writes unit tried _ (λ address. tt)
-guarded_is_safe loses writes unit tried (Other word) guarded = absurd guarded

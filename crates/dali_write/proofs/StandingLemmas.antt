@@ -1,23 +1,39 @@
 -- How a session's standing goes on.
 use Rattle.std.proofs.Common.{◌≡◌, refl, sym, ap, subst, ◌∙◌, inl, inr, ℕ, zero, suc, ◌<◌, ◌≤◌, List, [], ◌∷◌, ◌++◌}
-use Rattle.std.proofs.Common.{append_assoc, Option, Some, None, arith}
+use Rattle.std.proofs.Common.{append_assoc, Option, Some, None, Bool, true, false, ◌==◌, arith}
 use Rattle.dali_frame.specs.declared.forward.Frame.{Frame}
 use Rattle.dali_write.specs.Exchanges.{Exchange}
 use Rattle.dali_write.specs.declared.request.Request.{Request}
 use Rattle.dali_write.specs.declared.request.Wish.{Wish}
+use Rattle.dali_write.specs.declared.access.Access.{Access}
 use Rattle.dali_write.specs.declared.access.Access.TheVariants.{ReadFrom, WriteTo, WriteOn}
-use Rattle.dali_write.specs.Requests.{Meets, request, read_answer}
+use Rattle.dali_write.specs.Requests.{Meets, request, put_requests, access_requests, read_answer}
 use Rattle.dali_write.specs.Plans.{Plan, Finish, Make, next_plan, plan_after}
 use Rattle.dali_write.specs.Tries.{most_tries, Trying, Misses, bytes_of, AccessEnds, AccessesEnd, plan_requests, IsGoing}
 use Rattle.dali_write.specs.Tries.{Stands}
 use Rattle.dali_write.proofs.ShapeLemmas.{none_left}
+use Rattle.dali_bus.specs.Hears.{up}
+
+-- an access has a first frame
+pub record HasFirst (requests : List Request) : Type 0 where
+  pub first : Request
+  pub more : List Request
+  pub is : requests ≡ first ∷ more
+
+put_first : (moved : Bool) (unit location byte : ℕ) → HasFirst (put_requests moved unit location byte)
+put_first true unit location byte = record { first = _; more = _; is = refl }
+put_first false unit location byte = record { first = _; more = _; is = refl }
+
+pub first_of : (unit : ℕ) (access : Access) (misses : ℕ) → HasFirst (access_requests unit access misses)
+first_of unit (ReadFrom block) misses = record { first = _; more = _; is = refl }
+first_of unit (WriteTo location byte) misses = record { first = _; more = _; is = refl }
+first_of unit (WriteOn before location byte) zero = put_first (up before == location) unit location byte
+first_of unit (WriteOn before location byte) (suc misses) = record { first = _; more = _; is = refl }
 
 pub goes_first : (unit : ℕ) (plan : Plan) (misses : ℕ) → IsGoing plan (plan_requests unit plan misses)
 goes_first unit (Finish verdict) misses = refl
-goes_first unit (Make (ReadFrom block) after) misses = refl
-goes_first unit (Make (WriteTo location byte) after) misses = refl
-goes_first unit (Make (WriteOn before location byte) after) zero = refl
-goes_first unit (Make (WriteOn before location byte) after) (suc misses) = refl
+goes_first unit (Make access after) misses =
+    subst (λ (l : List Request). IsGoing (Make access after) l) (sym (first_of unit access misses).is) refl
 
 -- at the beginning
 pub stands_at_first : (unit : ℕ) (plan : Plan) → Stands unit plan [] [] plan 0 (plan_requests unit plan 0) []

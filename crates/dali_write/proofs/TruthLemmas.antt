@@ -19,7 +19,7 @@ use Rattle.dali_write.specs.Worlds.{memory_at, Written}
 use Rattle.dali_write.proofs.GearLemmas.{asked1, asked0, carry_dtr1, carry_stays, IsQuiet, passing_keeps, end_steady}
 use Rattle.dali_write.proofs.GearLemmas.{dtr0_in, dtr1_in, IsOff, memory_of}
 use Rattle.dali_write.proofs.PowerLemmas.{drifts_have, drifts_keep, keeps_then, stays_keeps}
-use Rattle.dali_write.proofs.ShapeLemmas.{Got, selected, asked_moved, asked_set}
+use Rattle.dali_write.proofs.ShapeLemmas.{Got, selected, questioned}
 use Rattle.dali_write.specs.declared.request.Wish.TheVariants.{Exactly}
 use Rattle.dali_write.proofs.AskedLemmas.{Sent}
 use Rattle.dali_write.proofs.RunLemmas.{Leads, Drifts, Stays}
@@ -43,21 +43,21 @@ carried_any old new x frame f carry = subst (λ (g : Frame). Carry old g x.answe
 -- What a unit still has after some of the frames, as long as it keeps its power
 
 -- one that is enabled has the bank
-abbrev HasBank : Option Gear → Type 0
+abbrev pub HasBank : Option Gear → Type 0
 HasBank gear = is_open gear ≡ true → dtr1_in gear ≡ Some 1
 
 -- one that has the bank has the location
-abbrev HasPlace : ℕ → Option Gear → Type 0
+abbrev pub HasPlace : ℕ → Option Gear → Type 0
 HasPlace location gear = dtr1_in gear ≡ Some 1 → dtr0_in gear ≡ Some location
 
-off_bank : (gear : Option Gear) → is_open gear ≡ false → (dtr1_in gear ≡ Some 1 → ⊥) → HasBank gear
+pub off_bank : (gear : Option Gear) → is_open gear ≡ false → (dtr1_in gear ≡ Some 1 → ⊥) → HasBank gear
 off_bank gear off gone on = let never = off in cc
 
-off_place : (location : ℕ) (gear : Option Gear) → is_open gear ≡ false → (dtr1_in gear ≡ Some 1 → ⊥)
+pub off_place : (location : ℕ) (gear : Option Gear) → is_open gear ≡ false → (dtr1_in gear ≡ Some 1 → ⊥)
     → HasPlace location gear
 off_place location gear off gone bank = absurd (gone bank)
 
-was_on : (old new : World) (frame : Frame) (answer : Option ℕ) (unit : ℕ) → IsQuiet unit frame
+pub was_on : (old new : World) (frame : Frame) (answer : Option ℕ) (unit : ℕ) → IsQuiet unit frame
     → Carry old frame answer new → is_open (new unit) ≡ true → is_open (old unit) ≡ true
 was_on old new frame answer unit quiet carry on = grind (arith, is_open, carry_stays)
 
@@ -83,29 +83,6 @@ asked_first loses unit old new last x got carry drifts =
     let one = asked1 old unit 1 new (carried old new x (AskDtr1 unit) (Some 1) got.frame_is got.meets carry) in
     drifts_have HasBank off_bank unit new last drifts (λ on. one)
 
--- where both registers were asked back, the unit has selected the location if it is enabled
-pub asked_run : (loses : ℕ → Type 0) (unit location : ℕ) (tried : List Exchange) (first last : World)
-    → Leads WorldStep loses tried first last → Asked unit location tried
-    → HasBank (last unit) × HasPlace location (last unit)
-asked_run loses unit location tried first last run (true, try) =
-    let s = asked_moved unit location tried try in
-    let r2 = subst (λ (t : List Exchange). Leads WorldStep loses t first last) s.is run in
-    let r1 = r2.2 in
-    asked_last loses unit location r2.0 r2.1 last s.x2
-    (asked_first loses unit r1.0 r1.1 r2.0 s.x1 s.got1 r1.3 r1.4) s.got2 r2.3 r2.4
-asked_run loses unit location tried first last run (false, try) =
-    let s = asked_set unit location tried try in
-    let r3 = subst (λ (t : List Exchange). Leads WorldStep loses t first last) s.is run in
-    let r2 = r3.2 in
-    let r1 = r2.2 in
-    let bank1 = asked_first loses unit r1.0 r1.1 r2.0 s.x1 s.got1 r1.3 r1.4 in
-    let c2 = carried_any r2.0 r2.1 s.x2 (Dtr0 location) s.got2.frame_is r2.3 in
-    let bank2 : HasBank (r2.1 unit) = λ on.
-    carry_dtr1 r2.0 (Dtr0 location) s.x2.answer r2.1 tt c2 unit
-    ∙ bank1 (was_on r2.0 r2.1 (Dtr0 location) s.x2.answer unit tt c2 on) in
-    asked_last loses unit location r3.0 r3.1 last s.x3 (drifts_have HasBank off_bank unit r2.1 r3.0 r2.4 bank2) s.got3
-    r3.3 r3.4
-
 -- after the four frames the unit has selected the location
 pub selects_run : (loses : ℕ → Type 0) (unit location : ℕ) (tried : List Exchange) (first last : World)
     → Leads WorldStep loses tried first last → Trying (select_requests unit location) tried []
@@ -122,6 +99,19 @@ selects_run loses unit location tried first last run try =
     ∙ bank2 (was_on r3.0 r3.1 (Dtr0 location) s.x3.answer unit tt c3 on) in
     asked_last loses unit location r4.0 r4.1 last s.x4 (drifts_have HasBank off_bank unit r3.1 r4.0 r3.4 bank3) s.got4
     r4.3 r4.4
+
+-- where both registers were asked back, the unit has selected the location if it is enabled
+pub asked_run : (loses : ℕ → Type 0) (unit location : ℕ) (tried : List Exchange) (first last : World)
+    → Leads WorldStep loses tried first last → Asked unit location tried
+    → HasBank (last unit) × HasPlace location (last unit)
+asked_run loses unit location tried first last run (inl try) =
+    let s = questioned unit location tried try in
+    let r2 = subst (λ (t : List Exchange). Leads WorldStep loses t first last) s.is run in
+    let r1 = r2.2 in
+    asked_last loses unit location r2.0 r2.1 last s.x2
+    (asked_first loses unit r1.0 r1.1 r2.0 s.x1 s.got1 r1.3 r1.4) s.got2 r2.3 r2.4
+asked_run loses unit location tried first last run (inr try) =
+    selects_run loses unit location tried first last run try
 
 -- what an answered read tells of a unit that has bank 1 selected
 abbrev IsRead : Gear → ℕ → Gear → Type 0
@@ -165,7 +155,7 @@ off_write : (at : ℕ) (old : Gear) (byte : ℕ) (new : Gear) → old.enabled �
     → new.memory ≡ old.memory
 off_write at old byte new off heard = grind (arith, end_steady, passing_keeps)
 
-off_write_here : (at : ℕ) (old : Option Gear) (byte : ℕ) (new : Option Gear) → IsOff old
+pub off_write_here : (at : ℕ) (old : Option Gear) (byte : ℕ) (new : Option Gear) → IsOff old
     → MayHear at old (Write byte) new → memory_of new ≡ memory_of old
 off_write_here at None byte None off hears = refl
 off_write_here at (Some old) byte (Some new) off (inl same) = ap (λ (g : Gear). Some g.memory) same
@@ -182,23 +172,23 @@ stored_there : (old : Gear) (location byte : ℕ) (obeyed new : Gear) → old.dt
     → Written location byte (Some old.memory) (Some new.memory)
 stored_there old location byte obeyed new zero one stores ends = grind (arith, end_steady obeyed new ends)
 
-write_here : (at : ℕ) (old : Gear) (location byte : ℕ) (new : Gear) → old.dtr0 ≡ location → old.dtr1 ≡ 1
+pub write_here : (at : ℕ) (old : Gear) (location byte : ℕ) (new : Gear) → old.dtr0 ≡ location → old.dtr1 ≡ 1
     → (new ≡ old) ⊎ Heard at old (Write byte) new
     → (new.memory ≡ old.memory) ⊎ Written location byte (Some old.memory) (Some new.memory)
 write_here at old location byte new zero one (inl same) = inl (ap (λ (g : Gear). g.memory) same)
 write_here at old location byte new zero one (inr heard) = grind (arith, stored_there, end_steady, passing_keeps)
 
 -- a unit that answers a write was enabled, and has stored the byte
-write_answered : (at : ℕ) (old : Gear) (byte v : ℕ) (new : Gear) → Hears at old (Write byte) (Some v) new
+pub write_answered : (at : ℕ) (old : Gear) (byte v : ℕ) (new : Gear) → Hears at old (Write byte) (Some v) new
     → (old.enabled ≡ true)
     × ((location : ℕ) → old.dtr0 ≡ location → old.dtr1 ≡ 1 → Written location byte (Some old.memory) (Some new.memory))
 write_answered at old byte v new h = grind (arith, stored_there)
 
-off_not_on : (world : World) (address : ℕ) (gear : Gear) → world address ≡ Some gear → gear.enabled ≡ true
+pub off_not_on : (world : World) (address : ℕ) (gear : Gear) → world address ≡ Some gear → gear.enabled ≡ true
     → IsOff (world address) → ⊥
 off_not_on world address gear is on off = let e : gear.enabled ≡ false = rw is at off in cc
 
-stands_selected : (location : ℕ) (gear : Gear) (seen : Option Gear) → seen ≡ Some gear → gear.enabled ≡ true
+pub stands_selected : (location : ℕ) (gear : Gear) (seen : Option Gear) → seen ≡ Some gear → gear.enabled ≡ true
     → HasBank seen → HasPlace location seen → (gear.dtr0 ≡ location) × (gear.dtr1 ≡ 1)
 stands_selected location gear seen is on bank place = grind (arith, is_open, dtr1_in, dtr0_in)
 

@@ -15,7 +15,7 @@ use Rattle.dali_write.specs.Frames.{next_frames}
 use Rattle.dali_write.specs.Counts.{jumps, done_frames}
 use Rattle.dali_write.specs.Misses.{misses_in, location_in, IsApt}
 use Rattle.dali_write.specs.Worlds.{Selects}
-use Rattle.dali_write.proofs.EndLemmas.{ends_selecting, moved_by}
+use Rattle.dali_write.proofs.EndLemmas.{ends_selecting, fourth_is, moved_by}
 
 -- ---- the frames
 
@@ -26,7 +26,7 @@ three_on = refl
 
 -- to another one DTR0 is set
 pub four_further : access_requests 5 (WriteOn 0x10 0x13 0x18) 0
-    ≡ request (AskDtr1 5) (Exactly 1) ∷ request (Dtr0 0x13) Nothing ∷ request (AskDtr0 5) (Exactly 0x13)
+    ≡ request (Dtr0 0x13) Nothing ∷ request (AskDtr1 5) (Exactly 1) ∷ request (AskDtr0 5) (Exactly 0x13)
     ∷ request (Write 0x18) (Exactly 0x18) ∷ []
 four_further = refl
 
@@ -149,6 +149,20 @@ not_set_between selects = elim (second_is 5 0x02 _ _ _ selects) [
   | inl asks ↦ cc
   | inr sets ↦ cc
 ]
+
+-- nor where DTR0 was set since then, unless DTR1 was set just before
+pub not_jumped_between : Selects 5 0x13
+    (sent (AskDtr0 5) (Some 0x13) ∷ sent (Dtr0 0x13) None ∷ sent (AskDtr1 5) (Some 0x01)
+    ∷ sent (Write 0xA4) (Some 0xA4) ∷ []) → ⊥
+not_jumped_between selects = elim (fourth_is 5 0x13 _ _ _ _ _ selects) [
+  | inl asks ↦ cc
+  | inr sets ↦ cc
+]
+
+pub jumped_before : Selects 5 0x13
+    (sent (AskDtr0 5) (Some 0x13) ∷ sent (AskDtr1 5) (Some 0x01) ∷ sent (Dtr0 0x13) None
+    ∷ sent (Write 0xA4) (Some 0xA4) ∷ [])
+jumped_before = moved_by 5 0x13 (sent (Dtr0 0x13) None ∷ sent (Write 0xA4) (Some 0xA4) ∷ [])
 
 -- ---- in turn
 

@@ -25,3 +25,4 @@ pub mod Successes
 pub mod WorkedAccesses
 pub mod LoneUnit
 pub mod WorkedBlocks
+pub mod Noise

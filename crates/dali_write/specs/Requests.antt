@@ -21,18 +21,15 @@ Meets Anything answer = IsSome answer
 abbrev pub request : Frame → Wish → Request
 request frame wish = record { frame = frame; wish = wish }
 
--- DTR0 is the location: it has moved there by itself, or it is set first
-abbrev pub place_requests : Bool → ℕ → ℕ → List Request
-place_requests true unit location = request (AskDtr0 unit) (Exactly location) ∷ []
-place_requests false unit location = request (Dtr0 location) Nothing ∷ request (AskDtr0 unit) (Exactly location) ∷ []
-
 -- the unit tells that DTR1 is 01h, and then that DTR0 is the location
-abbrev pub asked_requests : Bool → ℕ → ℕ → List Request
-asked_requests moved unit location = request (AskDtr1 unit) (Exactly 1) ∷ place_requests moved unit location
+abbrev pub questions : ℕ → ℕ → List Request
+questions unit location = request (AskDtr1 unit) (Exactly 1) ∷ request (AskDtr0 unit) (Exactly location) ∷ []
 
 -- select a location of bank 1 at the unit, and make sure of it
 abbrev pub select_requests : ℕ → ℕ → List Request
-select_requests unit location = request (Dtr1 1) Nothing ∷ asked_requests false unit location
+select_requests unit location =
+    request (Dtr1 1) Nothing ∷ request (AskDtr1 unit) (Exactly 1)
+    ∷ request (Dtr0 location) Nothing ∷ request (AskDtr0 unit) (Exactly location) ∷ []
 
 -- so many locations from this one on
 abbrev pub block : ℕ → ℕ → Block
@@ -58,16 +55,18 @@ block_requests unit block =
 abbrev pub read_requests : ℕ → ℕ → List Request
 read_requests unit location = block_requests unit (block location 1)
 
--- a write of the byte to the location, at a unit that is enabled and has bank 1 selected
+-- a write of the byte to the location, at a unit that is enabled and has bank 1 selected; DTR0 has moved there by
+-- itself, or else it is set first
 abbrev pub put_requests : Bool → ℕ → ℕ → ℕ → List Request
-put_requests moved unit location byte =
-    asked_requests moved unit location ++ request (Write byte) (Exactly byte) ∷ []
+put_requests true unit location byte = questions unit location ++ request (Write byte) (Exactly byte) ∷ []
+put_requests false unit location byte =
+    request (Dtr0 location) Nothing ∷ questions unit location ++ request (Write byte) (Exactly byte) ∷ []
 
 -- a checked write of the byte to the location
 abbrev pub write_requests : ℕ → ℕ → ℕ → List Request
 write_requests unit location byte =
-    request (Enable unit) Nothing ∷ request (Enable unit) Nothing ∷ request (Dtr1 1) Nothing
-    ∷ put_requests false unit location byte
+    request (Enable unit) Nothing ∷ request (Enable unit) Nothing
+    ∷ select_requests unit location ++ request (Write byte) (Exactly byte) ∷ []
 
 -- The frames of a try of an access behind so many that missed. A write just behind one to another location takes the
 -- unit as that one left it, enabled and with DTR0 one further; behind a miss it is a checked write.

@@ -1,5 +1,5 @@
 -- What exchanges do to a world of units.
-use Rattle.std.specs.Prelude.{◌≡◌, ◌≢◌, ◌⊎◌, ℕ, Bool, false, List, [], ◌∷◌, ◌++◌, Option, Some, None, IsSome, is_some}
+use Rattle.std.specs.Prelude.{◌≡◌, ◌≢◌, ◌⊎◌, ℕ, false, List, [], ◌∷◌, ◌++◌, Option, Some, None, IsSome, is_some}
 use Rattle.std.specs.Option.{option_map}
 use Rattle.dali_bus.specs.World.{World, Gear, Memory, stored, byte_at, is_enabled}
 use Rattle.dali_bus.specs.Hears.{MayIndicate}
@@ -7,7 +7,7 @@ use Rattle.dali_bus.specs.Power.{MayRelock}
 use Rattle.dali_bus.specs.Carry.{BusEvent, HasLostPower}
 use Rattle.dali_bus.specs.Chain.{Chain}
 use Rattle.dali_write.specs.Exchanges.{Exchange, exchanges_of}
-use Rattle.dali_write.specs.Requests.{read_requests, asked_requests}
+use Rattle.dali_write.specs.Requests.{read_requests, questions, select_requests}
 use Rattle.dali_write.specs.Tries.{Trying, bytes_of}
 
 -- the address is one of these
@@ -49,10 +49,10 @@ pub record Shows (loses : ℕ → Type 0) (world : World) (unit location byte : 
   pub byte_is : MayRelock (loses unit) 1 location (Some byte) (gear.memory 1 location)
   pub off : gear.enabled ≡ false
 
--- the unit told that DTR1 is 01h and, with nothing between the two but at most a frame that set DTR0, that DTR0 is the
--- location
+-- the unit told that DTR1 is 01h and then that DTR0 is the location: with nothing between the two, or in the frames
+-- that select it
 abbrev pub Asked : ℕ → ℕ → List Exchange → Type 0
-Asked unit location tried = (moved : Bool) × Trying (asked_requests moved unit location) tried []
+Asked unit location tried = Trying (questions unit location) tried [] ⊎ Trying (select_requests unit location) tried []
 
 -- the newest exchanges made sure that the unit has selected the location of bank 1
 abbrev pub Selects : ℕ → ℕ → List Exchange → Type 0

@@ -41,9 +41,9 @@ impl Access {
             Access::ReadFrom(block) => block.request(unit, number),
             Access::WriteOn(before, location, byte) if misses == 0 => {
                 if next_to(before) == location {
-                    put_on(unit, location, byte).get(number).copied()
-                } else {
                     put(unit, location, byte).get(number).copied()
+                } else {
+                    put_elsewhere(unit, location, byte).get(number).copied()
                 }
             }
             Access::WriteTo(location, byte) | Access::WriteOn(_, location, byte) => {
@@ -69,23 +69,25 @@ pub fn selection(unit: u8, location: u8) -> [Request; 4]
     ]
 }
 
-// The frames of a write at a unit that is enabled and has bank 1 selected.
-fn put(unit: u8, location: u8, byte: u8) -> [Request; 4]
-    ensures requests { result ≡ put_requests false unit location byte }
-    ensures proper { unit ≤ 63 → All (λ request. IsProper request.frame) result }
-{
-    let [_, bank_back, place, place_back] = selection(unit, location);
-    let write = request(Frame::Write(byte), Wish::Exactly(byte));
-    [bank_back, place, place_back, write]
-}
-
-// The same where DTR0 has moved to the location by itself.
-fn put_on(unit: u8, location: u8, byte: u8) -> [Request; 3]
+// The frames of a write at a unit that is enabled and has bank 1 selected, and whose DTR0 has moved to the location.
+fn put(unit: u8, location: u8, byte: u8) -> [Request; 3]
     ensures requests { result ≡ put_requests true unit location byte }
     ensures proper { unit ≤ 63 → All (λ request. IsProper request.frame) result }
 {
-    let [bank_back, _, place_back, write] = put(unit, location, byte);
+    let [_, bank_back, _, place_back] = selection(unit, location);
+    let write = request(Frame::Write(byte), Wish::Exactly(byte));
     [bank_back, place_back, write]
+}
+
+// The same where DTR0 stands elsewhere. It is set before both are asked back: so a question that is heard as a write
+// writes to this location, too.
+fn put_elsewhere(unit: u8, location: u8, byte: u8) -> [Request; 4]
+    ensures requests { result ≡ put_requests false unit location byte }
+    ensures proper { unit ≤ 63 → All (λ request. IsProper request.frame) result }
+{
+    let [bank_back, place_back, write] = put(unit, location, byte);
+    let place = request(Frame::Dtr0(location), Wish::Nothing);
+    [place, bank_back, place_back, write]
 }
 
 // The frames of a checked write.
@@ -94,8 +96,8 @@ fn checked_write(unit: u8, location: u8, byte: u8) -> [Request; 7]
     ensures proper { unit ≤ 63 → All (λ request. IsProper request.frame) result }
 {
     let enable = request(Frame::Enable(unit), Wish::Nothing);
-    let bank = request(Frame::Dtr1(1), Wish::Nothing);
-    let [bank_back, place, place_back, write] = put(unit, location, byte);
+    let [bank, bank_back, place, place_back] = selection(unit, location);
+    let write = request(Frame::Write(byte), Wish::Exactly(byte));
     [enable, enable, bank, bank_back, place, place_back, write]
 }
 

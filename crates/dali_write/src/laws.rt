@@ -1,6 +1,6 @@
 //! Laws of checked accesses and sessions. Each is the contract of a function that does nothing.
 ghost use Rattle.std.specs.Prelude.{◌↔◌, ◌≡◌, ◌≢◌, ◌∷◌, ◌≤◌, ◌<◌, ◌⊎◌, ◌+◌, ◌*◌, List, [], length, slice_get, Some, ℕ};
-ghost use Rattle.std.specs.Prelude.{Option, None, IsSome, false};
+ghost use Rattle.std.specs.Prelude.{Option, None, IsSome, Bool, true, false};
 ghost use Rattle.dali_write.specs.Found.{ReadsSoFar, IsCause, keeps};
 ghost use Rattle.dali_write.specs.Causes.{IsShown};
 ghost use Rattle.dali_write.specs.declared.ask.Cause.{Cause};
@@ -8,7 +8,7 @@ ghost use Rattle.dali_write.specs.declared.block.Block.{Block};
 ghost use Rattle.dali_frame.specs.declared.forward.Frame.{Frame};
 ghost use Rattle.dali_frame.specs.declared.forward.Frame.TheVariants.{Write};
 ghost use Rattle.dali_write.specs.declared.ask.Ask.{Ask};
-ghost use Rattle.dali_bus.specs.World.{World, Gear};
+ghost use Rattle.dali_bus.specs.World.{World, Gear, is_enabled};
 ghost use Rattle.dali_bus.specs.Carry.{Carry, WorldStep};
 ghost use Rattle.dali_write.specs.Exchanges.{Exchange};
 ghost use Rattle.dali_write.specs.declared.session.Session.{Session};
@@ -42,6 +42,7 @@ ghost use Rattle.dali_write.specs.Guards.{IsGuarded};
 ghost use Rattle.dali_write.specs.Reads.{StillRead, HasRead, ReadsBank};
 ghost use Rattle.dali_write.specs.Worlds.{IsAmong, Run, IsCheckedRead, Shows, KeepsAt, Selects, OnlyEnabled};
 ghost use Rattle.dali_write.specs.Worlds.{MayWrite};
+ghost use Rattle.dali_write.specs.Noise.{Noisy, NoisyStep, as_noisy};
 ghost use Rattle.dali_write.specs.WhenBlock.{WhenTold};
 ghost use Rattle.dali_write.specs.Blocks.{IsAmid};
 
@@ -196,6 +197,44 @@ pub fn sessions_touch_their_places_alone()
         → OnlyEnabled unit first → Run WorldStep (IsAmong loses) told first last
         → Wants unit (unlock pace updates) told ask ⊎ Wants unit (close Verdict.Closed Verdict.NotClosed) told ask
         → OnlyEnabled unit last }
+{}
+
+/// Over a bus that alters answers and makes some up, but none while a register is unset (`NoisyStep`), a session
+/// changes only the places that it writes, and no other unit is enabled; a fresh one changes nothing. For the short
+/// plan, and for what else is said, no byte comes back to a read or a write where none was given: `Done` is true, and
+/// after `Doubt` and `Closed` the unit isn't enabled. All that a bus does that alters none it may do.
+pub fn altered_answers_do_no_harm()
+    ensures opened { (made : Bool) (loses : List ℕ) (told : List Exchange) (first last : Noisy) (unit : ℕ)
+        (pace : Pace) (updates : List (ℕ × ℕ)) (ask : Ask)
+        → (made ≡ true → pace ≡ Pace.Checked) → OnlyEnabled unit first.world
+        → Run (NoisyStep made unit) (IsAmong loses) told first last → Wants unit (unlock pace updates) told ask
+        → Touches (IsAmong loses) (writes_of updates) unit first.world last.world }
+    ensures closing { (made : Bool) (loses : List ℕ) (told : List Exchange) (first last : Noisy) (unit : ℕ) (ask : Ask)
+        → OnlyEnabled unit first.world → Run (NoisyStep made unit) (IsAmong loses) told first last
+        → Wants unit (close Verdict.Closed Verdict.NotClosed) told ask
+        → Touches (IsAmong loses) ((2, 0xFF) ∷ []) unit first.world last.world }
+    ensures fresh { (made : Bool) (loses : List ℕ) (told : List Exchange) (first last : Noisy) (unit : ℕ)
+        (pace : Pace) (updates : List (ℕ × ℕ)) (ask : Ask)
+        → Run (NoisyStep made unit) (IsAmong loses) told first last → Wants unit (read_length pace updates) told ask
+        → (address : ℕ) → KeepsAt (IsAmong loses) first.world last.world address }
+    ensures done { (loses : List ℕ) (told : List Exchange) (first last : Noisy) (unit : ℕ)
+        (pace : Pace) (updates : List (ℕ × ℕ))
+        → RisesAbove 2 updates → OnlyEnabled unit first.world
+        → Run (NoisyStep false unit) (IsAmong loses) told first last
+        → Wants unit (unlock pace updates) told (Ask.Ended Verdict.Done)
+        → Says (IsAmong loses) unit updates last.world Verdict.Done }
+    ensures doubt { (loses : List ℕ) (told : List Exchange) (first last : Noisy) (unit : ℕ)
+        (pace : Pace) (updates : List (ℕ × ℕ))
+        → Run (NoisyStep false unit) (IsAmong loses) told first last
+        → Wants unit (unlock pace updates) told (Ask.Ended Verdict.Doubt)
+        → is_enabled last.world unit ≡ false }
+    ensures closed { (loses : List ℕ) (told : List Exchange) (first last : Noisy) (unit : ℕ)
+        → Run (NoisyStep false unit) (IsAmong loses) told first last
+        → Wants unit (close Verdict.Closed Verdict.NotClosed) told (Ask.Ended Verdict.Closed)
+        → is_enabled last.world unit ≡ false }
+    ensures plain { (made : Bool) (loses : List ℕ) (told : List Exchange) (first last : World) (unit : ℕ)
+        → Run WorldStep (IsAmong loses) told first last
+        → Run (NoisyStep made unit) (IsAmong loses) told (as_noisy first) (as_noisy last) }
 {}
 
 /// A session sends only frames that set registers, ask its unit or read it; one that writes enables its unit besides,

@@ -9,6 +9,7 @@ ghost use Rattle.dali_write.specs.Plans.{next_plan};
 ghost use Rattle.dali_write.specs.Tries.{most_tries, plan_requests, IsGoing};
 ghost use Rattle.dali_write.specs.declared.request.Wish.{Wish};
 ghost use Rattle.dali_write.specs.declared.ask.Verdict.{Verdict};
+ghost use Rattle.dali_write.specs.declared.pace.Pace.{Pace};
 ghost use Rattle.dali_write.specs.declared.stage.Task.{Task};
 ghost use Rattle.dali_write.specs.Stages.{plan_of, order_for, plan_at, access_of};
 ghost use Rattle.dali_write.specs.Found.{kept_after, is_small};
@@ -68,9 +69,19 @@ impl Session {
     ghost use Rattle.dali_write.specs.Told.{frames_left};
     ghost use Rattle.dali_write.specs.Told.{BeginsTry};
 
+    /// As `fresh_with_pace`, by the checked plan.
+    pub fn fresh(order: Order) -> Session
+        ensures unit { unit_of result ≡ order.unit }
+        ensures task { task_of result ≡ Task.Fresh order Pace.Checked }
+        ensures told { Told [] result }
+        ensures left { frames_left result ≡ fresh_limit }
+    {
+        Session::fresh_with_pace(order, Pace::Checked)
+    }
+
     /// Looks whether bank 1 of the order's unit suits the order: its last location, and the content
     /// format where the order writes from 13h on. Ends as `MayOpen`, `Short`, `Format` or `Silent`.
-    pub fn fresh(order: Order, pace: Pace) -> Session
+    pub fn fresh_with_pace(order: Order, pace: Pace) -> Session
         ensures unit { unit_of result ≡ order.unit }
         ensures task { task_of result ≡ Task.Fresh order pace }
         ensures told { Told [] result }
@@ -79,10 +90,20 @@ impl Session {
         Session::begun(order.unit(), Task::Fresh(order, pace), Stage::ReadLength)
     }
 
+    /// As `opened_with_pace`, by the checked plan.
+    pub fn opened(order: Order) -> Session
+        ensures unit { unit_of result ≡ order.unit }
+        ensures task { task_of result ≡ Task.Opened order Pace.Checked }
+        ensures told { Told [] result }
+        ensures left { frames_left result ≡ opened_limit (length order.updates) }
+    {
+        Session::opened_with_pace(order, Pace::Checked)
+    }
+
     /// Carries the order out: unlocks bank 1, writes each update, locks it and reads all back. Where
     /// an access fails that isn't read again in smaller rows, or another byte is read back, closes the
     /// unit. Ends as `Done`, `Doubt` or `DoubtOpen`.
-    pub fn opened(order: Order, pace: Pace) -> Session
+    pub fn opened_with_pace(order: Order, pace: Pace) -> Session
         ensures unit { unit_of result ≡ order.unit }
         ensures task { task_of result ≡ Task.Opened order pace }
         ensures told { Told [] result }

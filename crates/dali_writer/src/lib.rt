@@ -8,8 +8,10 @@ pub use dali_drive::{
     StoredFault, Terms, drive, drive_at, drive_stored, exchange, follow, follow_stored,
     laws as drive_laws, put_all, read_unit, scan_units, verify_orders,
 };
-pub use dali_engine::{Cause, Outcome, Pace, RunFault, Writer, run, run_sim};
-pub use dali_laws::laws;
+pub use dali_engine::{
+    Cause, Outcome, Pace, RunFault, Writer, run, run_sim, run_sim_with_pace, run_with_pace,
+};
+pub use dali_laws::{causes, laws};
 pub use dali_read::{Finding, Places};
 pub use dali_store::{FileStore, MemoryStore, OpenFault, Store, StoreFault, open};
 pub use dali_trace::{Event, Happening, Reply, Want};

@@ -1,6 +1,6 @@
 use crate::own_bus::TestBus;
 use crate::writer::case::{Deed, answers_of, events_of};
-use dali_engine::{Pace, Reply, run};
+use dali_engine::{Reply, run};
 use dali_journal::Code;
 use dali_shared_tests::{ENOUGH, GTIN, expect_that};
 use std::test::Fail;
@@ -23,7 +23,7 @@ fn power_lost_before_a_read_of_a_unit_with_bank_0(rt: HostRuntime) -> Result<(),
         dtr1: 0x00,
         dtr0: 0x00,
     };
-    let outcome = run(rt.alloc(), &mut bus, 10, Pace::Checked, &events)?;
+    let outcome = run(rt.alloc(), &mut bus, 10, &events)?;
     let answers = answers_of(rt.alloc(), &outcome.trace)?;
     let frames = 14 + 8 * 7 + 8 * 7 + 8 * 5;
     let is_in_doubt = answers.last() == Some(&(1, Reply::Kept(Code::DoubtOpen), frames));

@@ -1,5 +1,5 @@
 use dali_bank::Order;
-use dali_engine::{Event, Happening, Outcome, Pace, Reply, RunFault, run_sim};
+use dali_engine::{Event, Happening, Outcome, Reply, RunFault, run_sim};
 use dali_gear::{Fate, GearFault, SimBus, Unit};
 use dali_journal::Code;
 use dali_shared_tests::{ENOUGH, GTIN, expect_that, put};
@@ -129,7 +129,7 @@ pub(crate) fn run_case(
     case: &Case<'_>,
 ) -> Result<Outcome, RunFault> {
     let events = events_of(alloc, case.deeds)?;
-    run_sim(alloc, bus, 10, Pace::Checked, &events)
+    run_sim(alloc, bus, 10, &events)
 }
 
 // The answers, each with its order's number and how many frames were sent before it.

@@ -64,7 +64,7 @@ returns-clause-ok g c =
         run = subst
             (λ limit. IsSimRun limit c.in_ok-scenario.scenario.pace c.in_ok-bus.field-0.events.items
             c.in_ok-bus.field-0.bus
-            c.in_ok-outcome.outcome.trace.items c.in_ok-outcome.outcome.journal.items c.run_sim.new.bus)
+            c.in_ok-outcome.outcome.trace.items c.in_ok-outcome.outcome.journal.items c.run_sim_with_pace.new.bus)
             c.in-Ok.ensures.1
             (rw c.as_slice-2.ensures.value at c.in_ok-outcome.ensures.ok);
       },

@@ -21,9 +21,12 @@ returns c =
     let strict =
     with_next _ c.with_argument-flagged.result c.flag_of-4.result c.with_argument-strict.result _ _ flagged
     c.flag_of-4.ensures c.with_argument-strict.ensures in
+    let there =
+    with_next _ c.with_argument-strict.result c.flag_of-5.result c.with_argument-there.result _ _ strict
+    c.flag_of-5.ensures c.with_argument-there.ensures in
     let watched =
-    with_next _ c.with_argument-strict.result c.flag_of-5.result c.with_argument-watched.result _ _ strict
-    c.flag_of-5.ensures c.with_argument-watched.ensures in
+    with_next _ c.with_argument-there.result c.flag_of-6.result c.with_argument-watched.result _ _ there
+    c.flag_of-6.ensures c.with_argument-watched.ensures in
     let reported =
     with_next _ c.with_argument-watched.result c.file_option.result c.with_argument-reported.result _ _ watched
     c.file_option.ensures c.with_argument-reported.ensures in

@@ -40,9 +40,9 @@ returns-in-Begins-clause-described c = λ start past entry want d.
     keeps_begun c.self.inside.pace start past c.self.inside.journal c.append.new.self c.self.inside.phase
     c.in-Begins.order
     c.in-Begins.moment
-    c.fresh-session.result entry
+    c.fresh_with_pace-session.result entry
     c.in-Begins.ensures.value (rw (← c.self.view_is) at d) c.self.invariant.ready (rw (← c.self.view_is) at want)
-    c.fresh-session.ensures.told
+    c.fresh_with_pace-session.ensures.told
     (rw c.copy.ensures.value at c.append.ensures.records) c.append.ensures.limit
 
 pub returns-in-Ended-clause-described : goal.returns-in-Ended-clause-described
@@ -82,8 +82,9 @@ returns-in-Begins-clause-follows c = λ start past entry want d f.
     begun_follows c.self.inside.pace start past c.self.inside.journal c.append.new.self c.self.inside.phase
     c.in-Begins.order
     c.in-Begins.moment
-    c.fresh-session.result entry
-    c.in-Begins.ensures.value (rw (← c.self.view_is) at f) (rw (← c.self.view_is) at want) c.fresh-session.ensures.told
+    c.fresh_with_pace-session.result entry
+    c.in-Begins.ensures.value (rw (← c.self.view_is) at f) (rw (← c.self.view_is) at want)
+    c.fresh_with_pace-session.ensures.told
 
 pub returns-in-Ended-clause-follows : goal.returns-in-Ended-clause-follows
 returns-in-Ended-clause-follows c = λ start past entry want d f.

@@ -11,7 +11,7 @@ returns g c = record {
   told = λ start first past told same last.
       let kept = c.write_last.ensures.same in
       told_last g.W.Write.contents start first c.args.self.now past told c.args.id c.args.reply _ last
-      (rw kept refl) (rw kept refl) (rw kept refl) (rw kept refl) c.new-self.ensures (rw kept refl)
+      (rw kept refl) (rw kept refl) refl (rw kept refl) c.new-self.ensures (rw kept refl)
       (with_last g.W.Write.contents start first c.args.self.now past told c.args.id c.args.reply _ _ _
       c.is_well.ensures c.ends_now-ended_now.ensures
       (λ had every all_now is none. c.with-self.ensures had every all_now ((rw kept refl) ∙ is) none))

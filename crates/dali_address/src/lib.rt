@@ -1,0 +1,39 @@
+//! Short addresses for control gear that has none (IEC 62386-102: special commands): the frames of
+//! the search by random addresses, what units may do with them, a run, which gives or lists them,
+//! and a census, which counts units.
+//!
+//! It takes no memory.
+#![tactic(auto)]
+
+mod addressing;
+mod asks;
+mod bus;
+mod call;
+mod carry;
+mod census;
+mod change;
+mod ending;
+mod evidence;
+pub mod laws;
+mod ledger;
+mod marks;
+mod phase;
+mod reading;
+mod round;
+mod search;
+mod serve;
+mod sharing;
+mod stage;
+mod tallied;
+mod task;
+mod vacancy;
+mod walk;
+
+pub use addressing::Addressing;
+pub use bus::{AddressBus, AddressDesk};
+pub use call::{Call, word_of_call};
+pub use carry::serve_census;
+pub use census::{Census, CensusEnd, CensusWant};
+pub use serve::serve_addressing;
+pub use sharing::Sharing;
+pub use task::{Line, Random, Summary, Task, Want};

@@ -1,0 +1,2 @@
+pub mod AddressLines
+pub mod Addressed

@@ -1,4 +1,0 @@
-use Rattle.dali_link_commands.proofs.report_lines.ReportLines.read.Given as goal
-
-abbrev pub decreases-loop-left : goal.decreases-loop-left
-decreases-loop-left l = l.left

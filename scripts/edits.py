@@ -44,6 +44,8 @@ class Edit:
         found = {function_at(self.crate / file, line) for file, line in self.lines}
         at_once = [next((it for it in cycles(crate).values() if name in it), {name}) for name in found]
         self.functions = set().union(*at_once) if None not in found else set()
+        twice = sorted(self.asked() & names_of_several(crate))
+        self.why = self.why or (f"several functions are named {twice[0]}" if twice else None)
 
     def read(self, rows):
         """Read the pairs of texts, and tell why they can't be applied, or give None."""
@@ -155,8 +157,22 @@ def cycles(crate):
     return found
 
 
+@functools.cache
+def names_of_several(crate):
+    """Give the ends of names that several functions of a crate have, which a check can't tell apart."""
+    found = collections.Counter()
+    for path in (crate / "src").rglob("*.rt"):
+        file, block = path.relative_to(crate), None
+        for row in text_of(path).split("\n"):
+            block = IMPL.match(row) or (block if row[:1] != "}" else None)
+            head = HEAD.match(row)
+            if head:
+                found[end_of_name(file, block if head[1] else None, head[2])] += 1
+    return {name for name, count in found.items() if count > 1}
+
+
 def end_of_name(file, block, name):
-    """Give the end of the name that a check has for a function, which is that of no other."""
+    """Give the end of the name that a check has for a function."""
     if not block:
         return "::".join([*(it for it in file.with_suffix("").parts[1:] if it not in ("lib", "mod")), name])
     words = re.findall(r"\w+(?!\w*::)", block["trait"] or "")

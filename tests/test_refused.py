@@ -1,6 +1,6 @@
 #!/usr/bin/env python3
-"""Test who tries wrong bodies, what refuses one in a cycle of calls, which are tried on the whole crate, and what is a
-refusal by the function or the fact that an edit names.
+"""Test who tries wrong bodies, what refuses one in a cycle of calls, which are tried on the whole crate, what is a refusal
+by the function or the fact that an edit names, and which names several functions have.
 """
 
 import importlib.machinery
@@ -49,6 +49,7 @@ def outcomes(root):
     yield from cycled(root, scripts)
     yield from judged(root, scripts)
     yield from named(root, scripts)
+    yield from twice(root)
 
 
 def helped(root, scripts):
@@ -140,6 +141,20 @@ def named(root, scripts):
         told = checks.judged(crate, root, [edit])
         asked = [(set(), False)] if "." in by else [({by}, False)]
         yield f"refused by a fact, named {by}", (told[0].is_refused, told[0].is_by_own, checks.asked) == (True, is_own, asked)
+
+
+def twice(root):
+    """Give what is tested of an edit in a function whose name another one has, and whether it is so."""
+    from edits import Edit
+
+    crate = root / "crates" / "of_names"
+    (crate / "src").mkdir(parents=True)
+    for number, name in enumerate(("Marks", "Others", "Marks")):
+        text = f"impl {name} {{\n    fn new() -> u8 {{\n        {number}\n    }}\n}}\n"
+        (crate / "src" / f"file{number}.rt").write_text(text, encoding="utf-8")
+    told = [Edit(crate, "one", "a rule", [("file", f"src/file{it}.rt"), ("old", f"{it}"), ("new", "7")]).why for it in range(3)]
+    wanted = "several functions are named Marks::new"
+    yield "an edit in a function whose name another one has", told == [wanted, None, wanted]
 
 
 def main():

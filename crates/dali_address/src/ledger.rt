@@ -8,10 +8,10 @@ ghost use Rattle.dali_address.specs.declared.phase.Phase.{Phase};
 use crate::asks::{Asks, Verdict};
 use crate::change::Change;
 use crate::evidence::Evidence;
-use crate::marks::Marks;
 use crate::phase::{Heard, MOST_MISSES, Phase, Then};
 use crate::reading::Reading;
 use crate::round::{Outcome, Round};
+use crate::short_set::ShortSet;
 use crate::task::{Line, Summary, Task};
 
 // How often a closing is tried, and how many failures in a row end the giving (profile).
@@ -32,9 +32,9 @@ pub(crate) struct Ledger<'a> {
     // how often shared short addresses were taken away to be given anew
     repairs: u8,
     // which are to be taken away, which were given, and which are to be told
-    clearing: Marks,
-    given: Marks,
-    untold: Marks,
+    clearing: ShortSet,
+    given: ShortSet,
+    untold: ShortSet,
     is_missing: bool,
     count: u8,
     told: u8,
@@ -49,9 +49,9 @@ impl<'a> Ledger<'a> {
             next: 0,
             fails: 0,
             repairs: 0,
-            clearing: Marks::new(task == Task::All),
-            given: Marks::new(false),
-            untold: Marks::new(task != Task::Give),
+            clearing: ShortSet::new(task == Task::All),
+            given: ShortSet::new(false),
+            untold: ShortSet::new(task != Task::Give),
             is_missing: false,
             count: 0,
             told: 0,

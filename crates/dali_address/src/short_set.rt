@@ -2,14 +2,14 @@ ghost use Rattle.std.specs.Prelude.{◌<◌, IfSome};
 
 /// Some short addresses.
 #[derive(Drop)]
-pub(crate) struct Marks {
+pub(crate) struct ShortSet {
     marks: [bool; 64],
 }
 
-impl Marks {
+impl ShortSet {
     /// All, or none.
-    pub(crate) fn new(is_marked: bool) -> Marks {
-        Marks {
+    pub(crate) fn new(is_marked: bool) -> ShortSet {
+        ShortSet {
             marks: [is_marked; 64],
         }
     }

@@ -16,10 +16,10 @@ use Rattle.clap.specs.declared.builder.command.Command.{Command}
 use Rattle.clap.specs.declared.parser.matches.ArgMatches.{ArgMatches}
 use Rattle.clap.proofs.OnLiterals.{clap_on_literals}
 use Rattle.dali_job.specs.Jobs.{HasFlag, HasNumber, HasOption, HasValue, HasValues, IsEntered, IsJob, IsNoCheck, IsNoDrive}
-use Rattle.dali_job.specs.Jobs.{AreUnits, IsApp, IsNoScan, IsRule}
+use Rattle.dali_job.specs.Jobs.{AreUnits, IsApp, IsNoAddress, IsNoScan, IsRule}
 use Rattle.dali_job.specs.Jobs.{IsNoJob, IsNumber, bench_app}
 use Rattle.dali_job.specs.declared.job.Job.{Job}
-use Rattle.dali_job.specs.declared.job.Job.TheVariants.{Check, Run, Frame, Show, Journal, Drive, Read, Verify, Scan}
+use Rattle.dali_job.specs.declared.job.Job.TheVariants.{Address, Check, Run, Frame, Show, Journal, Drive, Read, Verify, Scan}
 
 bench_is_simple : is_simple bench_app ≡ true
 unfolding clap_on_literals
@@ -213,16 +213,18 @@ pub no_job : (entered : Option (Text × List Row))
     → ((value : Text) → ¬ HasValue entered (codes "journal") (codes "FILE") value)
     → ((value : Text) → ¬ HasValue entered (codes "verify") (codes "ORDERS") value)
     → ((unit : ℕ) (bank : Bor Text) (progress : Bool) → ¬ IsJob entered (Read unit bank progress))
-    → IsNoCheck entered → IsNoScan entered → IsNoDrive entered → IsNoJob entered
-no_job _ no_scenario _ _ _ _ _ _ _ _ (Run scenario _) = λ named. no_scenario scenario.now named.0
-no_job _ _ no_digits _ _ _ _ _ _ _ (Frame digits) = no_digits digits.now
-no_job _ _ _ no_dump _ _ _ _ _ _ (Show dump) = no_dump dump.now
-no_job _ _ _ _ no_records _ _ _ _ _ (Journal records _) = λ named. no_records records.now named.0
-no_job _ _ _ _ _ no_compared _ _ _ _ (Verify orders _ _) = λ named. no_compared orders.now named.0
-no_job _ _ _ _ _ _ no_read _ _ _ (Read unit bank progress) = no_read unit bank progress
-no_job _ _ _ _ _ _ _ no_check _ _ (Check orders journal older) = no_check orders journal older
-no_job _ _ _ _ _ _ _ _ no_scan _ (Scan units with_gtin progress) = no_scan units with_gtin progress
-no_job _ _ _ _ _ _ _ _ _ no_drive
+    → IsNoCheck entered → IsNoScan entered → IsNoAddress entered → IsNoDrive entered → IsNoJob entered
+no_job _ no_scenario _ _ _ _ _ _ _ _ _ (Run scenario _) = λ named. no_scenario scenario.now named.0
+no_job _ _ no_digits _ _ _ _ _ _ _ _ (Frame digits) = no_digits digits.now
+no_job _ _ _ no_dump _ _ _ _ _ _ _ (Show dump) = no_dump dump.now
+no_job _ _ _ _ no_records _ _ _ _ _ _ (Journal records _) = λ named. no_records records.now named.0
+no_job _ _ _ _ _ no_compared _ _ _ _ _ (Verify orders _ _) = λ named. no_compared orders.now named.0
+no_job _ _ _ _ _ _ no_read _ _ _ _ (Read unit bank progress) = no_read unit bank progress
+no_job _ _ _ _ _ _ _ no_check _ _ _ (Check orders journal older) = no_check orders journal older
+no_job _ _ _ _ _ _ _ _ no_scan _ _ (Scan units with_gtin progress) = no_scan units with_gtin progress
+no_job _ _ _ _ _ _ _ _ _ no_address _ (Address units all list journal progress) =
+    no_address units all list journal progress
+no_job _ _ _ _ _ _ _ _ _ _ no_drive
     (Drive orders journal moment follow short_plan require_done require_now require_journal progress report older) =
     no_drive orders journal moment follow short_plan require_done require_now require_journal progress report older
 

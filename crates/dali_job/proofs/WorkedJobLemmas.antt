@@ -6,7 +6,7 @@ use Rattle.std.specs.declared.vec.Vec.{Vec}
 use Rattle.std.specs.declared.alloc.Global.{Global}
 use Rattle.clap.specs.Words.{Row, Text, all_of, first_of, one_of, subcommand_of}
 use Rattle.clap.proofs.OnLiterals.{clap_on_literals}
-use Rattle.dali_job.specs.declared.job.Job.TheVariants.{Check, Run, Read, Verify, Scan}
+use Rattle.dali_job.specs.declared.job.Job.TheVariants.{Address, Check, Run, Read, Verify, Scan}
 use Rattle.dali_job.specs.Jobs.{AreUnits, HasFlag, HasNumber, HasOption, HasUnits, HasValue, HasValues, IsJobOf}
 use Rattle.dali_job.specs.Jobs.{IsNumber, bench_app}
 
@@ -232,3 +232,40 @@ older_not_turned = λ has. turned_is_another
 pub no_older_unasked : HasValues (driven []) (codes "drive") (codes "older") []
 unfolding clap_on_literals
 no_older_unasked = (_, refl, refl)
+
+-- ---- short addresses
+
+-- two of them, given anew, beside a journal
+abbrev anew : List Text
+anew =
+    codes "address" ∷ codes "--all" ∷ codes "--journal" ∷ codes "j" ∷ codes "7" ∷ codes "5" ∷ []
+
+pub addresses_in_their_order : HasUnits (entered_by anew) (codes "address") (codes "UNIT") (7 ∷ 5 ∷ [])
+unfolding clap_on_literals
+addresses_in_their_order = (
+  codes "7" ∷ codes "5" ∷ [],
+  (rows_in (entered_by anew), refl, refl),
+  (search arith, search arith),
+)
+
+pub all_asked : HasFlag (entered_by anew) (codes "address") (codes "all")
+unfolding clap_on_literals
+all_asked = (rows_in (entered_by anew), refl, refl)
+
+pub all_not_dropped : (units : Vec ℕ Global) (list progress : Bool) (journal : Option (Bor Text))
+    → ¬ IsJobOf (codes "dali_bench" ∷ anew) (Address units false list journal progress)
+all_not_dropped units list progress journal = λ is. let given = is.1.1 all_asked in cc
+
+pub no_list_unasked : (units : Vec ℕ Global) (all progress : Bool) (journal : Option (Bor Text))
+    → ¬ IsJobOf (codes "dali_bench" ∷ anew) (Address units all true journal progress)
+unfolding clap_on_literals
+no_list_unasked units all progress journal = λ is.
+    let given : Some (codes "false") ≡ Some (codes "true") =
+    flag_is (entered_by anew) (codes "address") (codes "list") (is.2.0 refl) in cc
+
+pub idle_journal_not_dropped : (units : Vec ℕ Global) (all list progress : Bool)
+    → ¬ IsJobOf (codes "dali_bench" ∷ anew) (Address units all list None progress)
+unfolding clap_on_literals
+idle_journal_not_dropped units all list progress = λ is.
+    let (rows, entered, none) = is.3 in
+    let left_out : Some (codes "j") ≡ None = ap (λ e. first_of (codes "journal") (rows_in e)) entered ∙ none in cc

@@ -16,7 +16,7 @@ use Rattle.clap.specs.declared.builder.ArgAction.{ArgAction}
 use Rattle.clap.specs.declared.builder.ArgAction.TheVariants.{Append, Set, SetTrue}
 use Rattle.clap.specs.declared.builder.ValueParser.TheVariants.{Unsigned}
 use Rattle.dali_job.specs.declared.job.Job.{Job}
-use Rattle.dali_job.specs.declared.job.Job.TheVariants.{Check, Run, Frame, Show, Journal, Drive, Read, Verify, Scan}
+use Rattle.dali_job.specs.declared.job.Job.TheVariants.{Address, Check, Run, Frame, Show, Journal, Drive, Read, Verify, Scan}
 
 -- `clap` sees this command, none of whose arguments is also one of its own commands
 abbrev pub IsApp : App → Command → Type 0
@@ -112,6 +112,12 @@ abbrev pub scan_app : App
 scan_app = let units = with_rule (new_app (codes "scan")) (units_rule (codes "UNIT")) in
     with_rule (with_rule units (flag_rule (codes "gtin"))) (flag_rule (codes "progress"))
 
+-- the command that gives short addresses, with them, its flags, and the journal that has to stand idle
+abbrev pub address_app : App
+address_app = let units = with_rule (new_app (codes "address")) (units_rule (codes "UNIT")) in
+    let listed = with_rule (with_rule units (flag_rule (codes "all"))) (flag_rule (codes "list")) in
+    with_rule (with_rule listed (option_rule (codes "journal"))) (flag_rule (codes "progress"))
+
 -- the program's commands and their arguments, as `clap` sees them
 abbrev pub bench_app : App
 bench_app = let checks = with_subcommand top_app check_app.top in
@@ -122,7 +128,8 @@ bench_app = let checks = with_subcommand top_app check_app.top in
     let drives = with_subcommand journals drive_app.top in
     let reads = with_subcommand drives read_app.top in
     let verifies = with_subcommand reads verify_app.top in
-    with_subcommand verifies scan_app.top
+    let scans = with_subcommand verifies scan_app.top in
+    with_subcommand scans address_app.top
 
 -- a parse entered the command
 abbrev pub IsEntered : Option (Text × List Row) → Text → Type 0
@@ -216,6 +223,12 @@ IsJob entered (Scan units with_gtin progress) =
     HasUnits entered (codes "scan") (codes "UNIT") units.items
     × Decides with_gtin (HasFlag entered (codes "scan") (codes "gtin"))
     × Decides progress (HasFlag entered (codes "scan") (codes "progress"))
+IsJob entered (Address units all list journal progress) =
+    HasUnits entered (codes "address") (codes "UNIT") units.items
+    × Decides all (HasFlag entered (codes "address") (codes "all"))
+    × Decides list (HasFlag entered (codes "address") (codes "list"))
+    × HasOption entered (codes "address") (codes "journal") journal
+    × Decides progress (HasFlag entered (codes "address") (codes "progress"))
 
 -- no job of checking is that of the command that a parse entered
 abbrev pub IsNoCheck : Option (Text × List Row) → Type 0
@@ -233,6 +246,11 @@ IsNoDrive entered = (orders journal : Bor Text) (moment : ℕ)
 -- no job of looking which units answer is that of the command that a parse entered
 abbrev pub IsNoScan : Option (Text × List Row) → Type 0
 IsNoScan entered = (units : Vec ℕ Global) (with_gtin progress : Bool) → ¬ IsJob entered (Scan units with_gtin progress)
+
+-- no job of giving short addresses is that of the command that a parse entered
+abbrev pub IsNoAddress : Option (Text × List Row) → Type 0
+IsNoAddress entered = (units : Vec ℕ Global) (all list : Bool) (journal : Option (Bor Text)) (progress : Bool)
+    → ¬ IsJob entered (Address units all list journal progress)
 
 -- no job is that of the command that a parse entered
 abbrev pub IsNoJob : Option (Text × List Row) → Type 0

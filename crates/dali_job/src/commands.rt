@@ -1,17 +1,18 @@
 // The program's commands, as `clap` takes them.
 ghost use Rattle.std.specs.Prelude.{◌≡◌, IfOk, IsOkAnd, codes};
 ghost use Rattle.clap.specs.Words.{AddsArg, AddsSubcommand, app_of, new_app};
-ghost use Rattle.dali_job.specs.Jobs.{IsApp, IsRule, address_rule, bench_app, check_app, command_app, drive_app};
+ghost use Rattle.dali_job.specs.Jobs.{IsApp, IsRule, address_app, address_rule, bench_app, check_app, command_app, drive_app};
 ghost use Rattle.dali_job.specs.Jobs.{flag_rule, journal_app, many_rule, number_rule, option_rule, read_app, run_app};
 ghost use Rattle.dali_job.specs.Jobs.{scan_app, unit_rule, units_rule, value_rule, verify_app};
 
 use crate::usages::{
-    ABOUT, Argument, CHECK, CHECK_JOURNAL_HELP, CHECK_OLDER_HELP, CHECK_ORDERS, DRIVE,
-    DRIVE_DONE_HELP, DRIVE_FOLLOW_HELP, DRIVE_JOURNAL_HELP, DRIVE_MOMENT_HELP, DRIVE_NOW_HELP,
-    DRIVE_OLDER_HELP, DRIVE_REPORT_HELP, DRIVE_SHORT_HELP, DRIVE_THERE_HELP, FRAME, FRAME_HEX,
-    JOURNAL, JOURNAL_FILE, JOURNAL_UPDATES_HELP, LINK_ORDERS, PROGRESS_HELP, READ, READ_BANK_HELP,
-    READ_UNIT_HELP, RUN, RUN_FRAMES_HELP, RUN_SCENARIO, SCAN, SCAN_GTIN_HELP, SCAN_UNITS_HELP,
-    SHOW, SHOW_DUMP, TOP_HELP, Usage, VERIFY, VERIFY_REPORT_HELP,
+    ABOUT, ADDRESS, ADDRESS_ALL_HELP, ADDRESS_JOURNAL_HELP, ADDRESS_LIST_HELP, ADDRESS_UNITS_HELP,
+    Argument, CHECK, CHECK_JOURNAL_HELP, CHECK_OLDER_HELP, CHECK_ORDERS, DRIVE, DRIVE_DONE_HELP,
+    DRIVE_FOLLOW_HELP, DRIVE_JOURNAL_HELP, DRIVE_MOMENT_HELP, DRIVE_NOW_HELP, DRIVE_OLDER_HELP,
+    DRIVE_REPORT_HELP, DRIVE_SHORT_HELP, DRIVE_THERE_HELP, FRAME, FRAME_HEX, JOURNAL, JOURNAL_FILE,
+    JOURNAL_UPDATES_HELP, LINK_ORDERS, PROGRESS_HELP, READ, READ_BANK_HELP, READ_UNIT_HELP, RUN,
+    RUN_FRAMES_HELP, RUN_SCENARIO, SCAN, SCAN_GTIN_HELP, SCAN_UNITS_HELP, SHOW, SHOW_DUMP,
+    TOP_HELP, Usage, VERIFY, VERIFY_REPORT_HELP,
 };
 use clap::{Arg, ArgAction, Command, value_parser};
 use std::alloc::{AllocError, Global};
@@ -32,7 +33,8 @@ pub(crate) fn bench_command<'a>(alloc: Global) -> Result<Command<'a>, AllocError
     let drives = with_made(journals, drive_command(alloc));
     let reads = with_made(drives, read_command(alloc));
     let verifies = with_made(reads, verify_command(alloc));
-    with_made(verifies, scan_command(alloc))
+    let scans = with_made(verifies, scan_command(alloc));
+    with_made(scans, address_command(alloc))
 }
 
 // The program with one more command, where both could be made.
@@ -109,9 +111,20 @@ fn verify_command<'a>(alloc: Global) -> Result<Command<'a>, AllocError>
 fn scan_command<'a>(alloc: Global) -> Result<Command<'a>, AllocError>
     ensures { IfOk result (IsApp scan_app) }
 {
-    let units = plain_command(alloc, &SCAN).arg(units_argument(alloc))?;
+    let units = plain_command(alloc, &SCAN).arg(units_argument(alloc, SCAN_UNITS_HELP))?;
     let named = units.arg(flag_of(alloc, "gtin", SCAN_GTIN_HELP))?;
     named.arg(flag_of(alloc, "progress", PROGRESS_HELP))
+}
+
+// The command that gives short addresses over a link, with its flags and the journal that has to stand idle.
+fn address_command<'a>(alloc: Global) -> Result<Command<'a>, AllocError>
+    ensures { IfOk result (IsApp address_app) }
+{
+    let units = plain_command(alloc, &ADDRESS).arg(units_argument(alloc, ADDRESS_UNITS_HELP))?;
+    let anew = units.arg(flag_of(alloc, "all", ADDRESS_ALL_HELP))?;
+    let listed = anew.arg(flag_of(alloc, "list", ADDRESS_LIST_HELP))?;
+    let idle = listed.arg(file_option(alloc, "journal", ADDRESS_JOURNAL_HELP))?;
+    idle.arg(flag_of(alloc, "progress", PROGRESS_HELP))
 }
 
 // The command that reads a bank over a link, with its flag.
@@ -160,11 +173,11 @@ fn unit_argument<'a>(alloc: Global) -> Arg<'a>
     address_argument(alloc, READ_UNIT_HELP, ArgAction::Set).required(true)
 }
 
-// The units of `scan`, which may be left out.
-fn units_argument<'a>(alloc: Global) -> Arg<'a>
+// Units, which may be left out.
+fn units_argument<'a>(alloc: Global, help: &'a str) -> Arg<'a>
     ensures { IsRule (units_rule (codes "UNIT")) result }
 {
-    address_argument(alloc, SCAN_UNITS_HELP, ArgAction::Append)
+    address_argument(alloc, help, ArgAction::Append)
 }
 
 // An argument that takes the short address of a unit.

@@ -1,9 +1,10 @@
-ghost use Rattle.std.specs.Prelude.{◌≡◌, ◌≤◌, ◌⊎◌, [], Bool, List, ℕ, IfOk, IfErr, IfSome, IfNone, map, unwrap_or};
+ghost use Rattle.std.specs.Prelude.{◌≡◌, ◌≤◌, ◌⊎◌, [], Bool, List, ℕ, IfOk, IfErr, IfSome, IfNone, map, unwrap_or, codes};
 ghost use Rattle.std.specs.Bool.{Decides};
 ghost use Rattle.std.specs.Borrow.{Bor};
 ghost use Rattle.clap.specs.Words.{HasKind, all_of, app_of, fault_of, found_of, rows_of, subcommand_rows_of};
-ghost use Rattle.dali_job.specs.Jobs.{AreUnits, HasFlag, HasNumber, HasUnit, HasValue, HasValues, IsJob, IsJobOf};
-ghost use Rattle.dali_job.specs.Jobs.{IsNoCheck, IsNoDrive, IsNoJob, IsNoScan, IsNumber, NamesNoJob, bench_app};
+ghost use Rattle.dali_job.specs.Jobs.{AreUnits, HasFlag, HasNumber, HasUnit, HasUnits, HasValue, HasValues, IsJob, IsJobOf};
+ghost use Rattle.dali_job.specs.Jobs.{IsNoAddress, IsNoCheck, IsNoDrive, IsNoJob, IsNoScan, IsNumber};
+ghost use Rattle.dali_job.specs.Jobs.{NamesNoJob, bench_app};
 ghost use Rattle.dali_job.specs.declared.job.Job.TheVariants.{Read};
 
 use crate::commands::bench_command;
@@ -77,6 +78,16 @@ pub enum Job<'a> {
         with_gtin: bool,
         progress: bool,
     },
+    /// To give short addresses over a link, these in their order, or the lowest that are free: with `all` anew to each
+    /// unit, with `list` to none. `journal` is the one, if any is named, that has to stand idle; with `progress` as
+    /// `Drive`.
+    Address {
+        units: Vec<u8>,
+        all: bool,
+        list: bool,
+        journal: Option<&'a str>,
+        progress: bool,
+    },
 }
 
 /// Reads the command line, the program's name first.
@@ -138,18 +149,22 @@ fn job_in<'a>(alloc: Global, matches: &ArgMatches<'a>) -> Result<Option<Job<'a>>
     if let Some(job) = check_in(alloc, matches)? {
         return Ok(Some(job));
     }
-    match scan_in(alloc, matches)? {
+    if let Some(job) = scan_in(alloc, matches)? {
+        return Ok(Some(job));
+    }
+    match address_in(alloc, matches)? {
         Some(job) => Ok(Some(job)),
         None => drive_in(alloc, matches),
     }
 }
 
-// The job of the command that a parse entered, where that is another than `check`, `scan` and `drive`.
+// The job of the command that a parse entered, where that is another than `check`, `scan`, `address` and
+// `drive`.
 fn other_job_in<'a>(matches: &ArgMatches<'a>) -> Option<Job<'a>>
     ensures named { IfSome result (IsJob (subcommand_rows_of matches.now)) }
     ensures none { IfNone result
         (IsNoCheck (subcommand_rows_of matches.now) → IsNoScan (subcommand_rows_of matches.now)
-        → IsNoDrive (subcommand_rows_of matches.now) → IsNoJob (subcommand_rows_of matches.now)) }
+        → IsNoAddress (subcommand_rows_of matches.now) → IsNoDrive (subcommand_rows_of matches.now) → IsNoJob (subcommand_rows_of matches.now)) }
 {
     if let Some(scenario) = value_of(matches, "run", "SCENARIO") {
         let single_frames = has_flag(matches, "run", "frames");
@@ -225,10 +240,7 @@ fn scan_in<'a>(alloc: Global, matches: &ArgMatches<'a>) -> Result<Option<Job<'a>
     ensures named { IfOk result (λ found. IfSome found (IsJob (subcommand_rows_of matches.now))) }
     ensures none { IfOk result (λ found. IfNone found (IsNoScan (subcommand_rows_of matches.now))) }
 {
-    let Some(texts) = values_of(alloc, matches, "scan", "UNIT")? else {
-        return Ok(None);
-    };
-    let Some(units) = units_of(alloc, texts.as_slice())? else {
+    let Some(units) = short_addresses_of(alloc, matches, "scan")? else {
         return Ok(None);
     };
     let with_gtin = has_flag(matches, "scan", "gtin");
@@ -239,6 +251,45 @@ fn scan_in<'a>(alloc: Global, matches: &ArgMatches<'a>) -> Result<Option<Job<'a>
         progress,
     };
     Ok(Some(job))
+}
+
+// The job of the command that gives short addresses, where a parse entered it.
+fn address_in<'a>(alloc: Global, matches: &ArgMatches<'a>) -> Result<Option<Job<'a>>, AllocError>
+    ensures named { IfOk result (λ found. IfSome found (IsJob (subcommand_rows_of matches.now))) }
+    ensures none { IfOk result (λ found. IfNone found (IsNoAddress (subcommand_rows_of matches.now))) }
+{
+    let Some(units) = short_addresses_of(alloc, matches, "address")? else {
+        return Ok(None);
+    };
+    let all = has_flag(matches, "address", "all");
+    let list = has_flag(matches, "address", "list");
+    let journal = value_of(matches, "address", "journal");
+    let progress = has_flag(matches, "address", "progress");
+    let job = Job::Address {
+        units,
+        all,
+        list,
+        journal,
+        progress,
+    };
+    Ok(Some(job))
+}
+
+// The short addresses that a command was given, where a parse entered it.
+fn short_addresses_of(
+    alloc: Global,
+    matches: &ArgMatches<'_>,
+    command: &str,
+) -> Result<Option<Vec<u8>>, AllocError>
+    ensures found { IfOk result (λ found. IfSome found (λ units.
+        HasUnits (subcommand_rows_of matches.now) command.now (codes "UNIT") units.items)) }
+    ensures none { IfOk result (λ found. IfNone found
+        ((units : List ℕ) → ¬ HasUnits (subcommand_rows_of matches.now) command.now (codes "UNIT") units)) }
+{
+    match values_of(alloc, matches, command, "UNIT")? {
+        Some(texts) => units_of(alloc, texts.as_slice()),
+        None => Ok(None),
+    }
 }
 
 // The job of the command that drives, where a parse entered it.

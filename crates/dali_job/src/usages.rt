@@ -245,6 +245,37 @@ Exit status: 0 all were asked, 1 for 3 Line, 4 End, 6 TooLong, or a unit that is
 2 the memory, the link or the output failed.",
 };
 
+pub(crate) static ADDRESS: Usage<'static> = Usage {
+    name: "address",
+    about: "\
+Gives units short addresses over a link: standard output has the frames, standard input the answers",
+    faults: "\
+Each unit without a short address gets one: the named ones in their order, or else the lowest that is free.
+Lines go to standard error: `unit A random RRRRRR` for each unit that has one of them then, read twice at A;
+`shared A` where several answer at A; and last `given G missing M shared S`, M being 1 where some unit has none.
+`open: units answer searches for up to 16.5 minutes` stands before it where the search may not be over in each
+unit: run the same command again, or wait.
+No memory bank is written, and no unit is write-enabled. Run it while no order is at work: an order goes to
+whichever unit has the short address. It keeps no state: after a kill the same command goes on.
+Refused before a frame is sent: a UNIT that is named twice, --all with --list, UNIT with --list, and with
+--journal a journal that doesn't stand idle or is in use: 15 Older, 20 Memory, 21 File. Where a unit has a named
+short address already nothing is given: only queries were sent. Faults of the link as of `read`.
+Exit status: 0 none is missing, shared or left open, 1 one is, something refused, or 3 Line, 4 End, 6 TooLong,
+2 a file, the memory, the link or the output failed.",
+};
+
+pub(crate) const ADDRESS_UNITS_HELP: &str =
+    "The short addresses that are given, 0 to 63, each once, in this order; the lowest free ones where none is named";
+
+pub(crate) const ADDRESS_ALL_HELP: &str =
+    "Takes all short addresses away first, one unit after the other, and gives them anew";
+
+pub(crate) const ADDRESS_LIST_HELP: &str =
+    "Gives none: tells who answers at each of the 64 short addresses, and whether a unit has none";
+
+pub(crate) const ADDRESS_JOURNAL_HELP: &str =
+    "A writer's journal that has to stand idle; no drive can use it meanwhile";
+
 pub(crate) const SCAN_UNITS_HELP: &str =
     "The short addresses that are asked, 0 to 63, each once; all where none is named";
 

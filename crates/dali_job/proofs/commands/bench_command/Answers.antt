@@ -35,5 +35,8 @@ returns c =
     let verifies =
     with_added _ c.with_made-reads.result c.verify_command.result c.with_made-verifies.result _ _ reads
     c.verify_command.ensures c.with_made-verifies.ensures in
-    with_added _ c.with_made-verifies.result c.scan_command.result c.with_made.result _ _ verifies
-    c.scan_command.ensures c.with_made.ensures
+    let scans =
+    with_added _ c.with_made-verifies.result c.scan_command.result c.with_made-scans.result _ _ verifies
+    c.scan_command.ensures c.with_made-scans.ensures in
+    with_added _ c.with_made-scans.result c.address_command.result c.with_made.result _ _ scans
+    c.address_command.ensures c.with_made.ensures

@@ -286,10 +286,10 @@ fn short_addresses_of(
     ensures none { IfOk result (λ found. IfNone found
         ((units : List ℕ) → ¬ HasUnits (subcommand_rows_of matches.now) command.now (codes "UNIT") units)) }
 {
-    match values_of(alloc, matches, command, "UNIT")? {
-        Some(texts) => units_of(alloc, texts.as_slice()),
-        None => Ok(None),
-    }
+    let Some(texts) = values_of(alloc, matches, command, "UNIT")? else {
+        return Ok(None);
+    };
+    units_of(alloc, texts.as_slice())
 }
 
 // The job of the command that drives, where a parse entered it.

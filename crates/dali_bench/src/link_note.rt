@@ -3,7 +3,7 @@
 use dali_faults::Status;
 use dali_file_commands::FileCommand;
 use dali_input::Input;
-use dali_link_commands::LinkCommand;
+use dali_link_commands::{LinkCommand, Linked};
 use dali_notes::{FirstLines, Kind};
 use dali_text::{Escaped, Output};
 use std::io::{LineWriter, Read, Write};
@@ -14,9 +14,9 @@ use std::{fs, io};
 const FRONT: usize = 4096;
 
 /// Tells why a command may have been refused.
-pub(crate) fn tell_refused(rt: &HostRuntime, command: LinkCommand<'_>) {
+pub(crate) fn tell_refused(rt: &HostRuntime, command: &Linked<'_>) {
     match command {
-        LinkCommand::Drive(task) => {
+        Linked::Bank(LinkCommand::Drive(task)) => {
             if task.follow {
                 tell_lines(rt, task.orders);
             } else {
@@ -24,8 +24,8 @@ pub(crate) fn tell_refused(rt: &HostRuntime, command: LinkCommand<'_>) {
             }
             tell_journal(rt, task.journal);
         }
-        LinkCommand::Verify { orders, .. } => tell_orders(rt, orders),
-        LinkCommand::Read { .. } | LinkCommand::Scan { .. } => {}
+        Linked::Bank(LinkCommand::Verify { orders, .. }) => tell_orders(rt, orders),
+        Linked::Bank(LinkCommand::Read { .. } | LinkCommand::Scan { .. }) | Linked::Address(_) => {}
     }
     if has_no_link(rt) {
         let _ = eprintln!(rt; "standard input is empty: start this over an adapter (docs/LINK.md)");

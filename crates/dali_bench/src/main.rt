@@ -3,7 +3,7 @@
 
 ghost use Rattle.std.specs.Prelude.{◌≤◌};
 ghost use Rattle.std.specs.List.{AllByRecursion};
-ghost use Rattle.dali_link_commands.specs.LinkCommands.{IsShort};
+ghost use Rattle.dali_link_commands.specs.AddressAnswers.{IsLinkedShort};
 
 mod fault_stream;
 mod link_note;
@@ -14,17 +14,19 @@ use crate::fault_stream::{FaultStream, out_of_memory, print_fault, tell_cause, u
 use crate::link_note::tell_refused;
 use crate::refusal::refused;
 use crate::settled::Settled;
+use dali_address::Task;
 use dali_drive::{Sought, StdSink, StdSource, StoreDesk};
 use dali_faults::Status;
 use dali_file_commands::FileCommand;
 use dali_file_commands::frame::frame;
 use dali_input::Input;
 use dali_job::{Job, job_of};
-use dali_link_commands::LinkCommand;
+use dali_link_commands::address::{AddressCommand, task_by};
 use dali_link_commands::asked::read_asked;
 use dali_link_commands::drive::{DriveTask, pace_of};
 use dali_link_commands::lines::Lines;
 use dali_link_commands::required::Required;
+use dali_link_commands::{LinkCommand, Linked};
 use dali_notes::FirstLines;
 use dali_report::{Cleared, Counted, Progress, progress_of};
 use dali_text::{Escaped, Output};
@@ -39,6 +41,13 @@ const VERSION: &str = "dali_bench 1.0, proved with the Rattle logic dac8208d650f
 // Where a command over a link is started with no link.
 const AT_A_TERMINAL: &str =
     "error: the frames go to standard output, which is a terminal: start this over an adapter (docs/LINK.md)";
+
+// Where `address` is to give short addresses and to give none.
+const ALL_AND_LIST: &str =
+    "error: --all gives short addresses and --list gives none: name one of them";
+
+const LISTED_UNITS: &str =
+    "error: --list gives no short address, and tells of all 64: leave UNIT out";
 
 // Where older journals are named beside none that is asked.
 const OLDER_ALONE: &str = "error: --older stands beside --journal: name that too";
@@ -123,7 +132,7 @@ fn run(rt: &HostRuntime, words: &Vec<String>) -> Status {
                 follow,
                 report,
             };
-            on_link(rt, LinkCommand::Drive(task), progress)
+            on_link(rt, Linked::Bank(LinkCommand::Drive(task)), progress)
         }
         Ok(
             Job::Read {
@@ -131,14 +140,20 @@ fn run(rt: &HostRuntime, words: &Vec<String>) -> Status {
                 bank,
                 progress,
             },
-        ) => { on_link(rt, LinkCommand::Read { unit, bank }, progress) }
+        ) => { on_link(rt, Linked::Bank(LinkCommand::Read { unit, bank }), progress) }
         Ok(
             Job::Verify {
                 orders,
                 report,
                 progress,
             },
-        ) => { on_link(rt, LinkCommand::Verify { orders, report }, progress) }
+        ) => {
+            on_link(
+                rt,
+                Linked::Bank(LinkCommand::Verify { orders, report }),
+                progress,
+            )
+        }
         Ok(
             Job::Scan {
                 units,
@@ -146,6 +161,25 @@ fn run(rt: &HostRuntime, words: &Vec<String>) -> Status {
                 progress,
             },
         ) => on_scan(rt, units.as_slice(), with_gtin, progress),
+        Ok(
+            Job::Address {
+                units,
+                all,
+                list,
+                journal,
+                progress,
+            },
+        ) => {
+            if all && list {
+                return refuse(rt, ALL_AND_LIST);
+            }
+            let command = AddressCommand {
+                task: task_by(all, list),
+                units: units.as_slice(),
+                journal,
+            };
+            on_address(rt, command, progress)
+        }
         Err(error) if error.kind() == clap::error::ErrorKind::OutOfMemory => out_of_memory(
             rt, stream,
         ),
@@ -164,7 +198,7 @@ fn asks_version(word: &str) -> bool {
 
 // Whether a command of this name has the link for its output.
 fn has_link(name: &str) -> bool {
-    matches!(name, "drive" | "read" | "verify" | "scan")
+    matches!(name, "drive" | "read" | "verify" | "scan" | "address")
 }
 
 fn print_version(rt: &HostRuntime) -> Status {
@@ -200,8 +234,7 @@ fn on_check(rt: &HostRuntime, orders: &str, journal: Option<&str>, older: &[&str
         if older.is_empty() {
             return on_file(rt, orders, FileCommand::Check { known: None });
         }
-        let _ = eprintln!(rt; "{OLDER_ALONE}");
-        return Status::Refused;
+        return refuse(rt, OLDER_ALONE);
     };
     match read_asked(rt, journal, older) {
         Ok(known) => on_file(
@@ -347,8 +380,7 @@ fn is_one_whole(command: FileCommand<'_>) -> bool {
 fn on_scan(rt: &HostRuntime, units: &[u8], with_gtin: bool, is_watched: bool) -> Status
     requires { AllByRecursion (λ unit. unit ≤ 63) units.now }
 {
-    if let Some(unit) = named_twice(units) {
-        let _ = eprintln!(rt; "error: unit {unit} is named twice: name each unit once");
+    if is_repeated(rt, units) {
         return Status::Refused;
     }
     let sought = if with_gtin {
@@ -356,14 +388,38 @@ fn on_scan(rt: &HostRuntime, units: &[u8], with_gtin: bool, is_watched: bool) ->
     } else {
         Sought::Last
     };
-    on_link(
-        rt,
-        LinkCommand::Scan {
-            addresses: units,
-            sought,
-        },
-        is_watched,
-    )
+    let command = LinkCommand::Scan {
+        addresses: units,
+        sought,
+    };
+    on_link(rt, Linked::Bank(command), is_watched)
+}
+
+// Gives these short addresses, or the lowest that are free where none is named, or lists all. One that is named twice is
+// told, and nothing is sent.
+fn on_address(rt: &HostRuntime, command: AddressCommand<'_>, is_watched: bool) -> Status {
+    if command.task == Task::List && !command.units.is_empty() {
+        return refuse(rt, LISTED_UNITS);
+    }
+    if is_repeated(rt, command.units) {
+        return Status::Refused;
+    }
+    on_link(rt, Linked::Address(command), is_watched)
+}
+
+// Tells why the command line is refused.
+fn refuse(rt: &HostRuntime, why: &str) -> Status {
+    let _ = eprintln!(rt; "{why}");
+    Status::Refused
+}
+
+// Whether a unit is named twice, which is told then.
+fn is_repeated(rt: &HostRuntime, units: &[u8]) -> bool {
+    let Some(unit) = named_twice(units) else {
+        return false;
+    };
+    let _ = eprintln!(rt; "error: unit {unit} is named twice: name each unit once");
+    true
 }
 
 // The first unit that was named before.
@@ -379,12 +435,11 @@ fn named_twice(units: &[u8]) -> Option<u8> {
 // Carries out a command over standard input and output. Where standard error can't be written, nothing more is. A
 // person at a terminal is told what is missing: the frames would be printed there, and the answers waited for. Who asks
 // for it watches how far the command is, and is told what may be wrong where it is refused.
-fn on_link(rt: &HostRuntime, command: LinkCommand<'_>, is_watched: bool) -> Status
-    requires { IsShort command }
+fn on_link(rt: &HostRuntime, command: Linked<'_>, is_watched: bool) -> Status
+    requires { IsLinkedShort command }
 {
     if rt.stdout().is_terminal() {
-        let _ = eprintln!(rt; "{AT_A_TERMINAL}");
-        return Status::Refused;
+        return refuse(rt, AT_A_TERMINAL);
     }
     let progress = progress_of(*rt, is_watched, command.watched());
     let status = carried_out(rt, command, progress.as_ref());
@@ -392,14 +447,14 @@ fn on_link(rt: &HostRuntime, command: LinkCommand<'_>, is_watched: bool) -> Stat
         progress.end();
     }
     if is_watched && status == Status::Refused {
-        tell_refused(rt, command);
+        tell_refused(rt, &command);
     }
     status
 }
 
 // Carries out a command over standard input and output, beside what is watched, if that is.
-fn carried_out(rt: &HostRuntime, command: LinkCommand<'_>, progress: Option<&Progress>) -> Status
-    requires { IsShort command }
+fn carried_out(rt: &HostRuntime, command: Linked<'_>, progress: Option<&Progress>) -> Status
+    requires { IsLinkedShort command }
 {
     let Ok(lines) = LineWriter::new(rt.alloc(), Cleared::new(rt.stderr(), progress)) else {
         return out_of_memory(rt, FaultStream::Lines);

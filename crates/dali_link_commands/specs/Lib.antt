@@ -9,3 +9,4 @@ pub mod Asked
 pub mod BehindAnswers
 pub mod ReadAnswers
 pub mod LinkCommands
+pub mod AddressAnswers

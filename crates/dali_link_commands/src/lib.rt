@@ -2,6 +2,7 @@
 //! status.
 #![tactic(auto)]
 
+pub mod address;
 pub mod asked;
 mod broken;
 pub mod drive;
@@ -12,6 +13,7 @@ pub mod follow_files;
 pub mod journal_files;
 pub mod lines;
 mod link_command;
+mod linked;
 pub mod older;
 mod older_lines;
 pub mod read;
@@ -24,3 +26,4 @@ pub mod survey_files;
 mod words;
 
 pub use link_command::LinkCommand;
+pub use linked::Linked;

@@ -159,8 +159,15 @@ impl<'a> Unjoined<'a> {
     }
 }
 
-/// The journals of the files of these names as one, each behind those that are named before it; none where none is
-/// named. All are open, and no drive can open one, before the first of them is read.
+/// The files of journals that are at rest, and the one journal that they are, each behind those that are named before
+/// it; none where none is named. As long as this is there no drive can open one of them.
+#[derive(Drop)]
+pub(crate) struct HeldOlder<S: Store + Drop> {
+    pub(crate) journal: Option<Journal>,
+    files: Vec<S>,
+}
+
+/// The journals of the files of these names as one, as `held_older` has it.
 pub(crate) fn read_older<'a, R: JournalFiles + AllocGlobal>(
     rt: &R,
     names: &'a [&'a str],
@@ -170,9 +177,28 @@ pub(crate) fn read_older<'a, R: JournalFiles + AllocGlobal>(
     ensures err { OnErr result (names.entry.now ≢ []) }
     ensures why { IfErr result (λ unjoined. MayBeUnusable (held_under (R.has rt.now) names.entry.now) unjoined.fault) }
 {
+    match held_older(rt, names) {
+        Ok(held) => Ok(held.journal),
+        Err(unjoined) => Err(unjoined),
+    }
+}
+
+/// The files of these names as one journal. All are open, and no drive can open one, before the first of them is read.
+pub(crate) fn held_older<'a, R: JournalFiles + AllocGlobal>(
+    rt: &R,
+    names: &'a [&'a str],
+) -> Result<HeldOlder<R::Opened>, Unjoined<'a>>
+    ensures ok { IfOk result (λ held. AreJoined (held_under (R.has rt.now) names.entry.now) held.journal) }
+    ensures rests { IfOk result (λ held. IfSome held.journal (λ journal. standing_of journal.records ≡ Idle)) }
+    ensures err { OnErr result (names.entry.now ≢ []) }
+    ensures why { IfErr result (λ unjoined. MayBeUnusable (held_under (R.has rt.now) names.entry.now) unjoined.fault) }
+{
     let mut stores = all_opened(rt, names)?;
     match joined_older(rt.alloc(), &mut stores) {
-        Ok(older) => Ok(older),
+        Ok(journal) => Ok(HeldOlder {
+            journal,
+            files: stores,
+        }),
         Err(unusable) => Err(Unjoined {
             name: names[unusable.index],
             fault: unusable.fault,

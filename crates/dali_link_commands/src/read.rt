@@ -83,8 +83,8 @@ fn tell_unwritten<W: Write>(
     }
 }
 
-// Writes a line, and gives the status where that could be done.
-fn tell_line<W: Write>(lines: &mut Lines<W>, line: &[u8], good: Status) -> Status
+/// Writes a line, and gives the status where that could be done.
+pub(crate) fn tell_line<W: Write>(lines: &mut Lines<W>, line: &[u8], good: Status) -> Status
     requires { has_failed lines.old.output ≡ false }
     ensures told { TellsLine line.now good result
         (held W.contents lines.old.output) (held W.contents lines.new.output) }

@@ -28,6 +28,9 @@ const UNWRAPPED: &str = "\x1B[?7l";
 
 const WRAPPED: &str = "\x1B[?7h";
 
+// How a line begins that tells of a unit and its random address.
+const UNIT_LINE: &str = "unit ";
+
 /// Of what a person watches how far it is.
 #[derive(Clone, Copy, PartialEq, Eq)]
 pub enum Watched {
@@ -39,6 +42,8 @@ pub enum Watched {
     Read,
     /// So many addresses are asked whether a unit answers.
     Scan(u64),
+    /// Units get short addresses, or are told by them.
+    Address,
 }
 
 /// What a person watches of a command over a link. On a terminal it is one line, drawn again in place at most every 16
@@ -216,8 +221,18 @@ impl Progress {
         }
     }
 
+    // These bytes of lines come in the place of the one that is drawn. A unit that they tell of is one that was found.
+    pub(crate) fn tell(&self, bytes: &[u8]) {
+        self.clear();
+        if self.watched == Watched::Address && bytes.starts_with(UNIT_LINE.as_bytes()) {
+            let mut state = self.state.get();
+            state.good = state.good.saturating_add(1);
+            self.state.set(state);
+        }
+    }
+
     // Clears the line, where it is drawn: another one takes its place.
-    pub(crate) fn clear(&self) {
+    fn clear(&self) {
         let mut screen = self.screen.get();
         if screen.is_drawn {
             screen.is_drawn = false;

@@ -17,6 +17,7 @@ impl fmt::Display for Now {
             Watched::Verify => self.write_compared(f),
             Watched::Read => self.write_unit(f),
             Watched::Scan(units) => self.write_asked(f, units),
+            Watched::Address => self.write_found(f),
         }
     }
 }
@@ -70,6 +71,11 @@ impl Now {
         self.write_left(f, self.state.frames.saturating_mul(to_ask) / asked)
     }
 
+    fn write_found<W: fmt::Write>(&self, f: &mut fmt::Formatter<W>) -> fmt::Result {
+        let WatchState { good, frames, .. } = self.state;
+        write!(f, "found {good}, frame {frames}")
+    }
+
     fn write_unit<W: fmt::Write>(&self, f: &mut fmt::Formatter<W>) -> fmt::Result {
         if let Some(unit) = self.state.unit {
             write!(f, "unit {unit}, ")?;
@@ -105,6 +111,10 @@ impl fmt::Display for Totals {
             Watched::Read | Watched::Scan(_) => {
                 let frames = self.state.frames;
                 write!(f, "frames {frames}")?;
+            }
+            Watched::Address => {
+                let WatchState { good, frames, .. } = self.state;
+                write!(f, "found {good}, frames {frames}")?;
             }
         }
         match self.state.meter.seconds() {

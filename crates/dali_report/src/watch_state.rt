@@ -108,7 +108,8 @@ pub(crate) struct WatchState {
     /// All frames and misses.
     pub(crate) frames: u64,
     pub(crate) misses: u64,
-    /// The orders that are done by this command, or are the same, and those that were done before.
+    /// The orders that are done by this command, or are the same, or the units that were found; and the orders that
+    /// were done before.
     pub(crate) good: u64,
     pub(crate) known: u64,
     /// Whether the journal had no order when the drive began.

@@ -28,14 +28,14 @@ impl<W: Write> Write for Cleared<'_, W> {
 
     fn write(&mut self, bytes: &[u8]) -> io::Result<usize> {
         if let Some(progress) = self.progress {
-            progress.clear();
+            progress.tell(bytes);
         }
         self.writer.write(bytes)
     }
 
     fn write_all(&mut self, bytes: &[u8]) -> io::Result<()> {
         if let Some(progress) = self.progress {
-            progress.clear();
+            progress.tell(bytes);
         }
         self.writer.write_all(bytes)
     }

@@ -1,0 +1,95 @@
+-- What `address` answers and writes.
+use Rattle.std.specs.Prelude.{◌≡◌, ◌⊎◌, ◌&&◌, not, ℕ, Bool, true, false, List, [], ◌∷◌, Option, Some, None, ⊤}
+use Rattle.std.specs.Prelude.{nat_eq, if◌then◌else◌}
+use Rattle.std.specs.Borrow.{Bor}
+use Rattle.dali_address.specs.declared.task.Summary.{Summary}
+use Rattle.dali_address.specs.declared.task.Task.{Task}
+use Rattle.dali_address.specs.declared.task.Task.TheVariants.{All, Give}
+use Rattle.dali_address.specs.declared.task.Task.TheVariants as tasks
+use Rattle.dali_address_link.specs.declared.run.End.{End}
+use Rattle.dali_address_link.specs.declared.run.End.TheVariants.{Done, Taken}
+use Rattle.dali_address_link.specs.Addressed.{AddressingBroke, IsAddressed}
+use Rattle.dali_address_link.specs.AddressLines.{end_text}
+use Rattle.dali_drive.specs.Desks.{IsUnfailed, Look, ShowsFault}
+use Rattle.dali_trace.specs.declared.fault.DriveFault.{DriveFault}
+use Rattle.dali_faults.specs.declared.fault.Status.{Status}
+use Rattle.dali_faults.specs.declared.fault.Status.TheVariants.{Good, Refused}
+use Rattle.dali_store.specs.Files.{IsIn}
+use Rattle.dali_store.specs.declared.file_store.FileStore.{FileStore}
+use Rattle.dali_link_commands.specs.declared.address.AddressCommand.{AddressCommand}
+use Rattle.dali_link_commands.specs.declared.linked.Linked.{Linked}
+use Rattle.dali_link_commands.specs.declared.linked.Linked.TheVariants.{Address, Bank}
+use Rattle.dali_link_commands.specs.declared.older.OlderFault.{OlderFault}
+use Rattle.dali_link_commands.specs.Benches.{IsUndriven, with_lines}
+use Rattle.dali_link_commands.specs.BehindAnswers.{IsBehindNamed, MayBeUnusable}
+use Rattle.dali_link_commands.specs.LinkCommands.{HasStore, IsLinkAnswer, IsShort}
+use Rattle.dali_link_commands.specs.Older.{fault_older}
+use Rattle.dali_link_commands.specs.ReadAnswers.{IsUntouched, on_link}
+use Rattle.dali_link_commands.specs.Told.{IsFaultTold, IsFileFaultTold, TellsLine}
+
+-- by the flags that ask to give all anew, and to list
+abbrev pub task_of : Bool → Bool → Task
+task_of all list = if list then tasks.List else if all then All else Give
+
+-- no unit is without a short address, none is shared, and none may be left in the initialisation state
+abbrev pub is_well : Summary → Bool
+is_well summary = nat_eq summary.missing 0 && nat_eq summary.shared 0 && not summary.open
+
+abbrev pub status_at_end : End → Status
+status_at_end (Done summary) = if is_well summary then Good else Refused
+status_at_end (Taken short) = Refused
+
+module _ (task : Task) (first : Look) (status : Status) (last : Look) where
+  -- the run came to its end, which was told
+  pub record EndsRun : Type 0 where
+    pub end : End
+    pub lines : Option (List ℕ)
+    pub lost : Bool
+    pub addressed : IsAddressed task end (on_link first) (on_link (with_lines last lines lost))
+    pub untouched : IsUntouched first last
+    pub unfailed : IsUnfailed (with_lines last lines lost).failed
+    pub told : TellsLine (end_text end) (status_at_end end) status lines last.streams.out
+
+  -- the link or the output broke it off, which is told
+  pub record BreaksRun : Type 0 where
+    pub fault : DriveFault
+    pub lines : Option (List ℕ)
+    pub lost : Bool
+    pub broke : AddressingBroke task fault (on_link first) (on_link (with_lines last lines lost))
+    pub untouched : IsUntouched first last
+    pub failed : ShowsFault fault (with_lines last lines lost).failed
+    pub told : IsFaultTold fault status lines last.streams.out
+
+  abbrev pub IsRunAnswer : Type 0
+  IsRunAnswer = EndsRun ⊎ BreaksRun
+
+-- what is known of the journal, if one is named
+abbrev pub held_named : (List ℕ → Option (List ℕ)) → Option (Bor (List ℕ)) → List (Option (List ℕ))
+held_named has None = []
+held_named has (Some name) = has name.now ∷ []
+
+-- the journal can't be used, or isn't at rest, which is told, and nothing else was done
+abbrev pub EndsUnrun : List (Option (List ℕ)) → Look → Status → Look → Type 0
+EndsUnrun knowns first status last = (fault : OlderFault) × MayBeUnusable knowns fault × IsUndriven first last
+    × IsFileFaultTold (fault_older fault) status first.streams.out last.streams.out
+
+-- the journal, if one is named, is at rest, and a run was made; or it is of no use
+abbrev pub IsAddressAnswer : (List ℕ → Option (List ℕ)) → AddressCommand → Look → Status → Look → Type 0
+IsAddressAnswer has command first status last =
+    IsBehindNamed (held_named has command.journal) (λ rests. IsRunAnswer command.task first status last)
+    (EndsUnrun (held_named has command.journal) first status last)
+
+-- What the program does over a link: what the command does. Its store is the command's; `address` has one without a
+-- name.
+
+abbrev pub HasLinkedStore : {R : Type 0} → Linked → FileStore R → Type 0
+HasLinkedStore (Bank command) store = HasStore command store
+HasLinkedStore (Address command) store = IsIn false true [] store
+
+abbrev pub IsLinkedShort : Linked → Type 0
+IsLinkedShort (Bank command) = IsShort command
+IsLinkedShort (Address command) = ⊤
+
+abbrev pub IsLinkedAnswer : (List ℕ → Option (List ℕ)) → Linked → Look → Status → Look → Type 0
+IsLinkedAnswer has (Bank command) first status last = IsLinkAnswer has command first status last
+IsLinkedAnswer has (Address command) first status last = IsAddressAnswer has command first status last

@@ -15,8 +15,8 @@ const MOST_END: usize = 96;
 /// What tells how a run ended, of at most 96 bytes.
 pub type EndText = ArrayVec<u8, MOST_END>;
 
-// Where units may still be in the initialisation state.
-const OPEN: &str = "open: units answer searches for up to 16.5 minutes\n";
+/// The line that tells that units may still be in the initialisation state.
+pub const OPEN: &str = "open: units answer searches for up to 16.5 minutes\n";
 
 /// The line of what a run tells on its way: `unit A random RRRRRR` or `shared A`.
 #[tactic(auto, using(dali_drive::proofs::UnitLineLemmas::short_byte))]

@@ -4,5 +4,5 @@
 mod address_lines;
 mod run;
 
-pub use address_lines::{EndText, address_line, end_text};
+pub use address_lines::{EndText, OPEN, address_line, end_text};
 pub use run::{End, address_units};

@@ -9,11 +9,14 @@ use Rattle.dali_address.specs.declared.task.Task.TheVariants as tasks
 use Rattle.dali_address_link.specs.declared.run.End.{End}
 use Rattle.dali_address_link.specs.declared.run.End.TheVariants.{Done, Taken}
 use Rattle.dali_address_link.specs.Addressed.{AddressingBroke, IsAddressed}
-use Rattle.dali_address_link.specs.AddressLines.{end_text}
+use Rattle.dali_address_link.specs.AddressLines.{end_text, open_line}
 use Rattle.dali_drive.specs.Desks.{IsUnfailed, Look, ShowsFault}
 use Rattle.dali_trace.specs.declared.fault.DriveFault.{DriveFault}
+use Rattle.dali_trace.specs.declared.fault.DriveFault.TheVariants.{Out}
+use Rattle.dali_drive.specs.Streams.{PutsFirst}
+use Rattle.std.specs.Io.KnownBytes.{Appends}
 use Rattle.dali_faults.specs.declared.fault.Status.{Status}
-use Rattle.dali_faults.specs.declared.fault.Status.TheVariants.{Good, Refused}
+use Rattle.dali_faults.specs.declared.fault.Status.TheVariants.{Good, Refused, Unwritten}
 use Rattle.dali_store.specs.Files.{IsIn}
 use Rattle.dali_store.specs.declared.file_store.FileStore.{FileStore}
 use Rattle.dali_link_commands.specs.declared.address.AddressCommand.{AddressCommand}
@@ -39,6 +42,19 @@ abbrev pub status_at_end : End → Status
 status_at_end (Done summary) = if is_well summary then Good else Refused
 status_at_end (Taken short) = Refused
 
+-- units may be in the initialisation state where a fault broke a run off, and that can be told: a list brings none in
+abbrev pub is_left_open : Task → DriveFault → Bool
+is_left_open tasks.List fault = false
+is_left_open task Out = false
+is_left_open task fault = true
+
+-- how it is told that a fault broke a run off: where units may be left open, that first
+abbrev pub TellsBreak : Bool → DriveFault → Status → Option (List ℕ) → Option (List ℕ) → Type 0
+TellsBreak true fault status before after =
+    ((status ≡ Unwritten) × PutsFirst before after open_line)
+    ⊎ ((lines : Option (List ℕ)) × Appends before lines open_line × IsFaultTold fault status lines after)
+TellsBreak false fault status before after = IsFaultTold fault status before after
+
 module _ (task : Task) (first : Look) (status : Status) (last : Look) where
   -- the run came to its end, which was told
   pub record EndsRun : Type 0 where
@@ -58,7 +74,7 @@ module _ (task : Task) (first : Look) (status : Status) (last : Look) where
     pub broke : AddressingBroke task fault (on_link first) (on_link (with_lines last lines lost))
     pub untouched : IsUntouched first last
     pub failed : ShowsFault fault (with_lines last lines lost).failed
-    pub told : IsFaultTold fault status lines last.streams.out
+    pub told : TellsBreak (is_left_open task fault) fault status lines last.streams.out
 
   abbrev pub IsRunAnswer : Type 0
   IsRunAnswer = EndsRun ⊎ BreaksRun

@@ -3,9 +3,10 @@ ghost use Rattle.std.specs.Prelude.{◌≡◌, ◌≢◌, ◌↔◌, false, true
 ghost use Rattle.dali_drive.specs.Desks.{IsUnfailed};
 ghost use Rattle.dali_text.specs.Output.{has_failed, held};
 ghost use Rattle.dali_address_link.specs.AddressLines.{end_text as text_at_end};
-ghost use Rattle.dali_link_commands.specs.AddressAnswers.{IsAddressAnswer, IsRunAnswer, status_at_end, task_of};
+ghost use Rattle.dali_link_commands.specs.AddressAnswers.{IsAddressAnswer, IsRunAnswer, TellsBreak};
+ghost use Rattle.dali_link_commands.specs.AddressAnswers.{is_left_open as left_open, status_at_end, task_of};
 ghost use Rattle.dali_link_commands.specs.Benches.{TellsUnwritten, bench, std_bench};
-ghost use Rattle.dali_link_commands.specs.Told.{TellsLine};
+ghost use Rattle.dali_link_commands.specs.Told.{TellsLine, is_out};
 
 use crate::drive_files::tell_unjoined;
 use crate::drive_lines::{Causes, tell_fault};
@@ -14,8 +15,8 @@ use crate::lines::Lines;
 use crate::older::held_older;
 use crate::read::tell_line;
 use dali_address::Task;
-use dali_address_link::{End, address_units, end_text};
-use dali_drive::{Sink, Source, StdSink, StdSource, StoreDesk};
+use dali_address_link::{End, OPEN, address_units, end_text};
+use dali_drive::{DriveFault, Sink, Source, StdSink, StdSource, StoreDesk, put_all};
 use dali_faults::Status;
 use dali_store::{FileStore, Store};
 use std::alloc::Global;
@@ -75,9 +76,9 @@ impl AddressCommand<'_> {
 }
 
 /// Gives or lists short addresses over streams that haven't failed, as `address_units` does: its lines, then what tells
-/// how it ended, or the line of the fault that ends it, 2 Link, 3 Line, 4 End or 6 TooLong. It ends as `Good` where no
-/// unit is left without a short address, none is shared, and none may be left in the initialisation state, else as
-/// `Refused`.
+/// how it ended, or the line of the fault that ends it, 2 Link, 3 Line, 4 End or 6 TooLong, and before that, unless it
+/// lists, that units may be left in the initialisation state. It ends as `Good` where no unit is left without a short
+/// address, none is shared, and none may be left in that state, else as `Refused`.
 ///
 /// Where `lines` fails it is 7 Out, or there stands a first part of the last text.
 pub fn address<I: Source, L: Sink, S: Store, W: Write>(
@@ -109,8 +110,37 @@ pub fn address<I: Source, L: Sink, S: Store, W: Write>(
                 link_out: desk.link_out.cause(),
                 store: None,
             };
-            tell_fault(alloc, &mut desk.out, fault, causes)
+            tell_break(alloc, &mut desk.out, task, fault, causes)
         }
+    }
+}
+
+// Tells why a run broke off.
+fn tell_break<W: Write>(
+    alloc: Global,
+    lines: &mut Lines<W>,
+    task: Task,
+    fault: DriveFault,
+    causes: Causes<'_>,
+) -> Status
+    requires { has_failed lines.old.output ≡ is_out fault }
+    ensures told { TellsBreak (left_open task fault) fault result
+        (held W.contents lines.old.output) (held W.contents lines.new.output)
+        × (result ≡ Status.Unwritten ↔ has_failed lines.new.output ≡ true) }
+{
+    if is_left_open(task, fault) && !put_all(lines, OPEN.as_bytes()) {
+        return Status::Unwritten;
+    }
+    tell_fault(alloc, lines, fault, causes)
+}
+
+// Whether units may be in the initialisation state where a run broke off, and that can be told.
+fn is_left_open(task: Task, fault: DriveFault) -> bool
+    ensures { result ≡ left_open task fault }
+{
+    match (task, fault) {
+        (Task::List, _) | (_, DriveFault::Out) => false,
+        _ => true,
     }
 }
 

@@ -1,9 +1,9 @@
 #!/usr/bin/env python3
 """Give short addresses over benches of ten simulated units that lose 5 % of frames and answers, with kills.
 
-    address_benches.py [--count N] [--first K]
+    address_benches.py [--count N] [--first K] [PROGRAM]
 
-The plan of address_plan.py is run. Each bench hangs on its number alone: some units have a short
+PROGRAM is run, or where none is given the plan of address_plan.py. Each bench hangs on its number alone: some units have a short
 address before, the standard is read in each way that it may be, and up to three runs are killed before one comes to its
 end.
 No unit may lose its address, be told another one than it has, or be left without one unsaid. The last line is
@@ -12,6 +12,7 @@ No unit may lose its address, be told another one than it has, or be left withou
 
 import argparse
 import multiprocessing
+import pathlib
 import sys
 import traceback
 
@@ -19,12 +20,14 @@ sys.dont_write_bytecode = True
 
 import address_cases  # noqa: E402
 from address_desk import plan_over  # noqa: E402
+from address_runs import program_over  # noqa: E402
 
 
-def judged(number):
-    """Run one bench; give its number, and what was wrong, or None."""
+def judged(bench):
+    """Run one bench by a program, or by the plan; give its number, and what was wrong, or None."""
+    program, number = bench
     try:
-        address_cases.want_bench(plan_over, number)
+        address_cases.want_bench(program_over(program) if program else plan_over, number)
         return number, None
     except Exception:
         return number, traceback.format_exc()
@@ -36,10 +39,12 @@ def main():
     parser.add_argument("--count", type=int, default=1000)
     parser.add_argument("--first", type=int, default=0)
     parser.add_argument("--beside", type=int, default=1, help="how many benches run at once (default: %(default)s)")
+    parser.add_argument("program", nargs="?", type=pathlib.Path, metavar="PROGRAM")
     options = parser.parse_args()
-    failed, numbers = 0, range(options.first, options.first + options.count)
+    program = options.program and options.program.resolve()
+    failed, benches = 0, [(program, options.first + number) for number in range(options.count)]
     with multiprocessing.Pool(options.beside) as pool:
-        for number, wrong in pool.imap_unordered(judged, numbers):
+        for number, wrong in pool.imap_unordered(judged, benches):
             if wrong:
                 failed += 1
                 print(f"FAILED: bench {number}\n{wrong}", flush=True)

@@ -6,26 +6,31 @@ from base import settings
 import address_desk
 import address_plan
 
+BROKEN = "4 End"
+
 
 class Addressing(driven.Desk):
-    """Runs of `address` in a folder, with the words behind it that are given."""
+    """Runs of `address`, with the words behind it that are given."""
 
     def __init__(self, words=(), program=None):
         self.program = program or settings["program"]
-        self.given = [str(word) for word in words]
+        self.options, self.given = [], [str(word) for word in words]
 
     def words(self):
         """Give the command line."""
-        return [self.program, "address", *self.given]
+        return [self.program, "address", *self.options, *self.given]
 
     def look_at(self, sent):
-        """Raise where a frame was sent that isn't one of addresses, so one of a memory bank."""
+        """Raise where a whole line was sent that isn't a frame of addresses, as one of a memory bank."""
         for line in sent.splitlines(keepends=True):
             assert driven.OF_ADDRESSES.fullmatch(line) or not line.endswith(b"\n"), line
 
 
 def program_over(program=None):
-    """Give what runs the program over a bus, as `plan_over` runs the plan. The program has no census: that is the plan's."""
+    """Give what runs the program over a bus, as `plan_over` runs the plan.
+
+    The program has no census: that is the plan's.
+    """
     def over(bus, words=(), stop=None):
         if "--count" in words:
             return address_desk.plan_over(bus, words, stop)
@@ -33,16 +38,17 @@ def program_over(program=None):
     return over
 
 
-def planned(answers, words=()):
-    """Give how `address` ends by the plan where these answers come, a line for each frame, and then no more."""
-    sent, left = [], list(answers)
+def broken_off(answers, words=()):
+    """Give how a run has to end by the plan that gets these answers, as `FF` or `--`, and then no more."""
+    left = list(answers)
 
-    def carry(word):
-        sent.append(b"%04X\n" % word)
+    def carry(_):
+        if not left:
+            raise address_plan.Broken(BROKEN)
         answer = left.pop(0)
         return None if answer == "--" else int(answer, 16)
 
-    task = address_desk.task_of(words)
-    status, told = 0, ""
-    run = address_plan.Run(carry, [int(word) for word in words if word not in address_desk.TASKS], task)
-    return driven.Ended(*run.ended())
+    units = [int(word) for word in words if word not in address_desk.TASKS]
+    ended = driven.Ended(*address_plan.Run(carry, units, address_desk.task_of(words)).ended())
+    # A list brings no unit into the initialisation state.
+    return ended._replace(told=ended.told.replace(address_plan.OPEN, "")) if "--list" in words else ended

@@ -1,0 +1,20 @@
+#!/usr/bin/env python3
+"""Test `dali_bench address`: the built program over pipes, simulated units, journals and kills.
+
+    test_address.py [PROGRAM [FOLDER]]
+
+PROGRAM is that of the checkout, where none is given. FOLDER has drive_shim.so and refuse_alloc.so, built from the C
+files of this folder; without it they are built here. The last line is `N passed, M failed`, and the status is 0 only
+where none failed. What couldn't be tested on this machine has a line that begins with `skipped`.
+"""
+
+import sys
+
+sys.dont_write_bytecode = True
+
+import beside  # noqa: E402
+
+MODULES = ("address_units", "address_streams")
+
+if __name__ == "__main__":
+    sys.exit(beside.main(__doc__, MODULES, sys.argv[1:]))

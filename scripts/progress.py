@@ -9,9 +9,10 @@ from crates import ONE_CHECK, free_memory
 # run had them, of the 11.3 minutes that another one took.
 DONE_AFTER = {
     "dali_bank": 0.9, "dali_frame": 0.9, "dali_bus": 1.5, "dali_gear": 1.5, "dali_journal": 2.3, "dali_write": 2.3,
-    "dali_job": 2.3, "dali_trace": 3, "dali_read": 3, "dali_laws": 3.2, "dali_store": 3.8, "dali_engine": 4.3,
-    "dali_text": 5.7, "dali_input": 5.7, "dali_faults": 6.2, "dali_drive": 6.7, "dali_follow": 7.6, "dali_report": 7.6,
-    "dali_notes": 8.6, "dali_link_commands": 9.4, "dali_file_commands": 9.9,
+    "dali_job": 2.3, "dali_address": 2.3, "dali_trace": 3, "dali_read": 3, "dali_laws": 3.2, "dali_store": 3.8,
+    "dali_engine": 4.3, "dali_text": 5.7, "dali_input": 5.7, "dali_faults": 6.2, "dali_drive": 6.7,
+    "dali_address_link": 7.2, "dali_follow": 7.6, "dali_report": 7.6, "dali_notes": 8.6, "dali_link_commands": 9.4,
+    "dali_file_commands": 9.9,
 }
 # What the program itself takes behind them.
 PROGRAM_TAKES = 1.4

@@ -27,7 +27,7 @@ RATTLE = f'#!/bin/sh\n{OUT_OF}echo >"$out"\n'
 LINK = f'#!/bin/sh\n{OUT_OF}printf \'#!/bin/sh\\necho ran\\n\' >"$out"; chmod +x "$out"\n'
 NEEDS = (r"dali_bench: {} and the program take {} on four cores, up to 2.1 GB of disk \(\d+\.\d GB are"
          r" free\) and at least 4.3 GB of memory \(\d+\.\d GB are free\)")
-IS_PROVED = re.compile(r"dali_bench: (dali_\w+) is proved: (\d+) of 21 libraries, (a|some \d+) minutes? left")
+IS_PROVED = re.compile(r"dali_bench: (dali_\w+) is proved: (\d+) of 23 libraries, (a|some \d+) minutes? left")
 
 
 class Clock:
@@ -57,11 +57,11 @@ def test_each_library_has_its_minutes(folder):
 def test_time_that_is_left(folder):
     # As it was measured: 11.3 minutes in all, of which these take 1.5.
     want(told(set(), ("dali_frame", 0.45), ("dali_bank", 0.9), ("dali_gear", 1.2), ("dali_bus", 1.5))[1:],
-         ["2 of 21 libraries, some 10 minutes left",
-          "3 of 21 libraries, some 10 minutes left", "4 of 21 libraries, some 10 minutes left"])
+         ["2 of 23 libraries, some 10 minutes left",
+          "3 of 23 libraries, some 10 minutes left", "4 of 23 libraries, some 10 minutes left"])
     # On a machine that takes three times as long, and one that takes a tenth.
-    want(told(set(), ("dali_frame", 1.35), ("dali_bank", 2.7))[1], "2 of 21 libraries, some 31 minutes left")
-    want(told(set(), ("dali_frame", 0.045), ("dali_bank", 0.09))[1], "2 of 21 libraries, a minute left")
+    want(told(set(), ("dali_frame", 1.35), ("dali_bank", 2.7))[1], "2 of 23 libraries, some 31 minutes left")
+    want(told(set(), ("dali_frame", 0.045), ("dali_bank", 0.09))[1], "2 of 23 libraries, a minute left")
 
 
 def test_time_of_what_was_proved_before(folder):
@@ -69,13 +69,13 @@ def test_time_of_what_was_proved_before(folder):
     known = set(names[:-2])
     lines = told(known, *((name, 0) for name in names[:-2]), (names[-2], 1.6), (names[-1], 2.6))
     # 1.3 of link_commands and file_commands, and 1.4 of the program; then twice as slow: 0.5 and 1.4 take 3.8.
-    want([lines[0], lines[18], *lines[19:]],
-         ["1 of 21 libraries, some 3 minutes left", "19 of 21 libraries, some 3 minutes left",
-          "20 of 21 libraries, some 4 minutes left", "21 of 21 libraries, some 3 minutes left"])
+    want([lines[0], lines[20], *lines[21:]],
+         ["1 of 23 libraries, some 3 minutes left", "21 of 23 libraries, some 3 minutes left",
+          "22 of 23 libraries, some 4 minutes left", "23 of 23 libraries, some 3 minutes left"])
 
 
 def test_no_time_where_nobody_knows_what_is_proved(folder):
-    want(told(None, ("dali_frame", 5)), ["1 of 21 libraries"])
+    want(told(None, ("dali_frame", 5)), ["1 of 23 libraries"])
 
 
 def repository(folder):
@@ -108,11 +108,11 @@ def test_the_first_command_tells_how_far_it_is(folder):
     first, needs, *proved, last = build(root, environment)
     want((first, last), ("dali_bench: proving and building the program, once for these sources; this takes minutes",
                          "dali_bench: built"))
-    assert re.fullmatch(NEEDS.format("21 libraries", "some 11 minutes"), needs), needs
+    assert re.fullmatch(NEEDS.format("23 libraries", "some 11 minutes"), needs), needs
     found = [IS_PROVED.fullmatch(line) for line in proved]
     assert None not in found, proved
     want(sorted(it[1] for it in found), sorted(progress.DONE_AFTER))
-    want([int(it[2]) for it in found], list(range(1, 22)))
+    want([int(it[2]) for it in found], list(range(1, 24)))
     want(build(root, environment), [])
 
 
@@ -146,8 +146,8 @@ def test_a_later_build_counts_what_is_left(folder):
     _, needs, *proved, _ = build(root, environment)
     # 0.6 minutes of that library, and 1.6 of the program.
     assert re.fullmatch(NEEDS.format("1 library", "some 2 minutes"), needs), needs
-    want(len(proved), 21)
-    assert proved[0].endswith(" is proved: 1 of 21 libraries, some 2 minutes left"), proved[0]
+    want(len(proved), 23)
+    assert proved[0].endswith(" is proved: 1 of 23 libraries, some 2 minutes left"), proved[0]
 
 
 if __name__ == "__main__":

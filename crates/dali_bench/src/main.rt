@@ -395,8 +395,8 @@ fn on_scan(rt: &HostRuntime, units: &[u8], with_gtin: bool, is_watched: bool) ->
     on_link(rt, Linked::Bank(command), is_watched)
 }
 
-// Gives these short addresses, or the lowest that are free where none is named, or lists all. One that is named twice is
-// told, and nothing is sent.
+// Gives these short addresses, or the lowest that are free where none is named, or lists all. One that is named twice
+// is told, and nothing is sent.
 fn on_address(rt: &HostRuntime, command: AddressCommand<'_>, is_watched: bool) -> Status {
     if command.task == Task::List && !command.units.is_empty() {
         return refuse(rt, LISTED_UNITS);

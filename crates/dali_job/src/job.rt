@@ -164,7 +164,8 @@ fn other_job_in<'a>(matches: &ArgMatches<'a>) -> Option<Job<'a>>
     ensures named { IfSome result (IsJob (subcommand_rows_of matches.now)) }
     ensures none { IfNone result
         (IsNoCheck (subcommand_rows_of matches.now) → IsNoScan (subcommand_rows_of matches.now)
-        → IsNoAddress (subcommand_rows_of matches.now) → IsNoDrive (subcommand_rows_of matches.now) → IsNoJob (subcommand_rows_of matches.now)) }
+        → IsNoAddress (subcommand_rows_of matches.now) → IsNoDrive (subcommand_rows_of matches.now)
+        → IsNoJob (subcommand_rows_of matches.now)) }
 {
     if let Some(scenario) = value_of(matches, "run", "SCENARIO") {
         let single_frames = has_flag(matches, "run", "frames");

@@ -46,9 +46,9 @@ pub struct AddressCommand<'a> {
 }
 
 impl AddressCommand<'_> {
-    /// Carries it out at a desk whose streams haven't failed, as `address` does; the store is left alone. Where a journal
-    /// is named that isn't at rest, or that a drive has open, nothing is sent: 15 Older, 20 Memory or 21 File. No drive
-    /// can open it as long as this goes on.
+    /// Carries it out at a desk whose streams haven't failed, as `address` does; the store is left alone. Where a
+    /// journal is named that isn't at rest, or that a drive has open, nothing is sent: 15 Older, 20 Memory or 21 File.
+    /// No drive can open it as long as this goes on.
     pub fn carry_out<
         R: Files<File = File> + AllocGlobal + JournalFiles,
         I: Read,

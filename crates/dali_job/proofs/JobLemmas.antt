@@ -2,20 +2,19 @@
 use Rattle.std.proofs.Common.{◌≡◌, ◌<◌, ◌≤◌, List, [], ◌∷◌, ◌++◌, ℕ, zero, suc, map, take, length, get_or, arith}
 use Rattle.std.proofs.Common.{Bool, Bor, Option, Some, None, IfSome, IfNone, true, false, option_map}
 use Rattle.std.proofs.Common.{Result, Ok, Err, IfOk, IsOkAnd, codes, refl, ap, ap₂, sym, subst, ◌∙◌, ◌||◌}
-use Rattle.std.specs.Prelude.{unwrap_or}
 use mathlib.Core.Bool.{beq}
 use Rattle.std.specs.Bool.{Decides}
 use Rattle.std.specs.Option.{option_eq}
 use Rattle.std.specs.Str.Parse.{ParsesBool, ParsesUnsigned}
 use Rattle.std.proofs.lemmas.Bool.Decides.{Decides-like}
-use Rattle.clap.specs.Words.{App, HasMatchesOf, ReadsOne, Row, Text, all_of, first_of, is_simple, is_simple_and_free, one_of}
+use Rattle.clap.specs.Words.{App, HasMatchesOf, ReadsOne, Row, Text, first_of, is_simple, is_simple_and_free, one_of}
 use Rattle.clap.specs.Words.{AddsArg, AddsSubcommand, Rule, app_of, subcommand_of, subcommand_rows_of, with_rule}
 use Rattle.clap.specs.Words.{with_subcommand}
 use Rattle.clap.specs.declared.builder.arg.Arg.{Arg}
 use Rattle.clap.specs.declared.builder.command.Command.{Command}
 use Rattle.clap.specs.declared.parser.matches.ArgMatches.{ArgMatches}
 use Rattle.clap.proofs.OnLiterals.{clap_on_literals}
-use Rattle.dali_job.specs.Jobs.{HasFlag, HasNumber, HasOption, HasValue, HasValues, IsEntered, IsJob, IsNoCheck, IsNoDrive}
+use Rattle.dali_job.specs.Jobs.{HasFlag, HasNumber, HasOption, HasValue, IsEntered, IsJob, IsNoCheck, IsNoDrive}
 use Rattle.dali_job.specs.Jobs.{AreUnits, IsApp, IsNoAddress, IsNoScan, IsRule}
 use Rattle.dali_job.specs.Jobs.{IsNoJob, IsNumber, bench_app}
 use Rattle.dali_job.specs.declared.job.Job.{Job}
@@ -140,15 +139,6 @@ number_none E G entered command id rows o only e value = not_found (one_of id ro
 
 abbrev pub texts_of : List (Bor Text) → List Text
 texts_of texts = map (λ (text : Bor Text). text.now) texts
-
--- a parse gives an argument its values once
-pub same_values : (entered : Option (Text × List Row)) (command id : Text) (one other : List Text)
-    → HasValues entered command id one → HasValues entered command id other → one ≡ other
-same_values entered command id one other (rows, is, given) (more, also, got) =
-    let second : Option (Text × List Row) → Option (List Row) = option_map (λ p. p.1) in
-    let both : Some rows ≡ Some more = ap second (sym is ∙ also) in
-    let same : rows ≡ more = cc in
-    sym given ∙ ap (λ (r : List Row). unwrap_or (all_of id r) []) same ∙ got
 
 -- one more of them
 pub units_more : (texts : List (Bor Text)) (index : ℕ) (d : Bor Text) (units : List ℕ) (unit : ℕ) → index < length texts

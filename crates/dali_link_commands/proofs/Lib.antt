@@ -17,3 +17,4 @@ mod WorkedReportLemmas
 pub mod ReadLemmas
 mod WorkedOlderLemmas
 mod WorkedUnreadLemmas
+mod WorkedAddressLemmas

@@ -38,8 +38,8 @@ def program_over(program=None):
     return over
 
 
-def broken_off(answers, words=()):
-    """Give how a run has to end by the plan that gets these answers, as `FF` or `--`, and then no more."""
+def planned(answers, words=()):
+    """Give how a run ends by the plan that gets these answers, as `FF` or `--`, and where it wants more, no more."""
     left = list(answers)
 
     def carry(_):

@@ -5,7 +5,7 @@ import os
 
 import driven
 from address_desk import OPEN, crowd, told_by
-from address_runs import Addressing, broken_off
+from address_runs import Addressing, planned
 from base import BenchTest, preloaded
 from drive_desk import ABSENT, absent_records, desk_of, unread, unwritten
 from driven import HEADER, Ended
@@ -59,7 +59,7 @@ class StreamsTest(BenchTest):
     def test_a_link_that_ends(self):
         for words, answers in BROKEN:
             given = "".join(answer + "\n" for answer in answers).encode()
-            self.assertEqual((words, answers, Addressing(words).give(given)), (words, answers, broken_off(answers, words)))
+            self.assertEqual((words, answers, Addressing(words).give(given)), (words, answers, planned(answers, words)))
 
     def test_lines_that_are_no_answer(self):
         for line, fault in (("-", "3 Line"), ("5", "3 Line"), ("x" * 9, "6 TooLong")):

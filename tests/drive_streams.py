@@ -39,7 +39,7 @@ class StreamsTest(BenchTest):
         told = ("error: the frames go to standard output, which is a terminal: start this over an adapter"
                 " (docs/LINK.md)\n")
         for words in [("drive", desk.orders, desk.journal), ("drive", "--follow", desk.orders, desk.journal),
-                      ("read", "5", bank), ("verify", desk.orders), ("scan",)]:
+                      ("read", "5", bank), ("verify", desk.orders), ("scan",), ("address",)]:
             master, terminal = pty.openpty()
             ended = subprocess.run([desk.program, *words], stdin=terminal, stdout=terminal, stderr=subprocess.PIPE,
                                    text=True, timeout=9)

@@ -1,8 +1,9 @@
-"""Tests of how much memory `drive`, `read`, `verify` and `scan` hold at once over small inputs."""
+"""Tests of how much memory `drive`, `read`, `verify`, `scan` and `address` hold at once over small inputs."""
 
 import resource
 from typing import NamedTuple
 
+from address_runs import Addressing, planned
 from base import BenchTest, preloaded
 from drive_desk import ABSENT, ABSENT_FRAMES, GTIN, KEPT_SILENT, SILENCE, absent_records, desk_of
 from drive_follow import following
@@ -78,6 +79,7 @@ def limited_runs(folder):
         "verify": Limited(desk_for(place("verify"), "verify"), given, ONE_FILE, Ended(0, VERIFY_SENT, SAME)),
         "verify of all": Limited(desk_for(place("same"), "verify", ORDERS), given * 64, ALL_UNITS, ALL_THE_SAME),
         "scan": Limited(desk_for(place("scan"), "scan"), all_found, NO_FILE, ALL_FOUND),
+        "address": Limited(Addressing(), SILENCE * 4, NO_FILE, planned(["--"] * 60)),
     }
 
 

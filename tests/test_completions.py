@@ -18,7 +18,7 @@ from driven import ROOT  # noqa: E402
 from test_release import run, unpacked  # noqa: E402
 
 COMPLETE = 'COMP_WORDS=("$@"); COMP_CWORD=$(($# - 1)); _dali_bench; printf "%s\\n" "${COMPREPLY[@]}"'
-COMMANDS = "check run frame show journal drive read verify scan help".split()
+COMMANDS = "check run frame show journal drive read verify scan address help".split()
 # Words of a command line, of which the last is to be completed, and what it is completed to.
 COMPLETED = [
     (["dali_bench", ""], COMMANDS), (["./dali_bench", "ch"], ["check"]), (["dali_bench", "he"], ["help"]),

@@ -222,7 +222,7 @@ class ArchiveTest(BenchTest):
         self.assertEqual(run(["sha256sum", "--quiet", "-c", "SHA256SUMS"], cwd=top), (0, "", ""))
         self.assertEqual((top / "program/dali_bench").read_bytes() == settings["program"].read_bytes(), True)
         page = (top / "dali_bench.1").read_text()
-        for command in ("check", "run", "frame", "show", "journal", "drive", "read", "verify", "scan"):
+        for command in ("check", "run", "frame", "show", "journal", "drive", "read", "verify", "scan", "address"):
             assert f"\ndali_bench {command}" in page and f"\n.SH {command.upper()}\n" in page, command
         assert "program/dali_bench" in page, page
 

@@ -1,19 +1,17 @@
 -- How runs of `address` end and are told, by hand, on both sides of each rule.
-use Rattle.std.proofs.Common.{◌≡◌, ◌≢◌, refl, inl, inr, true, false, ℕ, List, [], ◌∷◌, Option, Some, None, codes}
+use Rattle.std.proofs.Common.{◌≡◌, refl, inl, inr, true, false, ℕ, List, [], ◌∷◌, Option, Some, None, arith, codes}
 use Rattle.std.specs.Borrow.{Bor}
 use Rattle.dali_address.specs.declared.task.Summary.{Summary}
 use Rattle.dali_address.specs.declared.task.Task.{Task}
 use Rattle.dali_address.specs.declared.task.Task.TheVariants.{All, Give}
 use Rattle.dali_address.specs.declared.task.Task.TheVariants as tasks
 use Rattle.dali_address_link.specs.declared.run.End.TheVariants.{Done, Taken}
-use Rattle.dali_address_link.specs.AddressLines.{open_line}
 use Rattle.dali_drive.specs.Desks.{Look}
 use Rattle.dali_trace.specs.declared.fault.DriveFault.TheVariants as faults
 use Rattle.dali_faults.specs.declared.fault.Status.{Status}
-use Rattle.dali_faults.specs.declared.fault.Status.TheVariants.{Good, Refused, Unwritten}
+use Rattle.dali_faults.specs.declared.fault.Status.TheVariants.{Good, Refused}
 use Rattle.dali_link_commands.specs.AddressAnswers.{BreaksRun, EndsRun, TellsBreak, held_named, is_left_open, status_at_end}
 use Rattle.dali_link_commands.specs.AddressAnswers.{task_of}
-use Rattle.dali_link_commands.proofs.WorkedBenchLemmas.{emptied}
 
 -- ---- the flags
 

@@ -128,7 +128,26 @@ fn tell_break<W: Write>(
         (held W.contents lines.old.output) (held W.contents lines.new.output)
         × (result ≡ Status.Unwritten ↔ has_failed lines.new.output ≡ true) }
 {
-    if is_left_open(task, fault) && !put_all(lines, OPEN.as_bytes()) {
+    if is_left_open(task, fault) {
+        tell_open(alloc, lines, fault, causes)
+    } else {
+        tell_fault(alloc, lines, fault, causes)
+    }
+}
+
+// Tells that units may be left in the initialisation state, and then the fault.
+fn tell_open<W: Write>(
+    alloc: Global,
+    lines: &mut Lines<W>,
+    fault: DriveFault,
+    causes: Causes<'_>,
+) -> Status
+    requires unfailed { has_failed lines.old.output ≡ false }
+    requires other { is_out fault ≡ false }
+    ensures told { TellsBreak true fault result (held W.contents lines.old.output) (held W.contents lines.new.output)
+        × (result ≡ Status.Unwritten ↔ has_failed lines.new.output ≡ true) }
+{
+    if !put_all(lines, OPEN.as_bytes()) {
         return Status::Unwritten;
     }
     tell_fault(alloc, lines, fault, causes)
@@ -136,7 +155,8 @@ fn tell_break<W: Write>(
 
 // Whether units may be in the initialisation state where a run broke off, and that can be told.
 fn is_left_open(task: Task, fault: DriveFault) -> bool
-    ensures { result ≡ left_open task fault }
+    ensures is { result ≡ left_open task fault }
+    ensures other { result ≡ true → is_out fault ≡ false }
 {
     match (task, fault) {
         (Task::List, _) | (_, DriveFault::Out) => false,

@@ -1,6 +1,6 @@
-"""Cases of runs that give short addresses over simulated units, for any `over(bus, words, stop)` that runs it or its plan.
+"""Cases of runs that give short addresses over simulated units, for any `over(bus, words, stop)` that runs them.
 
-test_desk.py runs the plan, which tests the simulated units.
+test_address.py runs the program, test_desk.py the plan, which tests the simulated units.
 """
 
 from address_desk import (READINGS, AltersOne, LosesOne, LosesProgram, at_each, crowd, held, task_of, told_by,

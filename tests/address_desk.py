@@ -223,7 +223,7 @@ def want_all_told(bus, before, told, task):
     # Noise may be heard as a unit that has none.
     assert told.summary[1] or told.is_unclear or None not in there, told
     if task == "give" and want_status(told) == 0:
-        want(told.summary[0], sum(short is None for short, *_ in before))
+        want(len(told.units), sum(short is None for short, *_ in before))
 
 
 class Rules:
@@ -234,7 +234,7 @@ class Rules:
         self.allowed = re.compile("|".join((OF_ALL + " " + OF_TASK[task]).split()))
         self.search, self.own = {}, None  # the search address by first bytes, and the short address told at it
         self.silent, self.answers = {}, {}  # asks in a row that nobody at an address answered; the last answers
-        self.before, self.now = set(), set()  # the short addresses given in rounds before, and in this one
+        self.told = set()  # the bytes of the short addresses that units told since one was taken away
         self.since = None  # the words since PROGRAM SHORT ADDRESS and the questions after it
 
     def look(self, word, answer):
@@ -243,10 +243,9 @@ class Rules:
         self._want_terminated(word)
         if word[:2] in ("B1", "B3", "B5"):
             self.search[word[:2]], self.own = word[2:], None
-        elif word[:2] == "A5":
-            self.before, self.now = self.before | self.now, set()
         elif word == "BB00":
             self.own = answer if answer is not None else self.own
+            self.told.add(answer)
         elif word[:2] == "B7":
             self._want_programmed(word)
         elif word[0] < "8":
@@ -267,10 +266,10 @@ class Rules:
         assert len(self.search) == 3 and set(self.search.values()) != {"FF"}, (word, self.search)
         if word == "B7FF":
             assert self.own is not None and self.own % 2 == 1 and self.own < 0x80, (word, self.own)
+            self.told.clear()
         else:
             want((word, self.own, self.silent.get(word[2:], 0) >= 8), (word, 0xFF, True))
-            assert word not in self.before, f"{word} in a second round"
-            self.now.add(word)
+            assert int(word[2:], 16) not in self.told, f"{word} though a unit told that it has it"
         self.own = None
 
 

@@ -1,5 +1,7 @@
 """Runs of `dali_bench address`: for tests/test_address.py, tests/fuzz and tests/address_benches.py."""
 
+import re
+
 import driven
 from base import settings
 
@@ -7,6 +9,7 @@ import address_desk
 import address_plan
 
 BROKEN = "4 End"
+FRAME = re.compile(rb"[0-9A-F]{4}\n")
 
 
 class Addressing(driven.Desk):
@@ -21,9 +24,9 @@ class Addressing(driven.Desk):
         return [self.program, "address", *self.options, *self.given]
 
     def look_at(self, sent):
-        """Raise where a whole line was sent that isn't a frame of addresses, as one of a memory bank."""
+        """Raise where a frame was sent that isn't one of addresses, as one of a memory bank."""
         for line in sent.splitlines(keepends=True):
-            assert driven.OF_ADDRESSES.fullmatch(line) or not line.endswith(b"\n"), line
+            assert driven.OF_ADDRESSES.fullmatch(line) or not FRAME.fullmatch(line), line
 
 
 def program_over(program=None):

@@ -3,7 +3,8 @@
 import resource
 from typing import NamedTuple
 
-from address_runs import Addressing, planned
+from address_runs import Addressing
+from address_streams import NONE_SENT, NONE_TOLD
 from base import BenchTest, preloaded
 from drive_desk import ABSENT, ABSENT_FRAMES, GTIN, KEPT_SILENT, SILENCE, absent_records, desk_of
 from drive_follow import following
@@ -15,7 +16,7 @@ KIBIBYTE = 1024
 MOST_STACK = 512 * KIBIBYTE
 # What a run may hold at once where it reads no file as a whole, where it reads one of them, and where it has an order
 # for each unit: each limit is over what such runs hold now, by less than a bank of each of the 64 units.
-NO_FILE, ONE_FILE, ALL_UNITS = 50 * KIBIBYTE, 150 * KIBIBYTE, 224 * KIBIBYTE
+NO_FILE, ONE_FILE, ALL_UNITS = 56 * KIBIBYTE, 150 * KIBIBYTE, 224 * KIBIBYTE
 TAKEN = "reply 1 taken\n" + KEPT_SILENT
 ORDERS = [{"order": unit + 1, "unit": unit, "gtin": GTIN} for unit in range(64)]
 ALL_SILENT = Ended(
@@ -79,7 +80,7 @@ def limited_runs(folder):
         "verify": Limited(desk_for(place("verify"), "verify"), given, ONE_FILE, Ended(0, VERIFY_SENT, SAME)),
         "verify of all": Limited(desk_for(place("same"), "verify", ORDERS), given * 64, ALL_UNITS, ALL_THE_SAME),
         "scan": Limited(desk_for(place("scan"), "scan"), all_found, NO_FILE, ALL_FOUND),
-        "address": Limited(Addressing(), SILENCE * 4, NO_FILE, planned(["--"] * 60)),
+        "address": Limited(Addressing(), SILENCE * 4, NO_FILE, Ended(0, NONE_SENT, NONE_TOLD)),
     }
 
 

@@ -30,15 +30,8 @@ class Addressing(driven.Desk):
 
 
 def program_over(program=None):
-    """Give what runs the program over a bus, as `plan_over` runs the plan.
-
-    The program has no census: that is the plan's.
-    """
-    def over(bus, words=(), stop=None):
-        if "--count" in words:
-            return address_desk.plan_over(bus, words, stop)
-        return Addressing(words, program).over(bus, stop)
-    return over
+    """Give what runs the program over a bus, as `plan_over` runs the plan."""
+    return lambda bus, words=(), stop=None: Addressing(words, program).over(bus, stop)
 
 
 def planned(answers, words=()):

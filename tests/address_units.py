@@ -29,6 +29,7 @@ class UnitsTest(BenchTest):
     def test_lists_and_shared_addresses(self):
         cases.want_lists(self.over)
         cases.want_two_at_one_address(self.over)
+        cases.want_counts(self.over)
 
     def test_64_and_one_more(self):
         cases.want_64_and_one_more(self.over)

@@ -13,7 +13,7 @@ FAULT = re.compile("drive fault (?:3 Line|4 End|6 TooLong)")
 def words_of(rng):
     """Give the words behind `address`: short addresses to give, or what else it may do."""
     some = [str(it) for it in rng.sample(range(64), rng.choice([0, 0, 1, 3]))]
-    return rng.choice([some, some, ["--all", *some], ["--list"]])
+    return rng.choice([some, some, ["--all", *some], ["--list"], ["--count"]])
 
 
 def bus_of(rng):
@@ -52,7 +52,7 @@ def try_over_answers(program, rng, folder, run):
         told_by("".join(line + "\n" for line in lines))
     elif not TAKEN.fullmatch(last):
         found = told_by(told.decode())
-        is_well = found.summary[1:] == (0, 0) and not found.is_open
+        is_well = found.summary[1:] == (0, 0) and not (found.is_open or found.is_unclear or found.shared)
         assert not found.rest and status == int(not is_well), (status, told)
     else:
         assert (status, lines) == (1, []), (status, told)

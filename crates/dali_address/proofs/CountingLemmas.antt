@@ -10,7 +10,7 @@ use Rattle.dali_address.proofs.HeardLemmas.{Keeps, keeps_quiet, AreSound, sound_
 use Rattle.dali_address.proofs.CensusLemmas.{IsSoFar, so_far, so_after}
 use Rattle.dali_address.proofs.EndLemmas.{AreJust, all_counted, apart_so, sharing_so}
 use Rattle.dali_address.specs.declared.call.Call.{Call}
-use Rattle.dali_address.specs.declared.call.Call.TheVariants.{Compare, SearchLow}
+use Rattle.dali_address.specs.declared.call.Call.TheVariants.{Compare, SearchHigh}
 use Rattle.dali_address.specs.declared.census.CensusEnd.{CensusEnd}
 use Rattle.dali_address.specs.declared.census.CensusEnd.TheVariants.{Apart, Shared, Unclear}
 use Rattle.dali_address.specs.declared.walk.Walk.{Walk}
@@ -18,7 +18,7 @@ use Rattle.dali_address.specs.declared.walk.Walk.TheVariants.{Done, Lost}
 use Rattle.dali_address.specs.declared.tallied.Tallied.{Tallied}
 
 -- the opening ends with another frame than a check
-not_opening : (call : Call) (calls others : List Call) → call ≡ Compare → call ∷ calls ≡ SearchLow 0xFF ∷ others → ⊥
+not_opening : (call : Call) (calls others : List Call) → call ≡ Compare → call ∷ calls ≡ SearchHigh 0xFF ∷ others → ⊥
 not_opening call calls others check same = cc
 
 -- the check that no unit answered, with the highest search address

@@ -223,9 +223,19 @@ drawn first told last states sent steps counted =
     = each_after On On q.state Randomise q.answer p.state q.whole randomised on in
     each_after On On p.state Randomise p.answer last p.whole randomised once
 
+-- the high byte once more
+put_again : (before : Member) (answer : Option ℕ) (after : Member) → Does before (SearchHigh 0xFF) answer after
+    → Shows OnAll before → Shows OnAll after
+put_again before answer after does (on, all) =
+    let now = seeks_on (record before.search { high = 0xFF }) before answer after does on in
+    (now.0, now.1 ∙ ap (λ (t : Three). record t { high = 0xFF }) all)
+
 pub ready : (first : Units) (told : List Exchange) (last : Units) (states : List Units) → calls_of told ≡ opening
     → IsChain IsWhole first told last states → AtEachMoment HasCounted told last states → AreReady highest last
 ready first told last states sent steps counted =
-    put_once _ first told last states sent steps counted
+    let p = peeled (SearchHigh 0xFF) _ first told last states sent steps counted in
+    let twice : AreReady highest p.state
+    = put_once _ first p.past p.state p.rest p.sent p.chain p.counted
     (λ past state rest is chain counts number member there.
-    (put_once _ first past state rest is chain counts (drawn first) number member there).0)
+    (put_once _ first past state rest is chain counts (drawn first) number member there).0) in
+    each_after OnAll OnAll p.state (SearchHigh 0xFF) p.answer last p.whole put_again twice

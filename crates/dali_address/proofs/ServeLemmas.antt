@@ -21,7 +21,7 @@ use Rattle.dali_address.specs.declared.task.Line.{Line}
 use Rattle.dali_address.specs.declared.task.Line.TheVariants.{Unit as UnitLine, Shared}
 use Rattle.dali_address.specs.declared.task.Summary.{Summary}
 use Rattle.dali_address.specs.declared.task.Task.{Task}
-use Rattle.dali_address.specs.declared.task.Task.TheVariants.{Give, All, List as ListTask}
+use Rattle.dali_address.specs.declared.task.Task.TheVariants.{Give, All, List as ListTask, Close}
 use Rattle.dali_address.proofs.KeepLemmas.{rests_along}
 use Rattle.dali_address.proofs.SaidLemmas.{names_are_true}
 
@@ -116,6 +116,7 @@ none_taken : (task : Task) → LeavesAddressed task → Takes task → ⊥
 none_taken Give leaves takes = takes
 none_taken All leaves takes = leaves
 none_taken ListTask leaves takes = takes
+none_taken Close leaves takes = takes
 
 leaves_units : (own : ℕ) (task : Task) (call : Call) → LeavesAddressed task → MaySend task call → LeavesUnitsAt own call
 leaves_units own task Terminate leaves may = tt

@@ -125,9 +125,9 @@ checked = record { call = Compare; answer = None }
 -- the opening, the newest first
 abbrev pub opened : List Exchange
 opened =
-    sent_low 0xFF ∷ (sent_middle ∷ (sent_high ∷ (sent_low 0xFF ∷ (sent_middle ∷ (sent_high
+    sent_high ∷ (sent_low 0xFF ∷ (sent_middle ∷ (sent_high ∷ (sent_low 0xFF ∷ (sent_middle ∷ (sent_high
     ∷ (sent_randomise ∷ (sent_randomise ∷ (sent_initialise ∷ (sent_initialise ∷ (sent_terminate ∷ (sent_terminate
-    ∷ [])))))))))))
+    ∷ []))))))))))))
 
 -- a unit that is found, asked and withdrawn
 abbrev counted_one : List Exchange
@@ -147,12 +147,13 @@ opening_states many =
     ∷ (crowd many (seven Enabled drawn highest)
     ∷ (crowd many (seven Enabled drawn highest)
     ∷ (crowd many (seven Enabled drawn highest)
+    ∷ (crowd many (seven Enabled drawn highest)
     ∷ (crowd many (seven Enabled highest highest)
     ∷ (crowd many (seven Enabled highest highest)
     ∷ (crowd many (seven Disabled highest highest)
     ∷ (crowd many (seven Disabled highest highest)
     ∷ (crowd many (seven Disabled highest highest)
-    ∷ (crowd many (seven Disabled highest highest) ∷ [])))))))))))
+    ∷ (crowd many (seven Disabled highest highest) ∷ []))))))))))))
 
 enabled_on : Enabled ≢ Disabled
 enabled_on = λ e. cc
@@ -179,34 +180,37 @@ ends many = silent many _ _ sent_terminate (refl, refl) refl
 opening_whole : (many : ℕ) → IsChain IsWhole (crowd many (seven Disabled highest highest)) opened
     (crowd many (seven Enabled drawn highest)) (opening_states many)
 opening_whole many = (
-  put_low many,
+  put_high many,
   (
-    put_middle many,
+    put_low many,
     (
-      put_high many,
+      put_middle many,
       (
-        put_low many,
+        put_high many,
         (
-          put_middle many,
+          put_low many,
           (
-            put_high many,
+            put_middle many,
             (
-              silent many (seven Enabled highest highest) (seven Enabled drawn highest) sent_randomise
-                  (drawn, (inr (enabled_on, refl), refl)) refl,
+              put_high many,
               (
-                silent many (seven Enabled highest highest) (seven Enabled highest highest) sent_randomise
-                    (drawn, (inl refl, refl)) refl,
+                silent many (seven Enabled highest highest) (seven Enabled drawn highest) sent_randomise
+                    (drawn, (inr (enabled_on, refl), refl)) refl,
                 (
-                  silent many (seven Disabled highest highest) (seven Enabled highest highest) sent_initialise
-                      (inr (tt, refl), refl) refl,
+                  silent many (seven Enabled highest highest) (seven Enabled highest highest) sent_randomise
+                      (drawn, (inl refl, refl)) refl,
                   (
-                    silent many (seven Disabled highest highest) (seven Disabled highest highest) sent_initialise
-                        (inl refl, refl) refl,
+                    silent many (seven Disabled highest highest) (seven Enabled highest highest) sent_initialise
+                        (inr (tt, refl), refl) refl,
                     (
-                      ends many,
+                      silent many (seven Disabled highest highest) (seven Disabled highest highest) sent_initialise
+                          (inl refl, refl) refl,
                       (
                         ends many,
-                        refl,
+                        (
+                          ends many,
+                          refl,
+                        ),
                       ),
                     ),
                   ),
@@ -306,24 +310,27 @@ active many number member is =
 opening_counts : (many : ℕ) → AtEachMoment HasCounted opened (crowd many (seven Enabled drawn highest))
     (opening_states many)
 opening_counts many = (
-  λ a b. absurd (no_low 0xFF a),
+  λ a b. absurd (no_high 0xFF a),
   (
-    λ a b. absurd (no_middle 0xFF a),
+    λ a b. absurd (no_low 0xFF a),
     (
-      λ a b. absurd (no_high 0xFF a),
+      λ a b. absurd (no_middle 0xFF a),
       (
-        λ a b. absurd (no_low 0xFF a),
+        λ a b. absurd (no_high 0xFF a),
         (
-          λ a b. absurd (no_middle 0xFF a),
+          λ a b. absurd (no_low 0xFF a),
           (
-            λ a b. absurd (no_high 0xFF a),
+            λ a b. absurd (no_middle 0xFF a),
             (
-              λ a b. absurd (no_randomise a),
+              λ a b. absurd (no_high 0xFF a),
               (
                 λ a b. absurd (no_randomise a),
                 (
-                  λ a b. active many,
-                  (λ a b. absurd (no_terminate b), (λ a b. absurd (no_terminate a), (tt, tt))),
+                  λ a b. absurd (no_randomise a),
+                  (
+                    λ a b. active many,
+                    (λ a b. absurd (no_terminate b), (λ a b. absurd (no_terminate a), (tt, tt))),
+                  ),
                 ),
               ),
             ),

@@ -29,32 +29,35 @@ seeks exchange does none = silent 1 (seven Disabled highest highest) (seven Disa
 
 -- INITIALISE that counts in no unit: then none is counted, and one is there
 pub unreached_is_whole : IsChain IsWhole (crowd 1 (seven Disabled highest highest)) (checked ∷ opened)
-    (crowd 1 (seven Disabled highest highest)) (unreached 13)
+    (crowd 1 (seven Disabled highest highest)) (unreached 14)
 unreached_is_whole = (
   seeks checked (refl, inr ((λ both. off_on both.0), refl)) refl,
   (
-    seeks (sent_low 0xFF) (inr (refl, refl), refl) refl,
+    seeks sent_high (inr (refl, refl), refl) refl,
     (
-      seeks sent_middle (inr (refl, refl), refl) refl,
+      seeks (sent_low 0xFF) (inr (refl, refl), refl) refl,
       (
-        seeks sent_high (inr (refl, refl), refl) refl,
+        seeks sent_middle (inr (refl, refl), refl) refl,
         (
-          seeks (sent_low 0xFF) (inr (refl, refl), refl) refl,
+          seeks sent_high (inr (refl, refl), refl) refl,
           (
-            seeks sent_middle (inr (refl, refl), refl) refl,
+            seeks (sent_low 0xFF) (inr (refl, refl), refl) refl,
             (
-              seeks sent_high (inr (refl, refl), refl) refl,
+              seeks sent_middle (inr (refl, refl), refl) refl,
               (
-                seeks sent_randomise (highest, (inl refl, refl)) refl,
+                seeks sent_high (inr (refl, refl), refl) refl,
                 (
                   seeks sent_randomise (highest, (inl refl, refl)) refl,
                   (
-                    seeks sent_initialise (inl refl, refl) refl,
+                    seeks sent_randomise (highest, (inl refl, refl)) refl,
                     (
                       seeks sent_initialise (inl refl, refl) refl,
                       (
-                        seeks sent_terminate (refl, refl) refl,
-                        (seeks sent_terminate (refl, refl) refl, refl),
+                        seeks sent_initialise (inl refl, refl) refl,
+                        (
+                          seeks sent_terminate (refl, refl) refl,
+                          (seeks sent_terminate (refl, refl) refl, refl),
+                        ),
                       ),
                     ),
                   ),

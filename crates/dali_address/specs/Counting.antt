@@ -54,7 +54,7 @@ HasGivenUp (newest ∷ past) = (newest.call ≡ AskShort) ⊎ (length (newest �
 
 -- so many frames of the opening were sent, and nothing was told
 pub record IsOpening (number : ℕ) (kept : Tallied) (told : List Exchange) : Type 0 where
-  pub within : number < 12
+  pub within : number < 13
   pub sent : calls_of told ≡ opened number
   pub stands : Stands kept (record { search = highest; counted = []; asked = None })
 

@@ -85,8 +85,9 @@ Leads old call answer new = IsQuiet call × (new ≡ only_asks old call)
 -- the frames that open a census, the newest first
 abbrev pub opening : List Call
 opening =
-    SearchLow 0xFF ∷ (SearchMiddle 0xFF ∷ (SearchHigh 0xFF ∷ (SearchLow 0xFF ∷ (SearchMiddle 0xFF ∷ (SearchHigh 0xFF
-    ∷ (Randomise ∷ (Randomise ∷ (InitialiseAll ∷ (InitialiseAll ∷ (Terminate ∷ (Terminate ∷ [])))))))))))
+    SearchHigh 0xFF ∷ (SearchLow 0xFF ∷ (SearchMiddle 0xFF ∷ (SearchHigh 0xFF ∷ (SearchLow 0xFF ∷ (SearchMiddle 0xFF
+    ∷ (SearchHigh 0xFF ∷ (Randomise ∷ (Randomise ∷ (InitialiseAll ∷ (InitialiseAll ∷ (Terminate ∷ (Terminate
+    ∷ []))))))))))))
 
 abbrev pub calls_of : List Exchange → List Call
 calls_of exchanges = map (λ exchange. exchange.call) exchanges

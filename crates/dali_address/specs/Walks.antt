@@ -18,9 +18,10 @@ opening_call number =
     else (if nat_lt number 6 then Randomise
     else (if number == 6 then SearchHigh 0xFF
     else (if number == 9 then SearchHigh 0xFF
+    else (if number == 12 then SearchHigh 0xFF
     else (if number == 7 then SearchMiddle 0xFF
     else (if number == 10 then SearchMiddle 0xFF
-    else SearchLow 0xFF))))))
+    else SearchLow 0xFF)))))))
 
 -- so many frames of the opening, the newest first
 abbrev pub opened : ℕ → List Call

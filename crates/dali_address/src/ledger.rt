@@ -51,7 +51,7 @@ impl<'a> Ledger<'a> {
             repairs: 0,
             clearing: ShortSet::new(task == Task::All),
             given: ShortSet::new(false),
-            untold: ShortSet::new(task != Task::Give),
+            untold: ShortSet::new(matches!(task, Task::All | Task::List)),
             is_missing: false,
             count: 0,
             told: 0,
@@ -81,7 +81,7 @@ impl<'a> Ledger<'a> {
     {
         match task {
             Task::Give => self.check(task),
-            Task::All | Task::List => Phase::Close(Then::Begin, 0, 0),
+            Task::All | Task::List | Task::Close => Phase::Close(Then::Begin, 0, 0),
         }
     }
 
@@ -169,7 +169,7 @@ impl<'a> Ledger<'a> {
         ensures { IsFit task result }
     {
         match task {
-            Task::Give | Task::List => Phase::Miss(Asks::new()),
+            Task::Give | Task::List | Task::Close => Phase::Miss(Asks::new()),
             Task::All => self.clear_from(task, 0),
         }
     }
@@ -314,8 +314,8 @@ impl<'a> Ledger<'a> {
         ensures { IsFit task result }
     {
         match task {
-            Task::List => self.name_from(task, 0),
-            _ => Phase::Close(Then::Name, 0, 0),
+            Task::List | Task::Close => self.name_from(task, 0),
+            Task::Give | Task::All => Phase::Close(Then::Name, 0, 0),
         }
     }
 

@@ -9,6 +9,8 @@ pub enum Task {
     All,
     /// None is given: the units that have one are told.
     List,
+    /// None is given and none is told: units are brought out of the initialisation state.
+    Close,
 }
 
 /// A random address: its high, middle and low byte.

@@ -14,7 +14,7 @@ use crate::tallied::Tallied;
 const MOST_UNANSWERED: u8 = 16;
 
 // The frames of the opening.
-const OPENING: u8 = 12;
+const OPENING: u8 = 13;
 
 /// What a census is about to do. The last number of a search is how often no unit answered.
 #[derive(Clone, Copy, Debug, PartialEq, Eq)]
@@ -90,8 +90,8 @@ impl Walk {
     }
 }
 
-// The frame of this number of the opening. The search address is put twice, since units may hear nothing for 100 ms
-// after RANDOMISE.
+// The frame of this number of the opening. The search address is put twice, and its high byte once more, since units may
+// hear nothing for 100 ms after RANDOMISE: the last three frames come later than that.
 fn opening(number: u8) -> Call
     ensures call { IsCall result × GivesNone result }
     ensures is { result ≡ opening_call number }
@@ -100,7 +100,7 @@ fn opening(number: u8) -> Call
         0 | 1 => Call::Terminate,
         2 | 3 => Call::InitialiseAll,
         4 | 5 => Call::Randomise,
-        6 | 9 => Call::SearchHigh(0xFF),
+        6 | 9 | 12 => Call::SearchHigh(0xFF),
         7 | 10 => Call::SearchMiddle(0xFF),
         _ => Call::SearchLow(0xFF),
     }
@@ -108,8 +108,8 @@ fn opening(number: u8) -> Call
 
 /// What comes after the frame of this number of the opening.
 pub(crate) fn opened(number: u8) -> Walk
-    ensures more { number + 1 < 12 → result ≡ Walk.Open (number + 1) }
-    ensures over { 12 ≤ number + 1 → result ≡ Walk.Check 0 }
+    ensures more { number + 1 < 13 → result ≡ Walk.Open (number + 1) }
+    ensures over { 13 ≤ number + 1 → result ≡ Walk.Check 0 }
 {
     if number < OPENING - 1 {
         Walk::Open(number + 1)

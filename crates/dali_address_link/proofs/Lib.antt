@@ -1,1 +1,3 @@
 pub mod MoveLemmas
+pub mod CountLemmas
+pub mod ShareLemmas

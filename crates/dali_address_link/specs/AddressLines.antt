@@ -1,6 +1,8 @@
 -- The lines that tell of short addresses.
-use Rattle.std.specs.Prelude.{◌++◌, ℕ, List, [], codes, decimal, if◌then◌else◌}
+use Rattle.std.specs.Prelude.{◌++◌, ◌+◌, ◌∷◌, ℕ, Bool, true, false, List, [], codes, decimal, if◌then◌else◌}
 use Rattle.dali_frame.specs.Hex.{byte_digits}
+use Rattle.dali_address.specs.declared.census.CensusEnd.{CensusEnd}
+use Rattle.dali_address.specs.declared.census.CensusEnd.TheVariants as ends
 use Rattle.dali_address.specs.declared.task.Line.{Line}
 use Rattle.dali_address.specs.declared.task.Line.TheVariants.{Unit, Shared}
 use Rattle.dali_address.specs.declared.task.Random.{Random}
@@ -34,3 +36,15 @@ taken_line short = codes "error: a unit is at short address " ++ decimal short +
 abbrev pub end_text : End → List ℕ
 end_text (Done summary) = (if summary.open then open_line else []) ++ summary_line summary
 end_text (Taken short) = taken_line short
+
+-- a line for each short address that is marked, from this one on
+abbrev pub shared_lines : List Bool → ℕ → List ℕ
+shared_lines [] short = []
+shared_lines (true ∷ more) short = address_line (Shared short) ++ shared_lines more (short + 1)
+shared_lines (false ∷ more) short = shared_lines more (short + 1)
+
+-- how a count ended
+abbrev pub count_text : CensusEnd → List ℕ
+count_text (ends.Apart units) = codes "apart " ++ decimal units ++ codes "\n"
+count_text (ends.Shared sharing) = shared_lines sharing.addresses 0
+count_text ends.Unclear = codes "unclear\n"

@@ -1,5 +1,5 @@
 -- A run that gives or lists short addresses over a link.
-use Rattle.std.specs.Prelude.{◌≡◌, ◌++◌, ℕ, List, [], ◌∷◌, map, ⊤}
+use Rattle.std.specs.Prelude.{◌++◌, ℕ, List, [], ◌∷◌, map, ⊤}
 use Rattle.std.specs.Io.KnownBytes.{Appends, Keeps}
 use Rattle.dali_frame.specs.declared.forward.Frame.TheVariants.{Other}
 use Rattle.dali_write.specs.Exchanges.{Exchange as Sending}

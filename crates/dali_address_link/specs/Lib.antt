@@ -1,2 +1,3 @@
 pub mod AddressLines
 pub mod Addressed
+pub mod Counted

@@ -2,7 +2,9 @@
 #![tactic(auto)]
 
 mod address_lines;
+mod count;
 mod run;
 
-pub use address_lines::{EndText, OPEN, address_line, end_text};
+pub use address_lines::{CountText, EndText, OPEN, address_line, count_text, end_text};
+pub use count::count_units;
 pub use run::{End, address_units};

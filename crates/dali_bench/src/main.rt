@@ -21,7 +21,7 @@ use dali_file_commands::FileCommand;
 use dali_file_commands::frame::frame;
 use dali_input::Input;
 use dali_job::{Job, job_of};
-use dali_link_commands::address::{AddressCommand, task_by};
+use dali_link_commands::address::{AddressCommand, Asked};
 use dali_link_commands::asked::read_asked;
 use dali_link_commands::drive::{DriveTask, pace_of};
 use dali_link_commands::lines::Lines;
@@ -42,12 +42,12 @@ const VERSION: &str = "dali_bench 1.0, proved with the Rattle logic dac8208d650f
 const AT_A_TERMINAL: &str =
     "error: the frames go to standard output, which is a terminal: start this over an adapter (docs/LINK.md)";
 
-// Where `address` is to give short addresses and to give none.
-const ALL_AND_LIST: &str =
-    "error: --all gives short addresses and --list gives none: name one of them";
+// Where `address` is asked for several things, or to give short addresses and to give none.
+const SEVERAL_ASKED: &str =
+    "error: --all, --list and --count ask for different things: name one of them";
 
-const LISTED_UNITS: &str =
-    "error: --list gives no short address, and tells of all 64: leave UNIT out";
+const UNITS_UNASKED: &str =
+    "error: --list and --count give no short address, and tell of all units: leave UNIT out";
 
 // Where older journals are named beside none that is asked.
 const OLDER_ALONE: &str = "error: --older stands beside --journal: name that too";
@@ -166,15 +166,16 @@ fn run(rt: &HostRuntime, words: &Vec<String>) -> Status {
                 units,
                 all,
                 list,
+                count,
                 journal,
                 progress,
             },
         ) => {
-            if all && list {
-                return refuse(rt, ALL_AND_LIST);
+            if all && list || all && count || list && count {
+                return refuse(rt, SEVERAL_ASKED);
             }
             let command = AddressCommand {
-                task: task_by(all, list),
+                asked: Asked::by(all, list, count),
                 units: units.as_slice(),
                 journal,
             };
@@ -395,11 +396,12 @@ fn on_scan(rt: &HostRuntime, units: &[u8], with_gtin: bool, is_watched: bool) ->
     on_link(rt, Linked::Bank(command), is_watched)
 }
 
-// Gives these short addresses, or the lowest that are free where none is named, or lists all. One that is named twice
-// is told, and nothing is sent.
+// Gives these short addresses, or the lowest that are free where none is named, or lists all or counts. One that is
+// named twice is told, and nothing is sent.
 fn on_address(rt: &HostRuntime, command: AddressCommand<'_>, is_watched: bool) -> Status {
-    if command.task == Task::List && !command.units.is_empty() {
-        return refuse(rt, LISTED_UNITS);
+    let gives_none = matches!(command.asked, Asked::Run(Task::List) | Asked::Count);
+    if gives_none && !command.units.is_empty() {
+        return refuse(rt, UNITS_UNASKED);
     }
     if is_repeated(rt, command.units) {
         return Status::Refused;

@@ -212,8 +212,8 @@ no_job _ _ _ _ _ no_compared _ _ _ _ _ (Verify orders _ _) = λ named. no_compar
 no_job _ _ _ _ _ _ no_read _ _ _ _ (Read unit bank progress) = no_read unit bank progress
 no_job _ _ _ _ _ _ _ no_check _ _ _ (Check orders journal older) = no_check orders journal older
 no_job _ _ _ _ _ _ _ _ no_scan _ _ (Scan units with_gtin progress) = no_scan units with_gtin progress
-no_job _ _ _ _ _ _ _ _ _ no_address _ (Address units all list journal progress) =
-    no_address units all list journal progress
+no_job _ _ _ _ _ _ _ _ _ no_address _ (Address units all list count journal progress) =
+    no_address units all list count journal progress
 no_job _ _ _ _ _ _ _ _ _ _ no_drive
     (Drive orders journal moment follow short_plan require_done require_now require_journal progress report older) =
     no_drive orders journal moment follow short_plan require_done require_now require_journal progress report older

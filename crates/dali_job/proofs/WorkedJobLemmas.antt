@@ -252,20 +252,27 @@ pub all_asked : HasFlag (entered_by anew) (codes "address") (codes "all")
 unfolding clap_on_literals
 all_asked = (rows_in (entered_by anew), refl, refl)
 
-pub all_not_dropped : (units : Vec ℕ Global) (list progress : Bool) (journal : Option (Bor Text))
-    → ¬ IsJobOf (codes "dali_bench" ∷ anew) (Address units false list journal progress)
-all_not_dropped units list progress journal = λ is. let given = is.1.1 all_asked in cc
+pub all_not_dropped : (units : Vec ℕ Global) (list count progress : Bool) (journal : Option (Bor Text))
+    → ¬ IsJobOf (codes "dali_bench" ∷ anew) (Address units false list count journal progress)
+all_not_dropped units list count progress journal = λ is. let given = is.1.1 all_asked in cc
 
-pub no_list_unasked : (units : Vec ℕ Global) (all progress : Bool) (journal : Option (Bor Text))
-    → ¬ IsJobOf (codes "dali_bench" ∷ anew) (Address units all true journal progress)
+pub no_list_unasked : (units : Vec ℕ Global) (all count progress : Bool) (journal : Option (Bor Text))
+    → ¬ IsJobOf (codes "dali_bench" ∷ anew) (Address units all true count journal progress)
 unfolding clap_on_literals
-no_list_unasked units all progress journal = λ is.
+no_list_unasked units all count progress journal = λ is.
     let given : Some (codes "false") ≡ Some (codes "true") =
     flag_is (entered_by anew) (codes "address") (codes "list") (is.2.0 refl) in cc
 
-pub idle_journal_not_dropped : (units : Vec ℕ Global) (all list progress : Bool)
-    → ¬ IsJobOf (codes "dali_bench" ∷ anew) (Address units all list None progress)
+pub no_count_unasked : (units : Vec ℕ Global) (all list progress : Bool) (journal : Option (Bor Text))
+    → ¬ IsJobOf (codes "dali_bench" ∷ anew) (Address units all list true journal progress)
 unfolding clap_on_literals
-idle_journal_not_dropped units all list progress = λ is.
-    let (rows, entered, none) = is.3 in
+no_count_unasked units all list progress journal = λ is.
+    let given : Some (codes "false") ≡ Some (codes "true") =
+    flag_is (entered_by anew) (codes "address") (codes "count") (is.3.0 refl) in cc
+
+pub idle_journal_not_dropped : (units : Vec ℕ Global) (all list count progress : Bool)
+    → ¬ IsJobOf (codes "dali_bench" ∷ anew) (Address units all list count None progress)
+unfolding clap_on_literals
+idle_journal_not_dropped units all list count progress = λ is.
+    let (rows, entered, none) = is.4 in
     let left_out : Some (codes "j") ≡ None = ap (λ e. first_of (codes "journal") (rows_in e)) entered ∙ none in cc

@@ -116,7 +116,8 @@ scan_app = let units = with_rule (new_app (codes "scan")) (units_rule (codes "UN
 abbrev pub address_app : App
 address_app = let units = with_rule (new_app (codes "address")) (units_rule (codes "UNIT")) in
     let listed = with_rule (with_rule units (flag_rule (codes "all"))) (flag_rule (codes "list")) in
-    with_rule (with_rule listed (option_rule (codes "journal"))) (flag_rule (codes "progress"))
+    let counted = with_rule listed (flag_rule (codes "count")) in
+    with_rule (with_rule counted (option_rule (codes "journal"))) (flag_rule (codes "progress"))
 
 -- the program's commands and their arguments, as `clap` sees them
 abbrev pub bench_app : App
@@ -223,10 +224,11 @@ IsJob entered (Scan units with_gtin progress) =
     HasUnits entered (codes "scan") (codes "UNIT") units.items
     × Decides with_gtin (HasFlag entered (codes "scan") (codes "gtin"))
     × Decides progress (HasFlag entered (codes "scan") (codes "progress"))
-IsJob entered (Address units all list journal progress) =
+IsJob entered (Address units all list count journal progress) =
     HasUnits entered (codes "address") (codes "UNIT") units.items
     × Decides all (HasFlag entered (codes "address") (codes "all"))
     × Decides list (HasFlag entered (codes "address") (codes "list"))
+    × Decides count (HasFlag entered (codes "address") (codes "count"))
     × HasOption entered (codes "address") (codes "journal") journal
     × Decides progress (HasFlag entered (codes "address") (codes "progress"))
 
@@ -249,8 +251,8 @@ IsNoScan entered = (units : Vec ℕ Global) (with_gtin progress : Bool) → ¬ I
 
 -- no job of giving short addresses is that of the command that a parse entered
 abbrev pub IsNoAddress : Option (Text × List Row) → Type 0
-IsNoAddress entered = (units : Vec ℕ Global) (all list : Bool) (journal : Option (Bor Text)) (progress : Bool)
-    → ¬ IsJob entered (Address units all list journal progress)
+IsNoAddress entered = (units : Vec ℕ Global) (all list count : Bool) (journal : Option (Bor Text)) (progress : Bool)
+    → ¬ IsJob entered (Address units all list count journal progress)
 
 -- no job is that of the command that a parse entered
 abbrev pub IsNoJob : Option (Text × List Row) → Type 0

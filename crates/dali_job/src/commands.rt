@@ -6,13 +6,13 @@ ghost use Rattle.dali_job.specs.Jobs.{flag_rule, journal_app, many_rule, number_
 ghost use Rattle.dali_job.specs.Jobs.{scan_app, unit_rule, units_rule, value_rule, verify_app};
 
 use crate::usages::{
-    ABOUT, ADDRESS, ADDRESS_ALL_HELP, ADDRESS_JOURNAL_HELP, ADDRESS_LIST_HELP, ADDRESS_UNITS_HELP,
-    Argument, CHECK, CHECK_JOURNAL_HELP, CHECK_OLDER_HELP, CHECK_ORDERS, DRIVE, DRIVE_DONE_HELP,
-    DRIVE_FOLLOW_HELP, DRIVE_JOURNAL_HELP, DRIVE_MOMENT_HELP, DRIVE_NOW_HELP, DRIVE_OLDER_HELP,
-    DRIVE_REPORT_HELP, DRIVE_SHORT_HELP, DRIVE_THERE_HELP, FRAME, FRAME_HEX, JOURNAL, JOURNAL_FILE,
-    JOURNAL_UPDATES_HELP, LINK_ORDERS, PROGRESS_HELP, READ, READ_BANK_HELP, READ_UNIT_HELP, RUN,
-    RUN_FRAMES_HELP, RUN_SCENARIO, SCAN, SCAN_GTIN_HELP, SCAN_UNITS_HELP, SHOW, SHOW_DUMP,
-    TOP_HELP, Usage, VERIFY, VERIFY_REPORT_HELP,
+    ABOUT, ADDRESS, ADDRESS_ALL_HELP, ADDRESS_COUNT_HELP, ADDRESS_JOURNAL_HELP, ADDRESS_LIST_HELP,
+    ADDRESS_UNITS_HELP, Argument, CHECK, CHECK_JOURNAL_HELP, CHECK_OLDER_HELP, CHECK_ORDERS, DRIVE,
+    DRIVE_DONE_HELP, DRIVE_FOLLOW_HELP, DRIVE_JOURNAL_HELP, DRIVE_MOMENT_HELP, DRIVE_NOW_HELP,
+    DRIVE_OLDER_HELP, DRIVE_REPORT_HELP, DRIVE_SHORT_HELP, DRIVE_THERE_HELP, FRAME, FRAME_HEX,
+    JOURNAL, JOURNAL_FILE, JOURNAL_UPDATES_HELP, LINK_ORDERS, PROGRESS_HELP, READ, READ_BANK_HELP,
+    READ_UNIT_HELP, RUN, RUN_FRAMES_HELP, RUN_SCENARIO, SCAN, SCAN_GTIN_HELP, SCAN_UNITS_HELP,
+    SHOW, SHOW_DUMP, TOP_HELP, Usage, VERIFY, VERIFY_REPORT_HELP,
 };
 use clap::{Arg, ArgAction, Command, value_parser};
 use std::alloc::{AllocError, Global};
@@ -123,7 +123,8 @@ fn address_command<'a>(alloc: Global) -> Result<Command<'a>, AllocError>
     let units = plain_command(alloc, &ADDRESS).arg(units_argument(alloc, ADDRESS_UNITS_HELP))?;
     let anew = units.arg(flag_of(alloc, "all", ADDRESS_ALL_HELP))?;
     let listed = anew.arg(flag_of(alloc, "list", ADDRESS_LIST_HELP))?;
-    let idle = listed.arg(file_option(alloc, "journal", ADDRESS_JOURNAL_HELP))?;
+    let counted = listed.arg(flag_of(alloc, "count", ADDRESS_COUNT_HELP))?;
+    let idle = counted.arg(file_option(alloc, "journal", ADDRESS_JOURNAL_HELP))?;
     idle.arg(flag_of(alloc, "progress", PROGRESS_HELP))
 }
 

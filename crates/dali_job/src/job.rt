@@ -79,12 +79,13 @@ pub enum Job<'a> {
         progress: bool,
     },
     /// To give short addresses over a link, these in their order, or the lowest that are free: with `all` anew to each
-    /// unit, with `list` to none. `journal` is the one, if any is named, that has to stand idle; with `progress` as
-    /// `Drive`.
+    /// unit, with `list` to none; with `count` to count units. `journal` is the one, if any is named, that has to stand
+    /// idle; with `progress` as `Drive`.
     Address {
         units: Vec<u8>,
         all: bool,
         list: bool,
+        count: bool,
         journal: Option<&'a str>,
         progress: bool,
     },
@@ -264,12 +265,14 @@ fn address_in<'a>(alloc: Global, matches: &ArgMatches<'a>) -> Result<Option<Job<
     };
     let all = has_flag(matches, "address", "all");
     let list = has_flag(matches, "address", "list");
+    let count = has_flag(matches, "address", "count");
     let journal = value_of(matches, "address", "journal");
     let progress = has_flag(matches, "address", "progress");
     let job = Job::Address {
         units,
         all,
         list,
+        count,
         journal,
         progress,
     };

@@ -15,6 +15,7 @@ mod WorkedBreakLemmas
 mod WorkedReadLemmas
 mod WorkedReportLemmas
 pub mod ReadLemmas
+pub mod AddressLemmas
 mod WorkedOlderLemmas
 mod WorkedUnreadLemmas
 mod WorkedAddressLemmas

@@ -6,42 +6,55 @@ use Rattle.dali_address.specs.declared.task.Task.{Task}
 use Rattle.dali_address.specs.declared.task.Task.TheVariants.{All, Give}
 use Rattle.dali_address.specs.declared.task.Task.TheVariants as tasks
 use Rattle.dali_address_link.specs.declared.run.End.TheVariants.{Done, Taken}
+use Rattle.dali_address.specs.declared.census.CensusEnd.TheVariants.{Apart, Unclear}
 use Rattle.dali_drive.specs.Desks.{Look}
+use Rattle.dali_drive.specs.Transcript.{Streams}
 use Rattle.dali_trace.specs.declared.fault.DriveFault.TheVariants as faults
 use Rattle.dali_faults.specs.declared.fault.Status.{Status}
 use Rattle.dali_faults.specs.declared.fault.Status.TheVariants.{Good, Refused}
-use Rattle.dali_link_commands.specs.AddressAnswers.{BreaksRun, EndsRun, TellsBreak, held_named, is_left_open, status_at_end}
-use Rattle.dali_link_commands.specs.AddressAnswers.{task_of}
+use Rattle.dali_link_commands.specs.declared.address.Asked.TheVariants.{Count, Run}
+use Rattle.dali_link_commands.specs.AddressAnswers.{BreaksRun, EndsRun, TellsBreak, asked_of, held_named, is_apart}
+use Rattle.dali_link_commands.specs.AddressAnswers.{is_left_open, status_at_end}
 
 -- ---- the flags
 
-pub given_without_flags : task_of false false ≡ Give
+pub given_without_flags : asked_of false false false ≡ Run Give
 given_without_flags = refl
 
-pub all_given_anew : task_of true false ≡ All
+pub all_given_anew : asked_of true false false ≡ Run All
 all_given_anew = refl
 
-pub listed : task_of false true ≡ tasks.List
+pub listed : asked_of false true false ≡ Run tasks.List
 listed = refl
+
+pub counted : asked_of false false true ≡ Count
+counted = refl
 
 -- ---- the status
 
 abbrev given_one : Summary
 given_one = record { given = 1; missing = 0; shared = 0; «open» = false }
 
-pub well : status_at_end (Done given_one) ≡ Good
+pub well : status_at_end true (Done given_one) ≡ Good
 well = refl
 
-pub not_well_with_one_missing : status_at_end (Done (record given_one { missing = 1 })) ≡ Refused
+pub not_well_with_one_missing : status_at_end true (Done (record given_one { missing = 1 })) ≡ Refused
 not_well_with_one_missing = refl
 
-pub not_well_with_one_shared : status_at_end (Done (record given_one { shared = 1 })) ≡ Refused
+pub not_well_with_one_shared : status_at_end true (Done (record given_one { shared = 1 })) ≡ Refused
 not_well_with_one_shared = refl
 
-pub not_well_left_open : status_at_end (Done (record given_one { «open» = true })) ≡ Refused
+pub not_well_left_open : status_at_end true (Done (record given_one { «open» = true })) ≡ Refused
 not_well_left_open = refl
 
-pub not_well_where_one_is_taken : status_at_end (Taken 5) ≡ Refused
+-- units that a census didn't find apart are no good end
+pub not_well_where_not_apart : status_at_end false (Done given_one) ≡ Refused
+not_well_where_not_apart = refl
+
+pub apart_alone_is_good : (is_apart (Apart 3) ≡ true) × (is_apart Unclear ≡ false)
+apart_alone_is_good = (refl, refl)
+
+pub not_well_where_one_is_taken : status_at_end true (Taken 5) ≡ Refused
 not_well_where_one_is_taken = refl
 
 -- ---- a run that broke off
@@ -69,18 +82,18 @@ pub its_journal_where_one_is_named : (has : List ℕ → Option (List ℕ)) (nam
     → held_named has (Some name) ≡ has name.now ∷ []
 its_journal_where_one_is_named has name = refl
 
-module _ (task : Task) (first : Look) (status : Status) (last : Look) where
+module _ (task : Task) (begun : Streams) (first : Look) (status : Status) (last : Look) where
   -- no store is written
-  pub run_and_emptied : EndsRun task first status last → first.streams.journal ≡ Some (1 ∷ [])
+  pub run_and_emptied : EndsRun task None begun first status last → first.streams.journal ≡ Some (1 ∷ [])
       → last.streams.journal ≡ Some [] → ⊥
   run_and_emptied e held put = let same = e.untouched.journal in cc
 
-  pub broken_and_emptied : BreaksRun task first status last → first.streams.journal ≡ Some (1 ∷ [])
+  pub broken_and_emptied : BreaksRun task None begun first status last → first.streams.journal ≡ Some (1 ∷ [])
       → last.streams.journal ≡ Some [] → ⊥
   broken_and_emptied e held put = let same = e.untouched.journal in cc
 
   -- a run in which one is missing is refused, or its end wasn't written
-  pub missing_and_good : (e : EndsRun task first status last) → e.end ≡ Done (record given_one { missing = 1 })
+  pub missing_and_good : (e : EndsRun task None begun first status last) → e.end ≡ Done (record given_one { missing = 1 })
       → status ≡ Good → ⊥
   missing_and_good e is good = let told = rw is at e.told in elim told [
     | inl whole ↦ let refused = whole.0 in cc

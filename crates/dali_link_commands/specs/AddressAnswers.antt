@@ -1,7 +1,9 @@
 -- What `address` answers and writes.
-use Rattle.std.specs.Prelude.{◌≡◌, ◌⊎◌, ◌&&◌, not, ℕ, Bool, true, false, List, [], ◌∷◌, Option, Some, None, ⊤}
+use Rattle.std.specs.Prelude.{◌≡◌, ◌⊎◌, ◌+◌, ◌&&◌, not, ℕ, Bool, true, false, List, [], ◌∷◌, Option, Some, None, ⊤}
 use Rattle.std.specs.Prelude.{nat_eq, if◌then◌else◌}
 use Rattle.std.specs.Borrow.{Bor}
+use Rattle.dali_address.specs.declared.census.CensusEnd.{CensusEnd}
+use Rattle.dali_address.specs.declared.census.CensusEnd.TheVariants.{Apart, Shared}
 use Rattle.dali_address.specs.declared.task.Summary.{Summary}
 use Rattle.dali_address.specs.declared.task.Task.{Task}
 use Rattle.dali_address.specs.declared.task.Task.TheVariants.{All, Give}
@@ -9,7 +11,10 @@ use Rattle.dali_address.specs.declared.task.Task.TheVariants as tasks
 use Rattle.dali_address_link.specs.declared.run.End.{End}
 use Rattle.dali_address_link.specs.declared.run.End.TheVariants.{Done, Taken}
 use Rattle.dali_address_link.specs.Addressed.{AddressingBroke, IsAddressed}
-use Rattle.dali_address_link.specs.AddressLines.{end_text, open_line}
+use Rattle.dali_address_link.specs.AddressLines.{count_text, end_text, open_line}
+use Rattle.dali_address_link.specs.Counted.{CountingBroke, IsCounted}
+use Rattle.dali_drive.specs.Surveys.{link_of}
+use Rattle.dali_drive.specs.Transcript.{Streams}
 use Rattle.dali_drive.specs.Desks.{IsUnfailed, Look, ShowsFault}
 use Rattle.dali_trace.specs.declared.fault.DriveFault.{DriveFault}
 use Rattle.dali_trace.specs.declared.fault.DriveFault.TheVariants.{Out}
@@ -20,6 +25,8 @@ use Rattle.dali_faults.specs.declared.fault.Status.TheVariants.{Good, Refused, U
 use Rattle.dali_store.specs.Files.{IsIn}
 use Rattle.dali_store.specs.declared.file_store.FileStore.{FileStore}
 use Rattle.dali_link_commands.specs.declared.address.AddressCommand.{AddressCommand}
+use Rattle.dali_link_commands.specs.declared.address.Asked.{Asked}
+use Rattle.dali_link_commands.specs.declared.address.Asked.TheVariants.{Count, Run}
 use Rattle.dali_link_commands.specs.declared.linked.Linked.{Linked}
 use Rattle.dali_link_commands.specs.declared.linked.Linked.TheVariants.{Address, Bank}
 use Rattle.dali_link_commands.specs.declared.older.OlderFault.{OlderFault}
@@ -30,17 +37,18 @@ use Rattle.dali_link_commands.specs.Older.{fault_older}
 use Rattle.dali_link_commands.specs.ReadAnswers.{IsUntouched, on_link}
 use Rattle.dali_link_commands.specs.Told.{IsFaultTold, IsFileFaultTold, TellsLine}
 
--- by the flags that ask to give all anew, and to list
-abbrev pub task_of : Bool → Bool → Task
-task_of all list = if list then tasks.List else if all then All else Give
+-- by the flags that ask to give all anew, to list, and to count
+abbrev pub asked_of : Bool → Bool → Bool → Asked
+asked_of all list count = if count then Count else Run (if list then tasks.List else if all then All else Give)
 
 -- no unit is without a short address, none is shared, and none may be left in the initialisation state
 abbrev pub is_well : Summary → Bool
 is_well summary = nat_eq summary.missing 0 && nat_eq summary.shared 0 && not summary.open
 
-abbrev pub status_at_end : End → Status
-status_at_end (Done summary) = if is_well summary then Good else Refused
-status_at_end (Taken short) = Refused
+-- of a run that may end well or not
+abbrev pub status_at_end : Bool → End → Status
+status_at_end may_be_good (Done summary) = if may_be_good && is_well summary then Good else Refused
+status_at_end may_be_good (Taken short) = Refused
 
 -- units may be in the initialisation state where a fault broke a run off, and that can be told: a list brings none in
 abbrev pub is_left_open : Task → DriveFault → Bool
@@ -55,29 +63,95 @@ TellsBreak true fault status before after =
     ⊎ ((lines : Option (List ℕ)) × Appends before lines open_line × IsFaultTold fault status lines after)
 TellsBreak false fault status before after = IsFaultTold fault status before after
 
-module _ (task : Task) (first : Look) (status : Status) (last : Look) where
+-- each unit was counted with a short address of its own
+abbrev pub is_apart : CensusEnd → Bool
+is_apart (Apart units) = true
+is_apart end = false
+
+-- how many are marked
+abbrev pub marked_in : List Bool → ℕ
+marked_in [] = 0
+marked_in (true ∷ more) = marked_in more + 1
+marked_in (false ∷ more) = marked_in more
+
+-- how many short addresses a census found shared
+abbrev pub shared_in : CensusEnd → ℕ
+shared_in (Shared sharing) = marked_in sharing.addresses
+shared_in end = 0
+
+-- how a run ended, with what a census before it found, if there was one
+abbrev pub end_after : Option CensusEnd → End → End
+end_after (Some census) (Done summary) = Done (record summary { shared = shared_in census })
+end_after counted end = end
+
+-- a run may end well, but after a census that didn't find the units apart
+abbrev pub may_be_good : Option CensusEnd → Bool
+may_be_good None = true
+may_be_good (Some census) = is_apart census
+
+-- A run that began where these streams were, of a command that began at the first look, after this census or none.
+module _ (task : Task) (counted : Option CensusEnd) (begun : Streams) (first : Look) (status : Status) (last : Look) where
   -- the run came to its end, which was told
   pub record EndsRun : Type 0 where
     pub end : End
     pub lines : Option (List ℕ)
     pub lost : Bool
-    pub addressed : IsAddressed task end (on_link first) (on_link (with_lines last lines lost))
+    pub addressed : IsAddressed task end begun (on_link (with_lines last lines lost))
     pub untouched : IsUntouched first last
     pub unfailed : IsUnfailed (with_lines last lines lost).failed
-    pub told : TellsLine (end_text end) (status_at_end end) status lines last.streams.out
+    pub told : TellsLine (end_text (end_after counted end)) (status_at_end (may_be_good counted) (end_after counted end))
+        status lines last.streams.out
 
   -- the link or the output broke it off, which is told
   pub record BreaksRun : Type 0 where
     pub fault : DriveFault
     pub lines : Option (List ℕ)
     pub lost : Bool
-    pub broke : AddressingBroke task fault (on_link first) (on_link (with_lines last lines lost))
+    pub broke : AddressingBroke task fault begun (on_link (with_lines last lines lost))
     pub untouched : IsUntouched first last
     pub failed : ShowsFault fault (with_lines last lines lost).failed
     pub told : TellsBreak (is_left_open task fault) fault status lines last.streams.out
 
   abbrev pub IsRunAnswer : Type 0
   IsRunAnswer = EndsRun ⊎ BreaksRun
+
+-- A census, and then a run that ends the initialisation state, in which it leaves the units.
+
+-- so many silent asks are taken for the answer that no unit is left
+abbrev pub census_care : ℕ
+census_care = 4
+
+module _ (first : Look) (status : Status) (last : Look) where
+  -- the census came to its end, which was told, and then such a run was made
+  pub record EndsCount : Type 0 where
+    pub end : CensusEnd
+    pub middle : Streams
+    pub counted : IsCounted census_care end (link_of first.streams) (link_of middle)
+    pub told : Appends first.streams.out middle.out (count_text end)
+    pub closed : IsRunAnswer tasks.Close (Some end) middle first status last
+
+  -- the census came to its end, which couldn't be told
+  pub record CutsCount : Type 0 where
+    pub end : CensusEnd
+    pub counted : IsCounted census_care end (link_of first.streams) (link_of last.streams)
+    pub told : PutsFirst first.streams.out last.streams.out (count_text end)
+    pub untouched : IsUntouched first last
+    pub unwritten : status ≡ Unwritten
+
+  -- the link broke the census off, which is told
+  pub record BreaksCount : Type 0 where
+    pub fault : DriveFault
+    pub broke : CountingBroke fault (link_of first.streams) (link_of last.streams)
+    pub untouched : IsUntouched first last
+    pub failed : ShowsFault fault (with_lines last first.streams.out false).failed
+    pub told : TellsBreak (is_left_open tasks.Close fault) fault status first.streams.out last.streams.out
+
+  abbrev pub IsCountAnswer : Type 0
+  IsCountAnswer = EndsCount ⊎ CutsCount ⊎ BreaksCount
+
+abbrev pub IsAskedAnswer : Asked → Look → Status → Look → Type 0
+IsAskedAnswer (Run task) first status last = IsRunAnswer task None (on_link first) first status last
+IsAskedAnswer Count first status last = IsCountAnswer first status last
 
 -- what is known of the journal, if one is named
 abbrev pub held_named : (List ℕ → Option (List ℕ)) → Option (Bor (List ℕ)) → List (Option (List ℕ))
@@ -92,7 +166,7 @@ EndsUnrun knowns first status last = (fault : OlderFault) × MayBeUnusable known
 -- the journal, if one is named, is at rest, and a run was made; or it is of no use
 abbrev pub IsAddressAnswer : (List ℕ → Option (List ℕ)) → AddressCommand → Look → Status → Look → Type 0
 IsAddressAnswer has command first status last =
-    IsBehindNamed (held_named has command.journal) (λ rests. IsRunAnswer command.task first status last)
+    IsBehindNamed (held_named has command.journal) (λ rests. IsAskedAnswer command.asked first status last)
     (EndsUnrun (held_named has command.journal) first status last)
 
 -- What the program does over a link: what the command does. Its store is the command's; `address` has one without a

@@ -1,11 +1,15 @@
 // `address`: short addresses over a link.
-ghost use Rattle.std.specs.Prelude.{◌≡◌, ◌≢◌, ◌↔◌, false, true};
+ghost use Rattle.std.specs.Prelude.{◌≡◌, ◌≢◌, ◌↔◌, ◌+◌, ◌<◌, ◌≤◌, false, true, if◌then◌else◌};
 ghost use Rattle.dali_drive.specs.Desks.{IsUnfailed};
 ghost use Rattle.dali_text.specs.Output.{has_failed, held};
 ghost use Rattle.dali_address_link.specs.AddressLines.{end_text as text_at_end};
-ghost use Rattle.dali_link_commands.specs.AddressAnswers.{IsAddressAnswer, IsRunAnswer, TellsBreak};
-ghost use Rattle.dali_link_commands.specs.AddressAnswers.{is_left_open as left_open, status_at_end, task_of};
+ghost use Rattle.dali_link_commands.specs.AddressAnswers.{IsAddressAnswer, IsAskedAnswer, IsCountAnswer, IsRunAnswer};
+ghost use Rattle.dali_link_commands.specs.AddressAnswers.{TellsBreak, asked_of, end_after as ended_after, is_apart as apart};
+ghost use Rattle.dali_link_commands.specs.AddressAnswers.{marked_in as marked, may_be_good as good, shared_in as shared};
+ghost use Rattle.dali_link_commands.specs.AddressAnswers.{status_at_end};
+ghost use Rattle.dali_link_commands.specs.AddressAnswers.{is_left_open as left_open, is_well as well};
 ghost use Rattle.dali_link_commands.specs.Benches.{TellsUnwritten, bench, std_bench};
+ghost use Rattle.dali_link_commands.specs.ReadAnswers.{on_link};
 ghost use Rattle.dali_link_commands.specs.Told.{TellsLine, is_out};
 
 use crate::drive_files::tell_unjoined;
@@ -14,8 +18,8 @@ use crate::journal_files::JournalFiles;
 use crate::lines::Lines;
 use crate::older::held_older;
 use crate::read::tell_line;
-use dali_address::Task;
-use dali_address_link::{End, OPEN, address_units, end_text};
+use dali_address::{CensusEnd, Summary, Task};
+use dali_address_link::{End, OPEN, address_units, count_text, count_units, end_text};
 use dali_drive::{DriveFault, Sink, Source, StdSink, StdSource, StoreDesk, put_all};
 use dali_faults::Status;
 use dali_store::{FileStore, Store};
@@ -23,22 +27,37 @@ use std::alloc::Global;
 use std::fs::{File, Files};
 use std::io::{Read, Write};
 
-/// What `address` is asked for by its flags: to list, or else to give all anew, or else to give.
-pub fn task_by(all: bool, list: bool) -> Task
-    ensures { result ≡ task_of all list }
-{
-    match (all, list) {
-        (_, true) => Task::List,
-        (true, false) => Task::All,
-        (false, false) => Task::Give,
+// How many silent asks a census takes for the answer that no unit is left (profile).
+const CENSUS_CARE: u8 = 4;
+
+/// What `address` is asked for.
+#[derive(Clone, Copy, PartialEq, Eq)]
+pub enum Asked {
+    /// To give short addresses, to give them anew, or to list them.
+    Run(Task),
+    /// To count units.
+    Count,
+}
+
+impl Asked {
+    /// By its flags, of which one is given at most.
+    pub fn by(all: bool, list: bool, count: bool) -> Asked
+        ensures { result ≡ asked_of all list count }
+    {
+        match (all, list, count) {
+            (_, _, true) => Asked::Count,
+            (_, true, false) => Asked::Run(Task::List),
+            (true, false, false) => Asked::Run(Task::All),
+            (false, false, false) => Asked::Run(Task::Give),
+        }
     }
 }
 
 /// `address`, over a link (profile).
 #[derive(Clone, Copy)]
 pub struct AddressCommand<'a> {
-    /// Whether short addresses are given, given anew, or listed.
-    pub task: Task,
+    /// What it is asked for.
+    pub asked: Asked,
     /// Those that are given, in their order; where none is named, the lowest that are free.
     pub units: &'a [u8],
     /// The journal, if one is named, that has to stand idle.
@@ -66,30 +85,54 @@ impl AddressCommand<'_> {
         ensures unwritten { TellsUnwritten result (std_bench L.contents I.remaining O.contents desk.new) }
     {
         let Some(journal) = self.journal else {
-            return address(rt.alloc(), self.task, self.units, desk);
+            return address(rt.alloc(), self.asked, self.units, desk);
         };
         match held_older(rt, &[journal]) {
-            Ok(_held) => address(rt.alloc(), self.task, self.units, desk),
+            Ok(_held) => address(rt.alloc(), self.asked, self.units, desk),
             Err(unjoined) => tell_unjoined(rt.alloc(), &mut desk.out.output, &unjoined),
         }
     }
 }
 
-/// Gives or lists short addresses over streams that haven't failed, as `address_units` does: its lines, then what tells
+/// Gives, lists or counts over streams that haven't failed: a run as `address_units` has it, or a census as `count_units`
+/// has it, what tells how that ended, and then a run that ends the initialisation state. Behind the lines of a run stands
 /// how it ended, or the line of the fault that ends it, 2 Link, 3 Line, 4 End or 6 TooLong, and before that, unless it
 /// lists, that units may be left in the initialisation state. It ends as `Good` where no unit is left without a short
-/// address, none is shared, and none may be left in that state, else as `Refused`.
+/// address, none is shared, and none may be left in that state, of a census where it came to `Apart`, else as `Refused`.
 ///
 /// Where `lines` fails it is 7 Out, or there stands a first part of the last text.
 pub fn address<I: Source, L: Sink, S: Store, W: Write>(
     alloc: Global,
-    task: Task,
+    asked: Asked,
     units: &[u8],
     desk: &mut StoreDesk<I, L, S, Lines<W>>,
 ) -> Status
     requires unfailed { IsUnfailed
         (bench S.seen S.failed S.may_leave L.held L.failed I.left I.failed W.contents desk.old).failed }
-    ensures answer { IsRunAnswer task
+    ensures answer { IsAskedAnswer asked
+        (bench S.seen S.failed S.may_leave L.held L.failed I.left I.failed W.contents desk.old) result
+        (bench S.seen S.failed S.may_leave L.held L.failed I.left I.failed W.contents desk.new)
+        × TellsUnwritten result
+        (bench S.seen S.failed S.may_leave L.held L.failed I.left I.failed W.contents desk.new) }
+{
+    match asked {
+        Asked::Run(task) => run(alloc, task, units, None, desk),
+        Asked::Count => count(alloc, desk),
+    }
+}
+
+// A run, after this census or none.
+fn run<I: Source, L: Sink, S: Store, W: Write>(
+    alloc: Global,
+    task: Task,
+    units: &[u8],
+    counted: Option<CensusEnd>,
+    desk: &mut StoreDesk<I, L, S, Lines<W>>,
+) -> Status
+    requires unfailed { IsUnfailed
+        (bench S.seen S.failed S.may_leave L.held L.failed I.left I.failed W.contents desk.old).failed }
+    ensures answer { IsRunAnswer task counted
+        (on_link (bench S.seen S.failed S.may_leave L.held L.failed I.left I.failed W.contents desk.old))
         (bench S.seen S.failed S.may_leave L.held L.failed I.left I.failed W.contents desk.old) result
         (bench S.seen S.failed S.may_leave L.held L.failed I.left I.failed W.contents desk.new)
         × TellsUnwritten result
@@ -103,7 +146,7 @@ pub fn address<I: Source, L: Sink, S: Store, W: Write>(
         &mut desk.out,
     );
     match ended {
-        Ok(end) => tell_end(&mut desk.out, end),
+        Ok(end) => tell_end(&mut desk.out, counted, end),
         Err(fault) => {
             let causes = Causes {
                 link_in: desk.link_in.cause(),
@@ -113,6 +156,43 @@ pub fn address<I: Source, L: Sink, S: Store, W: Write>(
             tell_break(alloc, &mut desk.out, task, fault, causes)
         }
     }
+}
+
+// A census, which leaves the units in the initialisation state, and then a run that ends that.
+fn count<I: Source, L: Sink, S: Store, W: Write>(
+    alloc: Global,
+    desk: &mut StoreDesk<I, L, S, Lines<W>>,
+) -> Status
+    requires unfailed { IsUnfailed
+        (bench S.seen S.failed S.may_leave L.held L.failed I.left I.failed W.contents desk.old).failed }
+    ensures answer { IsCountAnswer
+        (bench S.seen S.failed S.may_leave L.held L.failed I.left I.failed W.contents desk.old) result
+        (bench S.seen S.failed S.may_leave L.held L.failed I.left I.failed W.contents desk.new)
+        × TellsUnwritten result
+        (bench S.seen S.failed S.may_leave L.held L.failed I.left I.failed W.contents desk.new) }
+{
+    match count_units(CENSUS_CARE, &mut desk.link_in, &mut desk.link_out) {
+        Ok(end) => {
+            if !put_all(&mut desk.out, &count_text(&end)) {
+                return Status::Unwritten;
+            }
+            run(alloc, Task::Close, &[], Some(end), desk)
+        }
+        Err(fault) => {
+            let causes = Causes {
+                link_in: desk.link_in.cause(),
+                link_out: desk.link_out.cause(),
+                store: None,
+            };
+            tell_break(alloc, &mut desk.out, Task::Close, fault, causes)
+        }
+    }
+}
+
+fn is_apart(end: &CensusEnd) -> bool
+    ensures { result ≡ apart end.now }
+{
+    matches!(end, CensusEnd::Apart(_))
 }
 
 // Tells why a run broke off.
@@ -164,24 +244,78 @@ fn is_left_open(task: Task, fault: DriveFault) -> bool
     }
 }
 
-// Tells how a run ended, where the lines haven't failed.
-fn tell_end<W: Write>(lines: &mut Lines<W>, end: End) -> Status
+// Tells how a run ended, after this census or none, where the lines haven't failed.
+fn tell_end<W: Write>(lines: &mut Lines<W>, counted: Option<CensusEnd>, end: End) -> Status
     requires { has_failed lines.old.output ≡ false }
-    ensures told { TellsLine (text_at_end end) (status_at_end end) result
-        (held W.contents lines.old.output) (held W.contents lines.new.output) }
+    ensures told { TellsLine (text_at_end (ended_after counted end)) (status_at_end (good counted) (ended_after counted end))
+        result (held W.contents lines.old.output) (held W.contents lines.new.output) }
     ensures unwritten { result ≡ Status.Unwritten ↔ has_failed lines.new.output ≡ true }
 {
-    tell_line(lines, &end_text(end), status_of(end))
+    let end = end_after(counted, end);
+    tell_line(lines, &end_text(end), status_of(may_be_good(counted), end))
 }
 
-fn status_of(end: End) -> Status
-    ensures status { result ≡ status_at_end end }
+fn end_after(counted: Option<CensusEnd>, end: End) -> End
+    ensures { result ≡ ended_after counted end }
+{
+    match (counted, end) {
+        (Some(census), End::Done(summary)) => End::Done(Summary {
+            shared: shared_in(&census),
+            ..summary
+        }),
+        _ => end,
+    }
+}
+
+fn shared_in(end: &CensusEnd) -> u8
+    ensures { result ≡ shared end.now }
+{
+    match end {
+        CensusEnd::Shared(sharing) => marked_in(&sharing.addresses),
+        CensusEnd::Apart(_) | CensusEnd::Unclear => 0,
+    }
+}
+
+fn marked_in(addresses: &[bool; 64]) -> u8
+    ensures { result ≡ marked addresses.now }
+{
+    let mut count = 0;
+    for is_marked in addresses {
+        count = with_one(count, *is_marked);
+    }
+    count
+}
+
+fn with_one(count: u8, is_marked: bool) -> u8
+    requires { count < 64 }
+    ensures sum { result ≡ count + (if is_marked then 1 else 0) }
+    ensures most { result ≤ count + 1 }
+{
+    if is_marked { count + 1 } else { count }
+}
+
+fn may_be_good(counted: Option<CensusEnd>) -> bool
+    ensures { result ≡ good counted }
+{
+    match counted {
+        None => true,
+        Some(census) => is_apart(&census),
+    }
+}
+
+fn status_of(may_be_good: bool, end: End) -> Status
+    ensures status { result ≡ status_at_end may_be_good end }
     ensures written { result ≢ Status.Unwritten }
 {
     match end {
-        End::Done(summary) if summary.missing == 0 && summary.shared == 0 && !summary.open => {
-            Status::Good
-        }
+        End::Done(summary) if may_be_good && is_well(summary) => Status::Good,
         End::Done(_) | End::Taken(_) => Status::Refused,
     }
+}
+
+// Whether no unit is without a short address, none is shared, and none may be left in the initialisation state.
+fn is_well(summary: Summary) -> bool
+    ensures { result ≡ well summary }
+{
+    summary.missing == 0 && summary.shared == 0 && !summary.open
 }

@@ -1,16 +1,15 @@
 -- What is so of the units during a census at which nothing was lost.
 use Rattle.std.proofs.Common.{◌≡◌, ◌≢◌, ℕ, ◌<◌, inl, inr, ◌⊎◌, List, [], ◌∷◌, Option, Some, None, refl, sym, subst, ap, ◌∙◌}
 use Rattle.std.proofs.Common.{arith}
-use Rattle.dali_bus.specs.Chain.{IsChain, AtEachMoment}
 use Rattle.dali_address.specs.Units.{Three, number_of, Phase, Disabled, Enabled, Withdrawn, Member, Units}
 use Rattle.dali_address.specs.Obeys.{Tells, IsChosen, told_short}
-use Rattle.dali_address.specs.Steps.{Exchange, Answers, Collides}
-use Rattle.dali_address.specs.Census.{IsWhole, HasAddresses, HasCounted}
+use Rattle.dali_address.specs.Steps.{Exchange, Answers, Collides, calls_of}
+use Rattle.dali_address.specs.Census.{IsWhole, IsDrawnWithin, WasHeard, HasAddresses}
 use Rattle.dali_address.specs.Tallying.{IsQuiet, sought, Counted, IsIn, Tally, only_asks, Rises, Repeats, CountsOne}
 use Rattle.dali_address.specs.Tallying.{CountsNone, Leads, IsCensus}
 use Rattle.dali_address.proofs.HeardLemmas.{some_is, Kept, Calm, calm_quiet, Keeps, keeps_quiet, keeps_withdrawn, Still}
 use Rattle.dali_address.proofs.HeardLemmas.{still, AreSound, sound_before}
-use Rattle.dali_address.proofs.OpeningLemmas.{AreReady, ready}
+use Rattle.dali_address.proofs.OpeningLemmas.{AreReady, Came, all_heard, came_before, opening_drew, ready, within_more}
 use Rattle.dali_address.specs.declared.call.Call.{Call}
 use Rattle.dali_address.specs.declared.call.Call.TheVariants.{Terminate, InitialiseAll, InitialiseMissing, InitialiseAt}
 use Rattle.dali_address.specs.declared.call.Call.TheVariants.{Randomise, Compare, Withdraw, SearchHigh, SearchMiddle}
@@ -379,17 +378,38 @@ amid_first units search ready =
       rising = tt;
     }
 
+-- a frame of a census but of its opening isn't RANDOMISE
+leads_other : (tally after : Tally) (call : Call) (answer : Option ℕ) → Leads tally call answer after → call ≢ Randomise
+leads_other tally after call answer leads =
+    λ same. (subst (λ (it : Call). Leads tally it answer after) same leads).0
+
+-- so nobody draws during a census
+none_draws : (told : List Exchange) (tally : Tally) → IsCensus told tally → IsDrawnWithin 4 (calls_of told) → ⊥
+none_draws [] tally census drew = census
+none_draws (newest ∷ past) tally (inl opened) drew =
+    opening_drew (subst (λ (it : List Call). IsDrawnWithin 4 it) opened.sent drew)
+none_draws (newest ∷ past) tally (inr (before, earlier, leads)) (inl same) =
+    leads_other before tally newest.call newest.answer leads same
+none_draws (newest ∷ past) tally (inr (before, earlier, leads)) (inr drew) =
+    none_draws past before earlier (within_more 3 (calls_of past) drew)
+
+-- so each unit heard the next one
+pub heard_amid : (newest : Exchange) (past : List Exchange) (last state : Units) (states : List Units) (tally : Tally)
+    → WasHeard (newest ∷ past) last (state ∷ states) → IsCensus past tally → IsWhole state newest last
+heard_amid newest past last state states tally heard census =
+    all_heard state newest last heard (none_draws past tally census)
+
 pub so_far : (first : Units) (told : List Exchange) (last : Units) (states : List Units) (tally : Tally)
-    → AreSound last → IsChain IsWhole first told last states → AtEachMoment HasCounted told last states
-    → IsCensus told tally → IsSoFar last tally
-so_far first [] last states tally sound steps counts census = absurd census
-so_far first (newest ∷ past) last [] tally sound steps counts census = absurd steps
-so_far first (newest ∷ past) last (state ∷ states) tally sound steps counts (inl opened) =
+    → AreSound last → Came first told last states → IsCensus told tally → IsSoFar last tally
+so_far first [] last states tally sound came census = absurd census
+so_far first (newest ∷ past) last [] tally sound came census = absurd came.chain
+so_far first (newest ∷ past) last (state ∷ states) tally sound came (inl opened) =
     subst (λ (it : Tally). IsSoFar last it) (sym opened.is)
-    (unasked [] last _ (amid_first last _ (ready first (newest ∷ past) last (state ∷ states) opened.sent steps counts)))
-so_far first (newest ∷ past) last (state ∷ states) tally sound steps counts (inr (before, earlier, leads)) =
+    (unasked [] last _ (amid_first last _ (ready first (newest ∷ past) last (state ∷ states) opened.sent came)))
+so_far first (newest ∷ past) last (state ∷ states) tally sound came (inr (before, earlier, leads)) =
+    let whole : IsWhole state newest last = heard_amid newest past last state states before came.heard.0 earlier in
     let keeps : Keeps newest.call state last
-    = leads_keep state newest.call newest.answer last before tally steps.0 leads in
+    = leads_keep state newest.call newest.answer last before tally whole leads in
     let was : AreSound state = sound_before newest.call state last keeps sound in
     so_after state newest.call newest.answer last before tally was
-    (so_far first past state states before was steps.1 counts.1 earlier) steps.0 leads
+    (so_far first past state states before was (came_before first newest past last state states came) earlier) whole leads

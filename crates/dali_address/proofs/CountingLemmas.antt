@@ -2,12 +2,13 @@
 use Rattle.std.proofs.Common.{◌≡◌, ℕ, inl, inr, List, [], ◌∷◌, None, refl, sym, subst, ap, ◌∙◌}
 use Rattle.dali_address.specs.Units.{Units}
 use Rattle.dali_address.specs.Steps.{Exchange}
-use Rattle.dali_address.specs.Census.{WasWhole, highest, IsEndOf}
+use Rattle.dali_address.specs.Census.{IsWhole, WasWhole, highest, IsEndOf}
 use Rattle.dali_address.specs.Tallying.{Tally, IsCensus}
 use Rattle.dali_address.specs.Marking.{IsSaidBy}
 use Rattle.dali_address.specs.Counting.{AreSilent, HasGivenUp, IsThrough, HasCome, CensusIsTrue, ChecksCount}
 use Rattle.dali_address.proofs.HeardLemmas.{Keeps, keeps_quiet, AreSound, sound_before}
-use Rattle.dali_address.proofs.CensusLemmas.{IsSoFar, so_far, so_after}
+use Rattle.dali_address.proofs.CensusLemmas.{IsSoFar, heard_amid, so_far, so_after}
+use Rattle.dali_address.proofs.OpeningLemmas.{Came, came_before}
 use Rattle.dali_address.proofs.EndLemmas.{AreJust, all_counted, apart_so, sharing_so}
 use Rattle.dali_address.specs.declared.call.Call.{Call}
 use Rattle.dali_address.specs.declared.call.Call.TheVariants.{Compare, SearchHigh}
@@ -26,20 +27,25 @@ just_counted : (first : Units) (past : List Exchange) (last : Units) (states : L
     → WasWhole first (record { call = Compare; answer = None } ∷ past) last states
     → IsCensus (record { call = Compare; answer = None } ∷ past) tally → tally.search ≡ highest
     → AreJust tally.counted last
-just_counted first past last [] tally was census most = absurd was.whole
+just_counted first past last [] tally was census most = absurd was.chain
 just_counted first past last (state ∷ states) tally was (inl opened) most =
     absurd (not_opening Compare _ _ refl opened.sent)
 just_counted first past last (state ∷ states) tally was (inr (before, earlier, leads)) most =
+    let check : Exchange = record { call = Compare; answer = None } in
+    let whole : IsWhole state check last = heard_amid check past last state states before was.heard.0 earlier in
+    let came : Came first past state states
+    = came_before first check past last state states
+    (record { chain = was.chain; heard = was.heard; counted = was.counted }) in
     let sound : AreSound last = record { addresses = was.addresses; numbers = was.numbers } in
     let keeps : Keeps Compare state last
-    = keeps_quiet state (record { call = Compare; answer = None }) last was.whole.0 tt in
+    = keeps_quiet state check last whole tt in
     let old : AreSound state = sound_before Compare state last keeps sound in
-    let far : IsSoFar state before = so_far first past state states before old was.whole.1 was.counted.1 earlier in
+    let far : IsSoFar state before = so_far first past state states before old came earlier in
     let now : IsSoFar last tally
-    = so_after state Compare None last before tally old far was.whole.0 leads in
+    = so_after state Compare None last before tally old far whole leads in
     let search : tally.search ≡ before.search = ap (λ (it : Tally). it.search) leads.1 in
     let counted : tally.counted ≡ before.counted = ap (λ (it : Tally). it.counted) leads.1 in
-    let each = all_counted before.counted state last before.search far.amid (sym search ∙ most) old was.whole.0 in
+    let each = all_counted before.counted state last before.search far.amid (sym search ∙ most) old whole in
     record {
       sound = sound;
       covers = rw counted each;

@@ -1,15 +1,29 @@
--- After an opening at which nothing was lost each unit is in the initialisation state, with the highest search address.
-use Rattle.std.proofs.Common.{◌≡◌, ◌≢◌, ℕ, inl, inr, List, [], ◌∷◌, Option, Some, refl, sym, subst, ap, ◌∙◌}
-use Rattle.dali_bus.specs.Chain.{IsChain, AtEachMoment}
+-- After an opening at which nothing was lost each unit is in the initialisation state, with the highest search address:
+-- also one that heard nothing while it drew.
+use Rattle.std.proofs.Common.{◌≡◌, ◌≢◌, ℕ, inl, inr, ◌⊎◌, List, [], ◌∷◌, Option, Some, refl, sym, subst, ap, ◌∙◌}
+use Rattle.std.proofs.Common.{zero, suc}
+use Rattle.std.specs.Prelude.{⊤}
+use Rattle.dali_bus.specs.Chain.{IsChain, AtEachMoment, AtEachState}
 use Rattle.dali_address.specs.Units.{Three, Phase, Disabled, Enabled, Withdrawn, Member, Units}
 use Rattle.dali_address.specs.Obeys.{Does, Seeks}
-use Rattle.dali_address.specs.Steps.{Exchange}
-use Rattle.dali_address.specs.Census.{IsWhole, HasCounted, highest}
-use Rattle.dali_address.specs.Tallying.{calls_of, opening}
-use Rattle.dali_address.proofs.HeardLemmas.{From, from}
+use Rattle.dali_address.specs.Steps.{Exchange, Step, calls_of}
+use Rattle.dali_address.specs.Census.{IsHeard, IsUnheard, IsWhole, IsHalfHeard, IsDrawnWithin, WasHeard, HasCounted, highest}
+use Rattle.dali_address.specs.Tallying.{opening}
+use Rattle.dali_address.proofs.HeardLemmas.{From, from, some_is, there_before}
 use Rattle.dali_address.specs.declared.call.Call.{Call}
 use Rattle.dali_address.specs.declared.call.Call.TheVariants.{Terminate, InitialiseAll, Randomise, SearchHigh}
 use Rattle.dali_address.specs.declared.call.Call.TheVariants.{SearchMiddle, SearchLow}
+
+-- these frames led there, and at each of them nothing was lost
+pub record Came (first : Units) (told : List Exchange) (last : Units) (states : List Units) : Type 0 where
+  pub chain : IsChain Step first told last states
+  pub heard : AtEachState WasHeard told last states
+  pub counted : AtEachMoment HasCounted told last states
+
+pub came_before : (first : Units) (newest : Exchange) (past : List Exchange) (last state : Units) (states : List Units)
+    → Came first (newest ∷ past) last (state ∷ states) → Came first past state states
+came_before first newest past last state states came =
+    record { chain = came.chain.1; heard = came.heard.1; counted = came.counted.1 }
 
 -- the newest frame, and those before it
 record Peeled (call : Call) (calls : List Call) (first : Units) (told : List Exchange) (last : Units) : Type 0 where
@@ -19,33 +33,37 @@ record Peeled (call : Call) (calls : List Call) (first : Units) (told : List Exc
   state : Units
   rest : List Units
   sent : calls_of past ≡ calls
-  whole : IsWhole state (record { call = call; answer = answer }) last
-  chain : IsChain IsWhole first past state rest
+  step : Step state (record { call = call; answer = answer }) last
+  heard : IsWhole state (record { call = call; answer = answer }) last
+      ⊎ (IsDrawnWithin 4 calls × IsHalfHeard state (record { call = call; answer = answer }) last)
   here : HasCounted told last
-  counted : AtEachMoment HasCounted past state rest
+  before : Came first past state rest
 
 peeled : (call : Call) (calls : List Call) (first : Units) (told : List Exchange) (last : Units) (states : List Units)
-    → calls_of told ≡ call ∷ calls → IsChain IsWhole first told last states
-    → AtEachMoment HasCounted told last states → Peeled call calls first told last
-peeled call calls first [] last states sent steps counted = absurd (no sent)
+    → calls_of told ≡ call ∷ calls → Came first told last states → Peeled call calls first told last
+peeled call calls first [] last states sent came = absurd (no sent)
   where
     no : [] ≡ call ∷ calls → ⊥
     no e = cc
-peeled call calls first (newest ∷ past) last [] sent steps counted = absurd steps
-peeled call calls first (newest ∷ past) last (state ∷ states) sent steps counted =
+peeled call calls first (newest ∷ past) last [] sent came = absurd came.chain
+peeled call calls first (newest ∷ past) last (state ∷ states) sent came =
     let E : Call → Exchange = λ it. record { call = it; answer = newest.answer } in
     let same : newest.call ≡ call = head newest.call call (calls_of past) calls sent in
+    let older : calls_of past ≡ calls = tail newest.call call (calls_of past) calls sent in
     record {
       answer = newest.answer;
       past = past;
       is = ap (λ (it : Call). E it ∷ past) same;
       state = state;
       rest = states;
-      sent = tail newest.call call (calls_of past) calls sent;
-      whole = subst (λ (it : Call). IsWhole state (record { call = it; answer = newest.answer }) last) same steps.0;
-      chain = steps.1;
-      here = counted.0;
-      counted = counted.1;
+      sent = older;
+      step = subst (λ (it : Call). Step state (E it) last) same came.chain.0;
+      heard = subst (λ (those : List Call). IsWhole state (E call) last
+          ⊎ (IsDrawnWithin 4 those × IsHalfHeard state (E call) last)) older
+          (subst (λ (it : Call). IsWhole state (E it) last
+          ⊎ (IsDrawnWithin 4 (calls_of past) × IsHalfHeard state (E it) last)) same came.heard.0);
+      here = came.counted.0;
+      before = came_before first newest past last state states came;
     }
   where
     head : (one two : Call) (ones twos : List Call) → one ∷ ones ≡ two ∷ twos → one ≡ two
@@ -53,6 +71,12 @@ peeled call calls first (newest ∷ past) last (state ∷ states) sent steps cou
 
     tail : (one two : Call) (ones twos : List Call) → one ∷ ones ≡ two ∷ twos → ones ≡ twos
     tail one two ones twos e = cc
+
+-- a frame while nobody draws
+pub all_heard : {D : Type 0} (old : Units) (exchange : Exchange) (new : Units)
+    → IsWhole old exchange new ⊎ (D × IsHalfHeard old exchange new) → (D → ⊥) → IsWhole old exchange new
+all_heard old exchange new (inl whole) not = whole
+all_heard old exchange new (inr (drawing, half)) not = absurd (not drawing)
 
 -- it holds of each unit
 abbrev Each : (Member → Type 0) → Units → Type 0
@@ -75,6 +99,37 @@ each_after P Q old call answer new whole does each number after is =
     subst (λ (phase : Phase). Q phase after.search) (sym it.on.phase)
     (subst (λ (search : Three). Q it.obeyed.phase search) (sym it.on.search) now)
 
+-- it stays so, also of a unit that didn't hear the frame
+each_on : (P : Phase → Three → Type 0) (old : Units) (call : Call) (answer : Option ℕ) (new : Units) (calls : List Call)
+    → Step old (record { call = call; answer = answer }) new
+    → IsWhole old (record { call = call; answer = answer }) new
+    ⊎ (IsDrawnWithin 4 calls × IsHalfHeard old (record { call = call; answer = answer }) new)
+    → ((before : Member) (answer : Option ℕ) (after : Member) → Does before call answer after → Shows P before
+    → Shows P after)
+    → Each (Shows P) old → Each (Shows P) new
+each_on P old call answer new calls step (inl whole) does each number after is =
+    each_after P P old call answer new whole does each number after is
+each_on P old call answer new calls step (inr (drawing, half)) does each number after is =
+    let (member, was) = there_before (old number) call (new number) after (step.each number) is in
+    by member (each number member was) (half number member was)
+  where
+    shown : (it at : Member) → Shows P it → at.phase ≡ it.phase → at.search ≡ it.search → Shows P at
+    shown it at now phase search =
+        subst (λ (p : Phase). P p at.search) (sym phase) (subst (λ (s : Three). P it.phase s) (sym search) now)
+
+    by : (member : Member) → Shows P member
+        → IsHeard (record { call = call; answer = answer }) member (new number) ⊎ IsUnheard member (new number)
+        → Shows P after
+    by member before (inl heard) =
+        let same : heard.after ≡ after = some_is heard.after after (sym heard.is ∙ is) in
+        subst (λ (it : Member). Shows P it) same
+        (shown heard.obeyed heard.after (does member heard.answer heard.obeyed heard.does before) heard.on.phase
+        heard.on.search)
+    by member before (inr unheard) =
+        let same : unheard.after ≡ after = some_is unheard.after after (sym unheard.is ∙ is) in
+        subst (λ (it : Member). Shows P it) same
+        (shown member unheard.after before unheard.on.phase unheard.on.search)
+
 abbrev Any : Phase → Three → Type 0
 Any phase search = Unit {0}
 
@@ -87,11 +142,11 @@ NotOut phase search = phase ≢ Withdrawn
 abbrev On : Phase → Three → Type 0
 On phase search = phase ≡ Enabled
 
-abbrev OnHigh : Phase → Three → Type 0
-OnHigh phase search = (phase ≡ Enabled) × (search.high ≡ 0xFF)
-
 abbrev OnMiddle : Phase → Three → Type 0
-OnMiddle phase search = (phase ≡ Enabled) × (search.high ≡ 0xFF) × (search.middle ≡ 0xFF)
+OnMiddle phase search = (phase ≡ Enabled) × (search.middle ≡ 0xFF)
+
+abbrev OnLow : Phase → Three → Type 0
+OnLow phase search = (phase ≡ Enabled) × (search.middle ≡ 0xFF) × (search.low ≡ 0xFF)
 
 abbrev OnAll : Phase → Three → Type 0
 OnAll phase search = (phase ≡ Enabled) × (search ≡ highest)
@@ -136,45 +191,98 @@ seeks_on search before answer after (inl same, none) on =
     (ap (λ (m : Member). m.phase) same ∙ on, ap (λ (m : Member). m.search) same)
 seeks_on search before answer after (inr (off, same), none) on = absurd (not_both before.phase on off)
 
-put_high : (before : Member) (answer : Option ℕ) (after : Member) → Does before (SearchHigh 0xFF) answer after
-    → Shows On before → Shows OnHigh after
-put_high before answer after does on =
-    let now = seeks_on (record before.search { high = 0xFF }) before answer after does on in
-    (now.0, ap (λ (t : Three). t.high) now.1)
+sought_on : (put : Member → Three) (before : Member) (answer : Option ℕ) (after : Member)
+    → Seeks (put before) before answer after → Shows On before → Shows On after
+sought_on put before answer after seeks on = (seeks_on (put before) before answer after seeks on).0
 
 put_middle : (before : Member) (answer : Option ℕ) (after : Member) → Does before (SearchMiddle 0xFF) answer after
-    → Shows OnHigh before → Shows OnMiddle after
-put_middle before answer after does (on, high) =
+    → Shows On before → Shows OnMiddle after
+put_middle before answer after does on =
     let now = seeks_on (record before.search { middle = 0xFF }) before answer after does on in
-    (now.0, ap (λ (t : Three). t.high) now.1 ∙ high, ap (λ (t : Three). t.middle) now.1)
+    (now.0, ap (λ (t : Three). t.middle) now.1)
 
 put_low : (before : Member) (answer : Option ℕ) (after : Member) → Does before (SearchLow 0xFF) answer after
-    → Shows OnMiddle before → Shows OnAll after
-put_low before answer after does (on, high, middle) =
+    → Shows OnMiddle before → Shows OnLow after
+put_low before answer after does (on, middle) =
     let now = seeks_on (record before.search { low = 0xFF }) before answer after does on in
-    let T : ℕ → ℕ → Three = λ h m. record { high = h; middle = m; low = 0xFF } in (
+    (now.0, ap (λ (t : Three). t.middle) now.1 ∙ middle, ap (λ (t : Three). t.low) now.1)
+
+put_high : (before : Member) (answer : Option ℕ) (after : Member) → Does before (SearchHigh 0xFF) answer after
+    → Shows OnLow before → Shows OnAll after
+put_high before answer after does (on, middle, low) =
+    let now = seeks_on (record before.search { high = 0xFF }) before answer after does on in
+    let T : ℕ → ℕ → Three = λ m l. record { high = 0xFF; middle = m; low = l } in (
       now.0,
-      now.1 ∙ ap (λ (h : ℕ). T h before.search.middle) high ∙ ap (λ (m : ℕ). T 0xFF m) middle,
+      now.1 ∙ ap (λ (m : ℕ). T m before.search.low) middle ∙ ap (λ (l : ℕ). T 0xFF l) low,
     )
 
+abbrev ended : List Call
+ended = Terminate ∷ (Terminate ∷ [])
+
+abbrev called : List Call
+called = InitialiseAll ∷ (InitialiseAll ∷ ended)
+
+abbrev asked_to_draw : List Call
+asked_to_draw = Randomise ∷ (Randomise ∷ called)
+
+-- while units may draw
+abbrev sought_once : List Call
+sought_once = SearchHigh 0xFF ∷ (SearchLow 0xFF ∷ (SearchMiddle 0xFF ∷ (SearchHigh 0xFF ∷ asked_to_draw)))
+
+-- the newest of these are other frames than RANDOMISE
+abbrev pub AreOthers : ℕ → List Call → Type 0
+AreOthers zero calls = ⊤
+AreOthers (suc more) [] = ⊤
+AreOthers (suc more) (newest ∷ older) = (newest ≢ Randomise) × AreOthers more older
+
+pub none_drew : (many : ℕ) (calls : List Call) → AreOthers many calls → IsDrawnWithin many calls → ⊥
+none_drew zero calls others drew = drew
+none_drew (suc more) [] others drew = drew
+none_drew (suc more) (newest ∷ older) others (inl same) = others.0 same
+none_drew (suc more) (newest ∷ older) others (inr drew) = none_drew more older others.1 drew
+
+pub within_more : (many : ℕ) (calls : List Call) → IsDrawnWithin many calls → IsDrawnWithin (suc many) calls
+within_more zero calls drew = absurd drew
+within_more (suc more) [] drew = drew
+within_more (suc more) (newest ∷ older) (inl same) = inl same
+within_more (suc more) (newest ∷ older) (inr drew) = inr (within_more more older drew)
+
+terminate_other : Terminate ≢ Randomise
+terminate_other = λ e. cc
+
+initialise_other : InitialiseAll ≢ Randomise
+initialise_other = λ e. cc
+
+high_other : SearchHigh 0xFF ≢ Randomise
+high_other = λ e. cc
+
+middle_other : SearchMiddle 0xFF ≢ Randomise
+middle_other = λ e. cc
+
+low_other : SearchLow 0xFF ≢ Randomise
+low_other = λ e. cc
+
 -- after TERMINATE and INITIALISE, each twice
-called_in : (first : Units) (told : List Exchange) (last : Units) (states : List Units)
-    → calls_of told ≡ InitialiseAll ∷ (InitialiseAll ∷ (Terminate ∷ (Terminate ∷ [])))
-    → IsChain IsWhole first told last states → AtEachMoment HasCounted told last states → Each (Shows On) last
-called_in first told last states sent steps counted =
-    let p : Peeled InitialiseAll (InitialiseAll ∷ (Terminate ∷ (Terminate ∷ []))) first told last
-    = peeled InitialiseAll _ first told last states sent steps counted in
-    let q : Peeled InitialiseAll (Terminate ∷ (Terminate ∷ [])) first p.past p.state
-    = peeled InitialiseAll _ first p.past p.state p.rest p.sent p.chain p.counted in
+called_in : (first : Units) (told : List Exchange) (last : Units) (states : List Units) → calls_of told ≡ called
+    → Came first told last states → Each (Shows On) last
+called_in first told last states sent came =
+    let p : Peeled InitialiseAll (InitialiseAll ∷ ended) first told last
+    = peeled InitialiseAll _ first told last states sent came in
+    let q : Peeled InitialiseAll ended first p.past p.state
+    = peeled InitialiseAll _ first p.past p.state p.rest p.sent p.before in
     let r : Peeled Terminate (Terminate ∷ []) first q.past q.state
-    = peeled Terminate _ first q.past q.state q.rest q.sent q.chain q.counted in
+    = peeled Terminate _ first q.past q.state q.rest q.sent q.before in
     let off : Each (Shows Off) q.state
-    = each_after Any Off r.state Terminate r.answer q.state r.whole terminated (λ number member is. tt) in
+    = each_after Any Off r.state Terminate r.answer q.state
+    (all_heard _ _ _ r.heard (none_drew 4 (Terminate ∷ []) (terminate_other, tt))) terminated (λ number member is. tt) in
     let once : Each (Shows NotOut) p.state
-    = each_after NotOut NotOut q.state InitialiseAll q.answer p.state q.whole initialised
+    = each_after NotOut NotOut q.state InitialiseAll q.answer p.state
+    (all_heard _ _ _ q.heard (none_drew 4 ended (terminate_other, (terminate_other, tt)))) initialised
     (λ number member is. out_of member.phase Disabled (off number member is) off_in) in
     let twice : Each (Shows NotOut) last
-    = each_after NotOut NotOut p.state InitialiseAll p.answer last p.whole initialised once in
+    = each_after NotOut NotOut p.state InitialiseAll p.answer last
+    (all_heard _ _ _ p.heard
+    (none_drew 4 (InitialiseAll ∷ ended) (initialise_other, (terminate_other, (terminate_other, tt))))) initialised once in
     let here : HasCounted (record { call = InitialiseAll; answer = p.answer }
     ∷ (record { call = InitialiseAll; answer = q.answer } ∷ q.past)) last
     = subst (λ (it : List Exchange). HasCounted (record { call = InitialiseAll; answer = p.answer } ∷ it) last) q.is
@@ -186,56 +294,65 @@ abbrev pub AreReady : Three → Units → Type 0
 AreReady search units = (number : ℕ) (member : Member) → units number ≡ Some member
     → (member.phase ≡ Enabled) × (member.search ≡ search)
 
--- after three frames that put the highest search address
-put_once : (calls : List Call) (first : Units) (told : List Exchange) (last : Units) (states : List Units)
-    → calls_of told ≡ SearchLow 0xFF ∷ (SearchMiddle 0xFF ∷ (SearchHigh 0xFF ∷ calls))
-    → IsChain IsWhole first told last states → AtEachMoment HasCounted told last states
-    → ((past : List Exchange) (state : Units) (rest : List Units) → calls_of past ≡ calls
-    → IsChain IsWhole first past state rest → AtEachMoment HasCounted past state rest → Each (Shows On) state)
-    → AreReady highest last
-put_once calls first told last states sent steps counted before =
-    let p : Peeled (SearchLow 0xFF) (SearchMiddle 0xFF ∷ (SearchHigh 0xFF ∷ calls)) first told last
-    = peeled (SearchLow 0xFF) _ first told last states sent steps counted in
-    let q : Peeled (SearchMiddle 0xFF) (SearchHigh 0xFF ∷ calls) first p.past p.state
-    = peeled (SearchMiddle 0xFF) _ first p.past p.state p.rest p.sent p.chain p.counted in
-    let r : Peeled (SearchHigh 0xFF) calls first q.past q.state
-    = peeled (SearchHigh 0xFF) _ first q.past q.state q.rest q.sent q.chain q.counted in
-    let on : Each (Shows On) r.state = before r.past r.state r.rest r.sent r.chain r.counted in
-    let high : Each (Shows OnHigh) q.state
-    = each_after On OnHigh r.state (SearchHigh 0xFF) r.answer q.state r.whole put_high on in
-    let middle : Each (Shows OnMiddle) p.state
-    = each_after OnHigh OnMiddle q.state (SearchMiddle 0xFF) q.answer p.state q.whole put_middle high in
-    each_after OnMiddle OnAll p.state (SearchLow 0xFF) p.answer last p.whole put_low middle
-
 -- after RANDOMISE twice
-drawn : (first : Units) (told : List Exchange) (last : Units) (states : List Units)
-    → calls_of told
-    ≡ Randomise ∷ (Randomise ∷ (InitialiseAll ∷ (InitialiseAll ∷ (Terminate ∷ (Terminate ∷ [])))))
-    → IsChain IsWhole first told last states → AtEachMoment HasCounted told last states → Each (Shows On) last
-drawn first told last states sent steps counted =
-    let p : Peeled Randomise (Randomise ∷ (InitialiseAll ∷ (InitialiseAll ∷ (Terminate ∷ (Terminate ∷ []))))) first told
-    last
-    = peeled Randomise _ first told last states sent steps counted in
-    let q : Peeled Randomise (InitialiseAll ∷ (InitialiseAll ∷ (Terminate ∷ (Terminate ∷ [])))) first p.past p.state
-    = peeled Randomise _ first p.past p.state p.rest p.sent p.chain p.counted in
-    let on : Each (Shows On) q.state = called_in first q.past q.state q.rest q.sent q.chain q.counted in
+drawn : (first : Units) (told : List Exchange) (last : Units) (states : List Units) → calls_of told ≡ asked_to_draw
+    → Came first told last states → Each (Shows On) last
+drawn first told last states sent came =
+    let p : Peeled Randomise (Randomise ∷ called) first told last
+    = peeled Randomise _ first told last states sent came in
+    let q : Peeled Randomise called first p.past p.state
+    = peeled Randomise _ first p.past p.state p.rest p.sent p.before in
+    let on : Each (Shows On) q.state = called_in first q.past q.state q.rest q.sent q.before in
     let once : Each (Shows On) p.state
-    = each_after On On q.state Randomise q.answer p.state q.whole randomised on in
-    each_after On On p.state Randomise p.answer last p.whole randomised once
+    = each_on On q.state Randomise q.answer p.state called q.step q.heard randomised on in
+    each_on On p.state Randomise p.answer last (Randomise ∷ called) p.step p.heard randomised once
 
--- the high byte once more
-put_again : (before : Member) (answer : Option ℕ) (after : Member) → Does before (SearchHigh 0xFF) answer after
-    → Shows OnAll before → Shows OnAll after
-put_again before answer after does (on, all) =
-    let now = seeks_on (record before.search { high = 0xFF }) before answer after does on in
-    (now.0, now.1 ∙ ap (λ (t : Three). record t { high = 0xFF }) all)
+-- after four frames more, which those that draw need not hear
+listening : (first : Units) (told : List Exchange) (last : Units) (states : List Units) → calls_of told ≡ sought_once
+    → Came first told last states → Each (Shows On) last
+listening first told last states sent came =
+    let p : Peeled (SearchHigh 0xFF) _ first told last = peeled (SearchHigh 0xFF) _ first told last states sent came in
+    let q : Peeled (SearchLow 0xFF) _ first p.past p.state
+    = peeled (SearchLow 0xFF) _ first p.past p.state p.rest p.sent p.before in
+    let r : Peeled (SearchMiddle 0xFF) _ first q.past q.state
+    = peeled (SearchMiddle 0xFF) _ first q.past q.state q.rest q.sent q.before in
+    let s : Peeled (SearchHigh 0xFF) asked_to_draw first r.past r.state
+    = peeled (SearchHigh 0xFF) _ first r.past r.state r.rest r.sent r.before in
+    let on : Each (Shows On) s.state = drawn first s.past s.state s.rest s.sent s.before in
+    let high : Each (Shows On) r.state
+    = each_on On s.state (SearchHigh 0xFF) s.answer r.state asked_to_draw s.step s.heard
+    (sought_on (λ it. record it.search { high = 0xFF })) on in
+    let middle : Each (Shows On) q.state
+    = each_on On r.state (SearchMiddle 0xFF) r.answer q.state (SearchHigh 0xFF ∷ asked_to_draw) r.step r.heard
+    (sought_on (λ it. record it.search { middle = 0xFF })) high in
+    let low : Each (Shows On) p.state
+    = each_on On q.state (SearchLow 0xFF) q.answer p.state (SearchMiddle 0xFF ∷ (SearchHigh 0xFF ∷ asked_to_draw)) q.step q.heard
+    (sought_on (λ it. record it.search { low = 0xFF })) middle in
+    each_on On p.state (SearchHigh 0xFF) p.answer last
+    (SearchLow 0xFF ∷ (SearchMiddle 0xFF ∷ (SearchHigh 0xFF ∷ asked_to_draw))) p.step p.heard
+    (sought_on (λ it. record it.search { high = 0xFF })) low
 
+-- with the three frames after those each of them has the highest search address
 pub ready : (first : Units) (told : List Exchange) (last : Units) (states : List Units) → calls_of told ≡ opening
-    → IsChain IsWhole first told last states → AtEachMoment HasCounted told last states → AreReady highest last
-ready first told last states sent steps counted =
-    let p = peeled (SearchHigh 0xFF) _ first told last states sent steps counted in
-    let twice : AreReady highest p.state
-    = put_once _ first p.past p.state p.rest p.sent p.chain p.counted
-    (λ past state rest is chain counts number member there.
-    (put_once _ first past state rest is chain counts (drawn first) number member there).0) in
-    each_after OnAll OnAll p.state (SearchHigh 0xFF) p.answer last p.whole put_again twice
+    → Came first told last states → AreReady highest last
+ready first told last states sent came =
+    let p : Peeled (SearchHigh 0xFF) _ first told last = peeled (SearchHigh 0xFF) _ first told last states sent came in
+    let q : Peeled (SearchLow 0xFF) _ first p.past p.state
+    = peeled (SearchLow 0xFF) _ first p.past p.state p.rest p.sent p.before in
+    let r : Peeled (SearchMiddle 0xFF) sought_once first q.past q.state
+    = peeled (SearchMiddle 0xFF) _ first q.past q.state q.rest q.sent q.before in
+    let on : Each (Shows On) r.state = listening first r.past r.state r.rest r.sent r.before in
+    let middle : Each (Shows OnMiddle) q.state
+    = each_after On OnMiddle r.state (SearchMiddle 0xFF) r.answer q.state (all_heard _ _ _ r.heard (none_drew 4 sought_once (high_other, (low_other, (middle_other, (high_other, tt)))))) put_middle
+    on in
+    let low : Each (Shows OnLow) p.state
+    = each_after OnMiddle OnLow q.state (SearchLow 0xFF) q.answer p.state (all_heard _ _ _ q.heard
+    (none_drew 4 (SearchMiddle 0xFF ∷ sought_once) (middle_other, (high_other, (low_other, (middle_other, tt)))))) put_low
+    middle in
+    each_after OnLow OnAll p.state (SearchHigh 0xFF) p.answer last (all_heard _ _ _ p.heard
+    (none_drew 4 (SearchLow 0xFF ∷ (SearchMiddle 0xFF ∷ sought_once))
+    (low_other, (middle_other, (high_other, (low_other, tt)))))) put_high low
+
+-- and nobody draws any more
+pub opening_drew : IsDrawnWithin 4 opening → ⊥
+opening_drew = none_drew 4 opening (high_other, (low_other, (middle_other, (high_other, tt))))

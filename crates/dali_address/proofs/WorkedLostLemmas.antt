@@ -2,20 +2,24 @@
 use Rattle.std.proofs.Common.{◌≡◌, ℕ, ◌≤◌, inl, inr, ◌⊎◌, List, [], ◌∷◌, Option, Some, None}
 use Rattle.std.proofs.Common.{zero, suc, refl, sym, subst, ap, ◌∙◌, IsSome, arith, length}
 use Rattle.dali_bus.specs.Chain.{IsChain}
-use Rattle.dali_address.specs.Units.{Disabled, Enabled, Withdrawn, Member, Units}
+use Rattle.dali_address.specs.Units.{Three, Disabled, Enabled, Withdrawn, Member, Units}
 use Rattle.dali_address.specs.Obeys.{Does}
-use Rattle.dali_address.specs.Steps.{Exchange}
-use Rattle.dali_address.specs.Census.{IsHeard, IsWhole, HasCounted}
+use Rattle.dali_address.specs.Steps.{Exchange, calls_of}
+use Rattle.dali_address.specs.Census.{IsHeard, IsWhole, WasHeard, HasCounted}
 use Rattle.dali_address.specs.Census.{highest, IsListed, IsEndOf}
 use Rattle.dali_address.specs.declared.census.CensusEnd.TheVariants.{Apart}
 use Rattle.dali_address.proofs.WorkedCensusLemmas.{unit, crowd, is_some, never, silent, drawn, checked, opened}
 use Rattle.dali_address.proofs.WorkedCensusLemmas.{seven, sent_terminate, sent_initialise, sent_randomise, sent_high}
-use Rattle.dali_address.proofs.WorkedCensusLemmas.{sent_middle, sent_low}
+use Rattle.dali_address.proofs.WorkedCensusLemmas.{sent_middle, sent_low, same_on}
+use Rattle.dali_address.proofs.OpeningLemmas.{none_drew}
 
 -- a unit without a short address isn't apart
 pub missing_is_not_apart : (many : ℕ) → IsEndOf (Apart many) (crowd 1 (unit None Withdrawn drawn highest)) → ⊥
 missing_is_not_apart many is =
     never None refl (is.0.0 0 (unit None Withdrawn drawn highest) refl)
+
+abbrev zeros : Three
+zeros = record { high = 0; middle = 0; low = 0 }
 
 abbrev unreached : ℕ → List Units
 unreached zero = []
@@ -110,3 +114,42 @@ lost_frame_is_not_whole whole =
   where
     on_off : Enabled ≡ Disabled → ⊥
     on_off e = cc
+
+-- a unit whose search address is this one
+abbrev seeking : Three → Units
+seeking search = crowd 1 (seven Enabled drawn search)
+
+-- a unit that draws doesn't hear the fourth frame after RANDOMISE
+pub fourth_is_heard : (past : List Exchange) (states : List Units)
+    → WasHeard (sent_high ∷ (sent_low 0xFF ∷ (sent_middle ∷ (sent_high ∷ (sent_randomise ∷ past)))))
+    (seeking zeros) (seeking zeros ∷ states)
+fourth_is_heard past states = inr (
+  inr (inr (inr (inl refl))),
+  λ number member is. inr (record { after = member; is = is; on = same_on member }),
+)
+
+-- but the fifth, else that was lost
+pub fifth_is_lost : (past : List Exchange) (states : List Units)
+    → WasHeard (sent_middle ∷ (sent_high ∷ (sent_low 0xFF ∷ (sent_middle ∷ (sent_high ∷ (sent_randomise ∷ past))))))
+    (seeking zeros) (seeking zeros ∷ states) → ⊥
+fifth_is_lost past states (inl whole) =
+    let heard : IsHeard sent_middle (seven Enabled drawn zeros) (Some (seven Enabled drawn zeros))
+    = whole.heard 0 (seven Enabled drawn zeros) refl in
+    let same : seven Enabled drawn zeros ≡ heard.after = is_some _ _ heard.is in
+    let put : heard.obeyed.search.middle ≡ 0xFF = sought heard.obeyed heard.does.0 in
+    no (ap (λ (m : Member). m.search.middle) same ∙ ap (λ (t : Three). t.middle) heard.on.search ∙ put)
+  where
+    on_off : Enabled ≡ Disabled → ⊥
+    on_off e = cc
+
+    sought : (new : Member)
+        → (new ≡ seven Enabled drawn (record zeros { middle = 0xFF }))
+        ⊎ ((Enabled ≡ Disabled) × (new ≡ seven Enabled drawn zeros)) → new.search.middle ≡ 0xFF
+    sought new (inl is) = ap (λ (m : Member). m.search.middle) is
+    sought new (inr (off, is)) = absurd (on_off off)
+
+    no : (zeros).middle ≡ 0xFF → ⊥
+    no e = omega arith
+fifth_is_lost past states (inr (drawing, half)) =
+    none_drew 4 (calls_of (sent_high ∷ (sent_low 0xFF ∷ (sent_middle ∷ (sent_high ∷ (sent_randomise ∷ past))))))
+    ((λ e. cc), ((λ e. cc), ((λ e. cc), ((λ e. cc), tt)))) drawing

@@ -1,13 +1,14 @@
 -- A census: each unit is brought into the initialisation state, found and withdrawn, until none compares. What its end
 -- says where nothing was lost in it.
 use Rattle.std.specs.Prelude.{◌≡◌, ◌≢◌, ℕ, ◌<◌, ◌⊎◌, ◌↔◌, List, [], ◌∷◌, Option, Some, None, IsSome, IsNone, ⊤}
-use Rattle.std.specs.Prelude.{length, true, false}
+use Rattle.std.specs.Prelude.{length, true, false, zero, suc}
 use Rattle.std.specs.List.{slice_index_or}
-use Rattle.dali_bus.specs.Chain.{IsChain, AtEachMoment}
+use Rattle.dali_bus.specs.Chain.{IsChain, AtEachMoment, AtEachState}
 use Rattle.dali_address.specs.Units.{Three, Member, Units, IsAt, IsAlone}
 use Rattle.dali_address.specs.Obeys.{Does, IsActive}
-use Rattle.dali_address.specs.Steps.{Exchange, Step}
-use Rattle.dali_address.specs.declared.call.Call.TheVariants.{InitialiseAll}
+use Rattle.dali_address.specs.Steps.{Exchange, Step, calls_of}
+use Rattle.dali_address.specs.declared.call.Call.{Call}
+use Rattle.dali_address.specs.declared.call.Call.TheVariants.{InitialiseAll, Randomise}
 use Rattle.dali_address.specs.declared.sharing.Sharing.{Sharing}
 use Rattle.dali_address.specs.declared.census.CensusEnd.{CensusEnd}
 use Rattle.dali_address.specs.declared.census.CensusEnd.TheVariants.{Apart, Shared, Unclear}
@@ -29,10 +30,34 @@ pub record IsHeard (exchange : Exchange) (old : Member) (new : Option Member) : 
   pub on : KeepsOn obeyed after
   pub told : IsSome answer → exchange.answer ≢ None
 
--- nothing was lost at this frame
+-- the unit didn't hear the frame, and stays in the initialisation state if it is in it
+pub record IsUnheard (old : Member) (new : Option Member) : Type 0 where
+  pub after : Member
+  pub is : new ≡ Some after
+  pub on : KeepsOn old after
+
+-- nothing was lost at this frame: each unit heard it
 pub record IsWhole (old : Units) (exchange : Exchange) (new : Units) : Type 0 where
   pub step : Step old exchange new
   pub heard : (number : ℕ) (member : Member) → old number ≡ Some member → IsHeard exchange member (new number)
+
+-- some units didn't hear it, and nothing else was lost
+abbrev pub IsHalfHeard : Units → Exchange → Units → Type 0
+IsHalfHeard old exchange new = (number : ℕ) (member : Member) → old number ≡ Some member
+    → IsHeard exchange member (new number) ⊎ IsUnheard member (new number)
+
+-- RANDOMISE is one of the newest so many frames
+abbrev pub IsDrawnWithin : ℕ → List Call → Type 0
+IsDrawnWithin zero calls = ⊥
+IsDrawnWithin (suc more) [] = ⊥
+IsDrawnWithin (suc more) (newest ∷ older) = (newest ≡ Randomise) ⊎ IsDrawnWithin more older
+
+-- nothing was lost at the newest frame. A unit that draws a random address may hear nothing for 100 ms: at 29 ms a
+-- frame, the four frames after RANDOMISE
+abbrev pub WasHeard : List Exchange → Units → List Units → Type 0
+WasHeard (newest ∷ past) units (before ∷ states) =
+    IsWhole before newest units ⊎ (IsDrawnWithin 4 (calls_of past) × IsHalfHeard before newest units)
+WasHeard past units states = ⊤
 
 -- where INITIALISE of all units came twice, it counted: each unit is in the initialisation state
 abbrev pub HasCounted : List Exchange → Units → Type 0
@@ -53,10 +78,11 @@ abbrev pub NumbersDiffer : Units → Type 0
 NumbersDiffer units = (one two : ℕ) (member other : Member) → units one ≡ Some member → units two ≡ Some other
     → member.random ≡ other.random → one ≡ two
 
--- these frames led from the first units to the last: each unit heard each of them, INITIALISE counted, and what was
--- answered came back as something; and no two units have drawn one random address
+-- these frames led from the first units to the last: each unit heard each of them but while it drew, INITIALISE counted,
+-- and what was answered came back as something; and no two units have drawn one random address
 pub record WasWhole (first : Units) (past : List Exchange) (last : Units) (states : List Units) : Type 0 where
-  pub whole : IsChain IsWhole first past last states
+  pub chain : IsChain Step first past last states
+  pub heard : AtEachState WasHeard past last states
   pub counted : AtEachMoment HasCounted past last states
   pub addresses : (number : ℕ) (member : Member) → last number ≡ Some member → HasAddresses member
   pub numbers : NumbersDiffer last

@@ -3,10 +3,10 @@ use Rattle.std.specs.Prelude.{◌≡◌, ◌≢◌, ◌+◌, ◌<◌, ◌⊎◌,
 use Rattle.std.specs.List.{AllByRecursion}
 use Rattle.dali_bus.specs.Chain.{IsChain}
 use Rattle.dali_address.specs.Units.{Units}
-use Rattle.dali_address.specs.Steps.{Exchange, Step}
+use Rattle.dali_address.specs.Steps.{Exchange, Step, calls_of}
 use Rattle.dali_address.specs.Keeps.{GivesNone}
 use Rattle.dali_address.specs.Census.{highest, WasWhole, IsEndOf}
-use Rattle.dali_address.specs.Tallying.{Tally, IsCensus, calls_of}
+use Rattle.dali_address.specs.Tallying.{Tally, IsCensus}
 use Rattle.dali_address.specs.Places.{three_of}
 use Rattle.dali_address.specs.Marking.{IsSaidBy}
 use Rattle.dali_address.specs.Standing.{Stands}

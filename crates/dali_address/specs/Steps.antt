@@ -1,5 +1,5 @@
 -- What a bus may do to the units that it reaches by a frame of addresses, and what may come back.
-use Rattle.std.specs.Prelude.{◌≡◌, ◌≢◌, ℕ, ◌⊎◌, Option, Some, None, ⊤}
+use Rattle.std.specs.Prelude.{◌≡◌, ◌≢◌, ℕ, ◌⊎◌, List, Option, Some, None, map, ⊤}
 use Rattle.dali_address.specs.Units.{Member, Units}
 use Rattle.dali_address.specs.Obeys.{Passes, Obeys}
 use Rattle.dali_address.specs.declared.call.Call.{Call}
@@ -9,6 +9,9 @@ use Rattle.dali_address.specs.declared.call.Call.TheVariants.{Compare, AskMissin
 pub record Exchange : Type 0 where
   pub call : Call
   pub answer : Option ℕ
+
+abbrev pub calls_of : List Exchange → List Call
+calls_of exchanges = map (λ exchange. exchange.call) exchanges
 
 -- a unit didn't hear the frame, or it heard it. No unit comes or goes
 abbrev pub MayObey : Option Member → Call → Option Member → Type 0

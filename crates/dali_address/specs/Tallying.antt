@@ -1,7 +1,7 @@
 -- What a census tells of units, frame by frame.
-use Rattle.std.specs.Prelude.{◌≡◌, ℕ, ◌<◌, ◌⊎◌, List, [], ◌∷◌, Option, Some, None, map, ⊤}
+use Rattle.std.specs.Prelude.{◌≡◌, ℕ, ◌<◌, ◌⊎◌, List, [], ◌∷◌, Option, Some, None, ⊤}
 use Rattle.dali_address.specs.Units.{Three, number_of}
-use Rattle.dali_address.specs.Steps.{Exchange}
+use Rattle.dali_address.specs.Steps.{Exchange, calls_of}
 use Rattle.dali_address.specs.Census.{highest}
 use Rattle.dali_address.specs.declared.call.Call.{Call}
 use Rattle.dali_address.specs.declared.call.Call.TheVariants.{Terminate, InitialiseAll, InitialiseMissing, InitialiseAt}
@@ -88,9 +88,6 @@ opening =
     SearchHigh 0xFF ∷ (SearchLow 0xFF ∷ (SearchMiddle 0xFF ∷ (SearchHigh 0xFF ∷ (SearchLow 0xFF ∷ (SearchMiddle 0xFF
     ∷ (SearchHigh 0xFF ∷ (Randomise ∷ (Randomise ∷ (InitialiseAll ∷ (InitialiseAll ∷ (Terminate ∷ (Terminate
     ∷ []))))))))))))
-
-abbrev pub calls_of : List Exchange → List Call
-calls_of exchanges = map (λ exchange. exchange.call) exchanges
 
 -- these exchanges opened a census, in which none was counted yet
 pub record HasOpened (told : List Exchange) (tally : Tally) : Type 0 where

@@ -1,6 +1,6 @@
 -- What `address` answers and writes.
 use Rattle.std.specs.Prelude.{◌≡◌, ◌⊎◌, ◌+◌, ◌&&◌, not, ℕ, Bool, true, false, List, [], ◌∷◌, Option, Some, None, ⊤}
-use Rattle.std.specs.Prelude.{nat_eq, if◌then◌else◌}
+use Rattle.std.specs.Prelude.{length, nat_eq, if◌then◌else◌}
 use Rattle.std.specs.Borrow.{Bor}
 use Rattle.dali_address.specs.declared.census.CensusEnd.{CensusEnd}
 use Rattle.dali_address.specs.declared.census.CensusEnd.TheVariants.{Apart, Shared}
@@ -32,7 +32,8 @@ use Rattle.dali_link_commands.specs.declared.linked.Linked.TheVariants.{Address,
 use Rattle.dali_link_commands.specs.declared.older.OlderFault.{OlderFault}
 use Rattle.dali_link_commands.specs.Benches.{IsUndriven, with_lines}
 use Rattle.dali_link_commands.specs.BehindAnswers.{IsBehindNamed, MayBeUnusable}
-use Rattle.dali_link_commands.specs.LinkCommands.{HasStore, IsLinkAnswer, IsShort}
+use Rattle.dali_link_commands.specs.LinkCommands.{HasStore, IsLinkAnswer, IsShort, watched_of}
+use Rattle.dali_report.specs.declared.progress.Watched.{Watched}
 use Rattle.dali_link_commands.specs.Older.{fault_older}
 use Rattle.dali_link_commands.specs.ReadAnswers.{IsUntouched, on_link}
 use Rattle.dali_link_commands.specs.Told.{IsFaultTold, IsFileFaultTold, TellsLine}
@@ -40,6 +41,17 @@ use Rattle.dali_link_commands.specs.Told.{IsFaultTold, IsFileFaultTold, TellsLin
 -- by the flags that ask to give all anew, to list, and to count
 abbrev pub asked_of : Bool → Bool → Bool → Asked
 asked_of all list count = if count then Count else Run (if list then tasks.List else if all then All else Give)
+
+-- of what a person watches how far it is: how many units there are is known only where short addresses are named and
+-- none is taken away before
+abbrev pub watched_asked : Asked → ℕ → Watched
+watched_asked (Run tasks.List) named = Watched.List
+watched_asked (Run tasks.Give) named = Watched.Address named
+watched_asked asked named = Watched.Address 0
+
+abbrev pub watched_linked : Linked → Watched
+watched_linked (Bank command) = watched_of command
+watched_linked (Address command) = watched_asked command.asked (length command.units.now)
 
 -- no unit is without a short address, none is shared, and none may be left in the initialisation state
 abbrev pub is_well : Summary → Bool

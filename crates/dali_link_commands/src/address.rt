@@ -1,12 +1,12 @@
 // `address`: short addresses over a link.
-ghost use Rattle.std.specs.Prelude.{◌≡◌, ◌≢◌, ◌↔◌, ◌+◌, ◌<◌, ◌≤◌, false, true, if◌then◌else◌};
+ghost use Rattle.std.specs.Prelude.{◌≡◌, ◌≢◌, ◌↔◌, ◌+◌, ◌<◌, ◌≤◌, false, length, true, if◌then◌else◌};
 ghost use Rattle.dali_drive.specs.Desks.{IsUnfailed};
 ghost use Rattle.dali_text.specs.Output.{has_failed, held};
 ghost use Rattle.dali_address_link.specs.AddressLines.{end_text as text_at_end};
 ghost use Rattle.dali_link_commands.specs.AddressAnswers.{IsAddressAnswer, IsAskedAnswer, IsCountAnswer, IsRunAnswer};
 ghost use Rattle.dali_link_commands.specs.AddressAnswers.{TellsBreak, asked_of, end_after as ended_after, is_apart as apart};
 ghost use Rattle.dali_link_commands.specs.AddressAnswers.{marked_in as marked, may_be_good as good, shared_in as shared};
-ghost use Rattle.dali_link_commands.specs.AddressAnswers.{status_at_end};
+ghost use Rattle.dali_link_commands.specs.AddressAnswers.{status_at_end, watched_asked};
 ghost use Rattle.dali_link_commands.specs.AddressAnswers.{is_left_open as left_open, is_well as well};
 ghost use Rattle.dali_link_commands.specs.Benches.{TellsUnwritten, bench, std_bench};
 ghost use Rattle.dali_link_commands.specs.ReadAnswers.{on_link};
@@ -22,6 +22,7 @@ use dali_address::{CensusEnd, Summary, Task};
 use dali_address_link::{End, OPEN, address_units, count_text, count_units, end_text};
 use dali_drive::{DriveFault, Sink, Source, StdSink, StdSource, StoreDesk, put_all};
 use dali_faults::Status;
+use dali_report::Watched;
 use dali_store::{FileStore, Store};
 use std::alloc::Global;
 use std::fs::{File, Files};
@@ -65,6 +66,18 @@ pub struct AddressCommand<'a> {
 }
 
 impl AddressCommand<'_> {
+    /// Of what a person watches how far it is. How many units there are is known only where short addresses are named
+    /// and none is taken away before.
+    pub fn watched(&self) -> Watched
+        ensures { result ≡ watched_asked self.now.asked (length self.now.units.now) }
+    {
+        match self.asked {
+            Asked::Run(Task::List) => Watched::List,
+            Asked::Run(Task::Give) => Watched::Address(self.units.len() as u64),
+            Asked::Run(Task::All | Task::Close) | Asked::Count => Watched::Address(0),
+        }
+    }
+
     /// Carries it out at a desk whose streams haven't failed, as `address` does; the store is left alone. Where a
     /// journal is named that isn't at rest, or that a drive has open, nothing is sent: 15 Older, 20 Memory or 21 File.
     /// No drive can open it as long as this goes on.

@@ -1,6 +1,7 @@
 ghost use Rattle.std.specs.Prelude.{◌≡◌};
 ghost use Rattle.dali_drive.specs.Desks.{IsUnfailed};
 ghost use Rattle.dali_link_commands.specs.AddressAnswers.{HasLinkedStore, IsLinkedAnswer, IsLinkedShort};
+ghost use Rattle.dali_link_commands.specs.AddressAnswers.{watched_linked};
 ghost use Rattle.dali_link_commands.specs.Benches.{TellsUnwritten, std_bench};
 
 use crate::address::AddressCommand;
@@ -35,10 +36,12 @@ impl<'a> Linked<'a> {
     }
 
     /// Of what a person watches how far it is.
-    pub fn watched(&self) -> Watched {
+    pub fn watched(&self) -> Watched
+        ensures { result ≡ watched_linked self.now }
+    {
         match *self {
             Linked::Bank(command) => command.watched(),
-            Linked::Address(_) => Watched::Address,
+            Linked::Address(command) => command.watched(),
         }
     }
 

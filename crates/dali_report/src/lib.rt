@@ -5,6 +5,7 @@
 mod attempt;
 mod differences;
 mod expected;
+mod found_units;
 pub mod laws;
 mod line;
 mod meter;

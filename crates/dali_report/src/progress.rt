@@ -42,8 +42,10 @@ pub enum Watched {
     Read,
     /// So many addresses are asked whether a unit answers.
     Scan(u64),
-    /// Units get short addresses, or are told by them.
-    Address,
+    /// Units are found: so many, or 0 where it isn't known how many there are.
+    Address(u64),
+    /// The 64 short addresses are asked who has them.
+    List,
 }
 
 /// What a person watches of a command over a link. On a terminal it is one line, drawn again in place at most every 16
@@ -182,7 +184,10 @@ impl Progress {
             state.meter.start(&self.rt);
         }
         state.count();
-        state.meet(unit_in(bytes));
+        if let Some(word) = word_in(bytes) {
+            state.meet(unit_in(word));
+            state.found.see(word);
+        }
         self.state.set(state);
         self.draw_in_turn();
     }
@@ -224,9 +229,9 @@ impl Progress {
     // These bytes of lines come in the place of the one that is drawn. A unit that they tell of is one that was found.
     pub(crate) fn tell(&self, bytes: &[u8]) {
         self.clear();
-        if self.watched == Watched::Address && bytes.starts_with(UNIT_LINE.as_bytes()) {
+        if bytes.starts_with(UNIT_LINE.as_bytes()) {
             let mut state = self.state.get();
-            state.good = state.good.saturating_add(1);
+            state.found.tell();
             self.state.set(state);
         }
     }
@@ -262,18 +267,23 @@ impl Progress {
     }
 }
 
-// The unit to which a frame's line goes, if it goes to one: its address byte is odd and below 80h.
-fn unit_in(line: &[u8]) -> Option<u8> {
-    let [high, low, ..] = line else {
+// The two bytes of a frame's line.
+fn word_in(line: &[u8]) -> Option<[u8; 2]> {
+    let [a, b, c, d, ..] = line else {
         return None;
     };
-    let high = char::from(*high).to_digit(16)?;
-    let low = char::from(*low).to_digit(16)?;
-    if high < 8 && low % 2 == 1 {
-        Some((high * 8 + low / 2) as u8)
-    } else {
-        None
-    }
+    Some([byte_of(*a, *b)?, byte_of(*c, *d)?])
+}
+
+fn byte_of(high: u8, low: u8) -> Option<u8> {
+    let high = char::from(high).to_digit(16)?;
+    let low = char::from(low).to_digit(16)?;
+    Some((high * 16 + low) as u8)
+}
+
+// The unit to which a frame goes, if it goes to one: its address byte is odd and below 80h.
+fn unit_in([address, _]: [u8; 2]) -> Option<u8> {
+    (address < 0x80 && address % 2 == 1).then_some(address / 2)
 }
 
 // What draws a line in the place of the one before.

@@ -3,6 +3,12 @@ use crate::progress::Watched;
 use crate::watch_state::{AtHand, WatchState};
 use std::fmt;
 
+// The frames that giving a short address takes where nothing is lost.
+const FRAMES_A_UNIT: u64 = 97;
+
+// All short addresses.
+const ADDRESSES: u64 = 64;
+
 /// How far a command is.
 #[derive(Clone, Copy)]
 pub(crate) struct Now {
@@ -17,7 +23,8 @@ impl fmt::Display for Now {
             Watched::Verify => self.write_compared(f),
             Watched::Read => self.write_unit(f),
             Watched::Scan(units) => self.write_asked(f, units),
-            Watched::Address => self.write_found(f),
+            Watched::Address(units) => self.write_found(f, units),
+            Watched::List => self.write_listed(f),
         }
     }
 }
@@ -67,13 +74,32 @@ impl Now {
         let asked = self.state.units.max(1);
         write!(f, "{asked} of {units}: ")?;
         self.write_unit(f)?;
+        self.write_to_ask(f, asked, units)
+    }
+
+    // The time that the addresses take that weren't asked yet.
+    fn write_to_ask<W: fmt::Write>(&self, f: &mut fmt::Formatter<W>, asked: u64, units: u64) -> fmt::Result {
         let to_ask = units.saturating_sub(asked);
         self.write_left(f, self.state.frames.saturating_mul(to_ask) / asked)
     }
 
-    fn write_found<W: fmt::Write>(&self, f: &mut fmt::Formatter<W>) -> fmt::Result {
-        let WatchState { good, frames, .. } = self.state;
-        write!(f, "found {good}, frame {frames}")
+    fn write_found<W: fmt::Write>(&self, f: &mut fmt::Formatter<W>, units: u64) -> fmt::Result {
+        let found = self.state.found.count();
+        let frames = self.state.frames;
+        if units == 0 {
+            return write!(f, "found {found}, frame {frames}");
+        }
+        write!(f, "found {found} of {units}, frame {frames}")?;
+        let each = (frames / found.max(1)).max(FRAMES_A_UNIT);
+        self.write_left(f, each.saturating_mul(units.saturating_sub(found)))
+    }
+
+    fn write_listed<W: fmt::Write>(&self, f: &mut fmt::Formatter<W>) -> fmt::Result {
+        let asked = self.state.units.max(1);
+        let found = self.state.found.count();
+        let frames = self.state.frames;
+        write!(f, "{asked} of {ADDRESSES}: found {found}, frame {frames}")?;
+        self.write_to_ask(f, asked, ADDRESSES)
     }
 
     fn write_unit<W: fmt::Write>(&self, f: &mut fmt::Formatter<W>) -> fmt::Result {
@@ -112,9 +138,10 @@ impl fmt::Display for Totals {
                 let frames = self.state.frames;
                 write!(f, "frames {frames}")?;
             }
-            Watched::Address => {
-                let WatchState { good, frames, .. } = self.state;
-                write!(f, "found {good}, frames {frames}")?;
+            Watched::Address(_) | Watched::List => {
+                let found = self.state.found.count();
+                let frames = self.state.frames;
+                write!(f, "found {found}, frames {frames}")?;
             }
         }
         match self.state.meter.seconds() {

@@ -1,6 +1,7 @@
 // How far a command over a link is, as a person watches it.
 use crate::attempt::Attempt;
 use crate::expected::{CLOSING, drive_frames, verify_frames};
+use crate::found_units::FoundUnits;
 use crate::meter::Meter;
 use crate::tally::Tally;
 use dali_bank::Order;
@@ -108,13 +109,13 @@ pub(crate) struct WatchState {
     /// All frames and misses.
     pub(crate) frames: u64,
     pub(crate) misses: u64,
-    /// The orders that are done by this command, or are the same, or the units that were found; and the orders that
-    /// were done before.
+    /// The orders that are done by this command, or are the same; and those that were done before.
     pub(crate) good: u64,
     pub(crate) known: u64,
     /// Whether the journal had no order when the drive began.
     pub(crate) is_new: bool,
     pub(crate) undone: Undone,
+    pub(crate) found: FoundUnits,
     pub(crate) meter: Meter,
 }
 
@@ -135,6 +136,7 @@ impl WatchState {
             known: 0,
             is_new: false,
             undone: Undone::new(),
+            found: FoundUnits::new(),
             meter: Meter::new(),
         }
     }

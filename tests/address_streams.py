@@ -2,6 +2,7 @@
 
 import fcntl
 import os
+import re
 
 import driven
 from address_desk import CLOSING, OPEN, crowd, told_by
@@ -207,6 +208,24 @@ class ProgressTest(BenchTest):
             self.assertRegex(line, "^found [0-3], frame [1-9][0-9]*$")
         assert len(drawn) > 5, drawn
         self.assertEqual([line[:7] for line in lines if line][:3], ["unit 0 ", "unit 1 ", "unit 2 "])
+        # Each is counted once it is given its address, and not only when its line comes at the end.
+        found = [int(line.split(",")[0].split()[1]) for line in drawn]
+        self.assertEqual((found, set(found)), (sorted(found), {0, 1, 2, 3}))
+
+    def test_how_much_is_left(self):
+        for words, bus, place, count in ((["9", "4", "30"], crowd(3), "found ([0-3]) of 3, ", 3),
+                                         (["--list"], crowd(0, [2, 40]), "[0-9]+ of 64: found ([0-2]), ", 2),
+                                         (["--count"], crowd(0, [2, 40]), "found ([0-2]), ", 2),
+                                         (["--all", "9", "4"], crowd(0, [4, 40]), "found ([0-2]), ", 2)):
+            status, drawn, lines = seen(Addressing(words), bus)
+            self.assertEqual((words, status), (words, 0))
+            left = ", left 0:0[0-9]" if "--list" in words or "30" in words else ""
+            found = [re.fullmatch(f"{place}frame [1-9][0-9]*({left})?", line) for line in drawn]
+            assert all(found), (words, drawn)
+            counted = [int(one[1]) for one in found]
+            self.assertEqual((words, counted, max(counted)), (words, sorted(counted), count))
+            assert not left or any(one[2] for one in found), (words, drawn)
+            assert lines[-2].startswith(f"found {count}, frames {bus.frames}, time "), (words, lines)
 
     def test_refused(self):
         ended = Addressing(["--progress"]).give(b"", stdin=driven.subprocess.DEVNULL)

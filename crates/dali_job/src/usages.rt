@@ -257,12 +257,11 @@ Lines go to standard error: `unit A random RRRRRR` for each unit that has one of
 unit: run the same command again, or wait.
 No memory bank is written, and no unit is write-enabled. Run it while no order is at work: an order goes to
 whichever unit has the short address. It keeps no state: after a kill the same command goes on.
---count tells `apart K` where there are just K units, each with a short address of its own, or a line `shared A` for
-each that several have, or `unclear`; and then the line that begins with `given 0`.
-Refused before a frame is sent: a UNIT that is named twice, two of --all, --list and --count, UNIT with one of the
-last two, and with
---journal a journal that doesn't stand idle or is in use: 15 Older, 20 Memory, 21 File. Where a unit has a named
-short address already nothing is given: only queries were sent. Faults of the link as of `read`.
+--count tells `apart K` where it counted K units, each with a short address of its own, or `shared A` for each that
+several have, or `unclear`; then the line that begins with `given 0`.
+Refused before a frame is sent: a UNIT that is named twice, two of --all, --list and --count, UNIT beside --list or
+--count, and with --journal a journal that doesn't stand idle or is in use: 15 Older, 20 Memory, 21 File. Where a unit
+has a named short address already nothing is given: only queries were sent. Faults of the link as of `read`.
 Exit status: 0 none is missing, shared or left open, and a count is clear, 1 else, something refused, or 3 Line,
 4 End, 6 TooLong, 2 a file, the memory, the link or the output failed.",
 };

@@ -412,4 +412,5 @@ so_far first (newest ∷ past) last (state ∷ states) tally sound came (inr (be
     = leads_keep state newest.call newest.answer last before tally whole leads in
     let was : AreSound state = sound_before newest.call state last keeps sound in
     so_after state newest.call newest.answer last before tally was
-    (so_far first past state states before was (came_before first newest past last state states came) earlier) whole leads
+    (so_far first past state states before was (came_before first newest past last state states came) earlier)
+    whole leads

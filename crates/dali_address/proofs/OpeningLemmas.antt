@@ -274,7 +274,8 @@ called_in first told last states sent came =
     = peeled Terminate _ first q.past q.state q.rest q.sent q.before in
     let off : Each (Shows Off) q.state
     = each_after Any Off r.state Terminate r.answer q.state
-    (all_heard _ _ _ r.heard (none_drew 4 (Terminate ∷ []) (terminate_other, tt))) terminated (λ number member is. tt) in
+    (all_heard _ _ _ r.heard (none_drew 4 (Terminate ∷ []) (terminate_other, tt))) terminated
+    (λ number member is. tt) in
     let once : Each (Shows NotOut) p.state
     = each_after NotOut NotOut q.state InitialiseAll q.answer p.state
     (all_heard _ _ _ q.heard (none_drew 4 ended (terminate_other, (terminate_other, tt)))) initialised
@@ -282,7 +283,8 @@ called_in first told last states sent came =
     let twice : Each (Shows NotOut) last
     = each_after NotOut NotOut p.state InitialiseAll p.answer last
     (all_heard _ _ _ p.heard
-    (none_drew 4 (InitialiseAll ∷ ended) (initialise_other, (terminate_other, (terminate_other, tt))))) initialised once in
+    (none_drew 4 (InitialiseAll ∷ ended) (initialise_other, (terminate_other, (terminate_other, tt)))))
+    initialised once in
     let here : HasCounted (record { call = InitialiseAll; answer = p.answer }
     ∷ (record { call = InitialiseAll; answer = q.answer } ∷ q.past)) last
     = subst (λ (it : List Exchange). HasCounted (record { call = InitialiseAll; answer = p.answer } ∷ it) last) q.is
@@ -326,7 +328,8 @@ listening first told last states sent came =
     = each_on On r.state (SearchMiddle 0xFF) r.answer q.state (SearchHigh 0xFF ∷ asked_to_draw) r.step r.heard
     (sought_on (λ it. record it.search { middle = 0xFF })) high in
     let low : Each (Shows On) p.state
-    = each_on On q.state (SearchLow 0xFF) q.answer p.state (SearchMiddle 0xFF ∷ (SearchHigh 0xFF ∷ asked_to_draw)) q.step q.heard
+    = each_on On q.state (SearchLow 0xFF) q.answer p.state (SearchMiddle 0xFF ∷ (SearchHigh 0xFF ∷ asked_to_draw))
+    q.step q.heard
     (sought_on (λ it. record it.search { low = 0xFF })) middle in
     each_on On p.state (SearchHigh 0xFF) p.answer last
     (SearchLow 0xFF ∷ (SearchMiddle 0xFF ∷ (SearchHigh 0xFF ∷ asked_to_draw))) p.step p.heard
@@ -343,12 +346,14 @@ ready first told last states sent came =
     = peeled (SearchMiddle 0xFF) _ first q.past q.state q.rest q.sent q.before in
     let on : Each (Shows On) r.state = listening first r.past r.state r.rest r.sent r.before in
     let middle : Each (Shows OnMiddle) q.state
-    = each_after On OnMiddle r.state (SearchMiddle 0xFF) r.answer q.state (all_heard _ _ _ r.heard (none_drew 4 sought_once (high_other, (low_other, (middle_other, (high_other, tt)))))) put_middle
-    on in
+    = each_after On OnMiddle r.state (SearchMiddle 0xFF) r.answer q.state
+    (all_heard _ _ _ r.heard
+    (none_drew 4 sought_once (high_other, (low_other, (middle_other, (high_other, tt))))))
+    put_middle on in
     let low : Each (Shows OnLow) p.state
     = each_after OnMiddle OnLow q.state (SearchLow 0xFF) q.answer p.state (all_heard _ _ _ q.heard
-    (none_drew 4 (SearchMiddle 0xFF ∷ sought_once) (middle_other, (high_other, (low_other, (middle_other, tt)))))) put_low
-    middle in
+    (none_drew 4 (SearchMiddle 0xFF ∷ sought_once) (middle_other, (high_other, (low_other, (middle_other, tt))))))
+    put_low middle in
     each_after OnLow OnAll p.state (SearchHigh 0xFF) p.answer last (all_heard _ _ _ p.heard
     (none_drew 4 (SearchLow 0xFF ∷ (SearchMiddle 0xFF ∷ sought_once))
     (low_other, (middle_other, (high_other, (low_other, tt)))))) put_high low

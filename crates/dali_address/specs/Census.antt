@@ -78,8 +78,8 @@ abbrev pub NumbersDiffer : Units → Type 0
 NumbersDiffer units = (one two : ℕ) (member other : Member) → units one ≡ Some member → units two ≡ Some other
     → member.random ≡ other.random → one ≡ two
 
--- these frames led from the first units to the last: each unit heard each of them but while it drew, INITIALISE counted,
--- and what was answered came back as something; and no two units have drawn one random address
+-- these frames led from the first units to the last: each unit heard each of them but while it drew, INITIALISE
+-- counted, and what was answered came back as something; and no two units have drawn one random address
 pub record WasWhole (first : Units) (past : List Exchange) (last : Units) (states : List Units) : Type 0 where
   pub chain : IsChain Step first past last states
   pub heard : AtEachState WasHeard past last states

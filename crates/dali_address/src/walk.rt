@@ -90,8 +90,8 @@ impl Walk {
     }
 }
 
-// The frame of this number of the opening. The search address is put twice, and its high byte once more, since units may
-// hear nothing for 100 ms after RANDOMISE: the last three frames come later than that.
+// The frame of this number of the opening. The search address is put twice, and its high byte once more, since units
+// may hear nothing for 100 ms after RANDOMISE: the last three frames come later than that.
 fn opening(number: u8) -> Call
     ensures call { IsCall result × GivesNone result }
     ensures is { result ≡ opening_call number }

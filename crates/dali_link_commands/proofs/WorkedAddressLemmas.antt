@@ -93,8 +93,8 @@ module _ (task : Task) (begun : Streams) (first : Look) (status : Status) (last 
   broken_and_emptied e held put = let same = e.untouched.journal in cc
 
   -- a run in which one is missing is refused, or its end wasn't written
-  pub missing_and_good : (e : EndsRun task None begun first status last) → e.end ≡ Done (record given_one { missing = 1 })
-      → status ≡ Good → ⊥
+  pub missing_and_good : (e : EndsRun task None begun first status last)
+      → e.end ≡ Done (record given_one { missing = 1 }) → status ≡ Good → ⊥
   missing_and_good e is good = let told = rw is at e.told in elim told [
     | inl whole ↦ let refused = whole.0 in cc
     | inr cut ↦ let unwritten = cut.0 in cc

@@ -102,7 +102,8 @@ may_be_good None = true
 may_be_good (Some census) = is_apart census
 
 -- A run that began where these streams were, of a command that began at the first look, after this census or none.
-module _ (task : Task) (counted : Option CensusEnd) (begun : Streams) (first : Look) (status : Status) (last : Look) where
+module _ (task : Task) (counted : Option CensusEnd) (begun : Streams)
+    (first : Look) (status : Status) (last : Look) where
   -- the run came to its end, which was told
   pub record EndsRun : Type 0 where
     pub end : End
@@ -111,8 +112,8 @@ module _ (task : Task) (counted : Option CensusEnd) (begun : Streams) (first : L
     pub addressed : IsAddressed task end begun (on_link (with_lines last lines lost))
     pub untouched : IsUntouched first last
     pub unfailed : IsUnfailed (with_lines last lines lost).failed
-    pub told : TellsLine (end_text (end_after counted end)) (status_at_end (may_be_good counted) (end_after counted end))
-        status lines last.streams.out
+    pub told : TellsLine (end_text (end_after counted end))
+        (status_at_end (may_be_good counted) (end_after counted end)) status lines last.streams.out
 
   -- the link or the output broke it off, which is told
   pub record BreaksRun : Type 0 where

@@ -107,11 +107,12 @@ impl AddressCommand<'_> {
     }
 }
 
-/// Gives, lists or counts over streams that haven't failed: a run as `address_units` has it, or a census as `count_units`
-/// has it, what tells how that ended, and then a run that ends the initialisation state. Behind the lines of a run stands
-/// how it ended, or the line of the fault that ends it, 2 Link, 3 Line, 4 End or 6 TooLong, and before that, unless it
-/// lists, that units may be left in the initialisation state. It ends as `Good` where no unit is left without a short
-/// address, none is shared, and none may be left in that state, of a census where it came to `Apart`, else as `Refused`.
+/// Gives, lists or counts over streams that haven't failed: a run as `address_units` has it, or a census as
+/// `count_units` has it, what tells how that ended, and then a run that ends the initialisation state. After the lines
+/// of a run comes how it ended, or the line of the fault that ends it, 2 Link, 3 Line, 4 End or 6 TooLong, and before
+/// that, unless it lists, that units may be left in the initialisation state. It ends as `Good` if no unit is left
+/// without a short address, none is shared, none may be left in that state, and a census came to `Apart`, else as
+/// `Refused`.
 ///
 /// Where `lines` fails it is 7 Out, or there stands a first part of the last text.
 pub fn address<I: Source, L: Sink, S: Store, W: Write>(
@@ -260,8 +261,8 @@ fn is_left_open(task: Task, fault: DriveFault) -> bool
 // Tells how a run ended, after this census or none, where the lines haven't failed.
 fn tell_end<W: Write>(lines: &mut Lines<W>, counted: Option<CensusEnd>, end: End) -> Status
     requires { has_failed lines.old.output ≡ false }
-    ensures told { TellsLine (text_at_end (ended_after counted end)) (status_at_end (good counted) (ended_after counted end))
-        result (held W.contents lines.old.output) (held W.contents lines.new.output) }
+    ensures told { TellsLine (text_at_end (ended_after counted end))
+        (status_at_end (good counted) (ended_after counted end)) result (held W.contents lines.old.output) (held W.contents lines.new.output) }
     ensures unwritten { result ≡ Status.Unwritten ↔ has_failed lines.new.output ≡ true }
 {
     let end = end_after(counted, end);

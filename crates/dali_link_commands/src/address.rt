@@ -262,7 +262,8 @@ fn is_left_open(task: Task, fault: DriveFault) -> bool
 fn tell_end<W: Write>(lines: &mut Lines<W>, counted: Option<CensusEnd>, end: End) -> Status
     requires { has_failed lines.old.output ≡ false }
     ensures told { TellsLine (text_at_end (ended_after counted end))
-        (status_at_end (good counted) (ended_after counted end)) result (held W.contents lines.old.output) (held W.contents lines.new.output) }
+        (status_at_end (good counted) (ended_after counted end)) result
+        (held W.contents lines.old.output) (held W.contents lines.new.output) }
     ensures unwritten { result ≡ Status.Unwritten ↔ has_failed lines.new.output ≡ true }
 {
     let end = end_after(counted, end);

@@ -78,7 +78,12 @@ impl Now {
     }
 
     // The time that the addresses take that weren't asked yet.
-    fn write_to_ask<W: fmt::Write>(&self, f: &mut fmt::Formatter<W>, asked: u64, units: u64) -> fmt::Result {
+    fn write_to_ask<W: fmt::Write>(
+        &self,
+        f: &mut fmt::Formatter<W>,
+        asked: u64,
+        units: u64,
+    ) -> fmt::Result {
         let to_ask = units.saturating_sub(asked);
         self.write_left(f, self.state.frames.saturating_mul(to_ask) / asked)
     }

@@ -110,11 +110,6 @@ impl<'a> Addressing<'a> {
             self.want = wanted(self.task, &self.ledger, &self.phase, &self.evidence);
         }
     }
-
-    /// How many units were found so far, for progress.
-    pub fn found(&self) -> u8 {
-        self.ledger.found()
-    }
 }
 
 // What is wanted in this phase.

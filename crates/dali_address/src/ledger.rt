@@ -37,7 +37,6 @@ pub(crate) struct Ledger<'a> {
     untold: ShortSet,
     is_missing: bool,
     count: u8,
-    told: u8,
     shared: u8,
 }
 
@@ -54,14 +53,8 @@ impl<'a> Ledger<'a> {
             untold: ShortSet::new(matches!(task, Task::All | Task::List)),
             is_missing: false,
             count: 0,
-            told: 0,
             shared: 0,
         }
-    }
-
-    /// How many units were found so far.
-    pub(crate) fn found(&self) -> u8 {
-        self.count.max(self.told)
     }
 
     pub(crate) fn summary(&self, is_open: bool) -> Summary
@@ -120,9 +113,8 @@ impl<'a> Ledger<'a> {
     pub(crate) fn said(&mut self, task: Task, phase: Phase, line: &Line) -> Phase
         ensures { IsFit task phase → IsFit task result }
     {
-        match *line {
-            Line::Unit { .. } => self.told = self.told.saturating_add(1),
-            Line::Shared(_) => self.shared = self.shared.saturating_add(1),
+        if let Line::Shared(_) = *line {
+            self.shared = self.shared.saturating_add(1);
         }
         match phase {
             Phase::Read(_, short) => self.name_after(task, short),

@@ -279,7 +279,7 @@ class BusProcess:
         if self.sent is not None:
             self.tell(f"order {self.sent} is sent again: nothing was told of it in {RESEND} s")
             self.sent = None
-        order = self.work.next_order()
+        order = self._next_order()
         is_asked = (order is None or order.state == "added") and self.work.is_asked_to_retire()
         if is_asked or order is not None and order.state == "full":
             self._retire()
@@ -287,6 +287,10 @@ class BusProcess:
             self._bring(order)
         else:
             self._rest()
+
+    def _next_order(self) -> Optional[Order]:
+        """Give the order that the drive is to be at work on, if there is one."""
+        return self.work.next_order()
 
     def _bring(self, order: Order) -> None:
         """Send an order, the first time once `check` accepts it."""

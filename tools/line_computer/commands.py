@@ -8,19 +8,22 @@ import errno
 import os
 import pathlib
 import re
+import shlex
 import shutil
 import signal
 import sys
 import time
 from typing import Callable
 
-from . import cancelling, incoming, journals, labels, orders, outputs, page, schema, server
+from . import cancelling, incoming, journals, labels, orders, outputs, page, scans, schema, server, template
 from .bus import BusProcess
 from .database import STORE, Database, StoreLost
 from .faults import Failed, Refused, plain, why
 from .outputs import write
 from .program import Program
 from .schema import MIGRATIONS, MOST_NUMBER, STATES
+from .station import Choices, Station
+from .station_bus import StationBus
 from .work import Work
 
 ROOT = pathlib.Path(__file__).resolve().parent.parent.parent
@@ -84,6 +87,29 @@ def on_run(options) -> None:
         signal.signal(number, lambda *_: setattr(process, "is_wanted", False))
     process.open()
     process.run()
+
+
+def on_station(options) -> None:
+    """Be a station until standard input ends, SIGTERM, or an interrupt from the keyboard."""
+    want_adapter(options.words[0])
+    program = Program(options.program)
+    bus = StationBus(options.store, options.bus, pathlib.Path(options.folder or options.bus), options.words, program,
+                     options.longest_wait)
+    choices = Choices(template.read(options.template, options.serial, program), options.address, options.again,
+                      put_of_station(options))
+    for number in (signal.SIGTERM, signal.SIGINT, signal.SIGHUP):
+        signal.signal(number, lambda *_: bus.end())
+    bus.open()
+    Station(bus, choices).run()
+
+
+def put_of_station(options) -> Callable[[labels.Label], None] | None:
+    """Give what puts a label of a station out, if it isn't left in the store."""
+    if options.printer and options.label_command:
+        raise Refused("--printer and --label-command are two places for a label: name one of them")
+    if options.printer:
+        return outputs.to_printer(*place_of("--printer", options.printer))
+    return outputs.to_command(shlex.split(options.label_command)) if options.label_command else None
 
 
 def want_adapter(name: str) -> None:
@@ -205,11 +231,14 @@ def on_page(options) -> None:
     if not options.anyone_may_read and not server.is_of_this_computer(host):
         raise Refused(f"--listen {options.listen} is open to other computers, and the page asks for no password: leave"
                       " it at 127.0.0.1, behind a server with a password, or let them by --anyone-may-read")
-    schema.open_store(options.store).close()
+    database = schema.open_store(options.store)
+    if options.station:
+        schema.number_of_bus(database, options.station)
+    database.close()
     for number in (signal.SIGTERM, signal.SIGINT):
         signal.signal(number, lambda *_: sys.exit(0))
     try:
-        server.serve(options.store, host, port, lambda url: write([url]))
+        server.serve(options.store, host, port, options.station, lambda url: write([url]))
     except OSError as fault:
         more = f": --listen {host}:{port + 1} takes another port" if fault.errno == errno.EADDRINUSE else ""
         raise Failed(f"{options.listen}: {fault.strerror or fault}{more}") from fault
@@ -296,6 +325,7 @@ def make_bus_commands(commands) -> None:
     made.add_argument("--until-empty", action="store_true", help="end once no order of the bus is left")
     made.add_argument("--longest-wait", metavar="SECONDS", type=seconds_of, default=LONGEST_WAIT,
                       help="the longest time before what failed is tried again (default: 30)")
+    make_station(commands, bus)
     command(commands, on_status, "Tell how the buses stand, and how many orders and labels there are.")
     made = command(commands, on_retire, "Retire the journal of a bus: it is moved, and named with --older from then on."
                    " Where the bus is at work this waits for the end of its order.", bus, True)
@@ -308,8 +338,28 @@ def make_bus_commands(commands) -> None:
     made = command(commands, on_page, "Show all of it as a page for browsers, which changes nothing.")
     made.add_argument("--listen", metavar="HOST:PORT", default="127.0.0.1:8080",
                       help="where the page is (default: 127.0.0.1:8080)")
+    made.add_argument("--station", metavar="B", help="show the station of this bus too, at /station, which takes a scan"
+                      " from this computer")
     made.add_argument("--anyone-may-read", action="store_true",
                       help="let other computers read it, which asks for no password")
+
+
+def make_station(commands, bus: dict) -> None:
+    """Make the command that is a station."""
+    made = command(commands, on_station, "Write a luminaire for each scan that a scanner types: verify it, and make its"
+                   " label.", bus, True)
+    made.usage = "line_computer station [options] --bus B --template FILE -- ADAPTER [WORDS..]"
+    made.add_argument("--template", metavar="FILE", required=True, help="keys of an order, with `scan` and `now` where"
+                      " the scan and the clock fill them")
+    made.add_argument("--serial", choices=sorted(scans.SERIALS), default="hex",
+                      help="how a scan spells an identification number (default: hex)")
+    made.add_argument("--address", action="store_true", help="give a new luminaire the template's short address first")
+    made.add_argument("--again", action="store_true", help="take scans that were used before, as of a GTIN alone")
+    made.add_argument("--printer", metavar="HOST:PORT", help="send each label there; else it stays in the store")
+    made.add_argument("--label-command", metavar="WORDS", help="start this for each label, which is its standard input")
+    made.add_argument("--folder", metavar="F", help="where the journal of the bus stands (default: B, in this folder)")
+    made.add_argument("--longest-wait", metavar="SECONDS", type=seconds_of, default=LONGEST_WAIT,
+                      help="the longest time before what failed is tried again (default: 30)")
 
 
 def parser() -> Parser:
@@ -328,11 +378,13 @@ def main(arguments: list[str]) -> int:
     words = parser()
     options, unknown = words.parse_known_args(arguments[:end])
     if unknown:
-        more = ": put -- before the adapter" if options.act is on_run else ""
+        more = ": put -- before the adapter" if options.act in (on_run, on_station) else ""
         words.error(f"unrecognized arguments: {' '.join(unknown)}{more}")
     options.words = arguments[end + 1:]
-    if options.act is on_run and not options.words or options.words and options.act not in (on_run, on_labels):
-        words.error("`run` takes the adapter and its words behind --, and `labels` a command; no other one does")
+    if options.act in (on_run, on_station) and not options.words or \
+            options.words and options.act not in (on_run, on_station, on_labels):
+        words.error("`run` and `station` take the adapter and its words behind --, and `labels` a command; no other one"
+                    " does")
     try:
         options.act(options)
     except StoreLost as fault:

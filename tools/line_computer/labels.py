@@ -62,6 +62,11 @@ def row_of(cells) -> str:
     return text.getvalue()
 
 
+def label_of(database: Database, number: int) -> Label:
+    """Give the label of an order."""
+    return Label(*database.rows(ONE, number)[0])
+
+
 def left(database: Database) -> list[Label]:
     """Give the labels that nobody has taken."""
     return [Label(*row) for row in database.rows(LEFT)]
@@ -79,11 +84,16 @@ def take(database: Database, put: Callable[[Label], None]) -> None:
     being taken it comes again, with the same number.
     """
     for label in left(database):
-        with database.holding_label(label.number) as is_held:
-            if is_held and database.rows("select 1 from bench_labels where number = ? and taken is null", label.number):
-                put(label)
-                database.change("update bench_labels set taken = ?, printed = printed + 1 where number = ?", now(),
-                                label.number)
+        take_one(database, label, put)
+
+
+def take_one(database: Database, label: Label, put: Callable[[Label], None]) -> None:
+    """Put out a label, where nobody has taken it or is just taking it."""
+    with database.holding_label(label.number) as is_held:
+        if is_held and database.rows("select 1 from bench_labels where number = ? and taken is null", label.number):
+            put(label)
+            database.change("update bench_labels set taken = ?, printed = printed + 1 where number = ?", now(),
+                            label.number)
 
 
 def again(database: Database, numbers: list[int], put: Callable[[Label], None]) -> None:

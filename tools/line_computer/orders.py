@@ -4,7 +4,7 @@ from __future__ import annotations
 
 import json
 import time
-from typing import NamedTuple, Optional
+from typing import Callable, NamedTuple, Optional
 
 from .database import Database
 from .faults import Refused
@@ -61,10 +61,12 @@ def now() -> int:
     return int(time.time())
 
 
-def add(database: Database, bus: str, items: list[Item], is_same_luminaire: bool = False) -> list[tuple[int, bool]]:
+def add(database: Database, bus: str, items: list[Item], is_same_luminaire: bool = False,
+        also: Optional[Callable[[list], None]] = None) -> list[tuple[int, bool]]:
     """Add all of these orders, or none; give the number of each, and whether it is new.
 
-    One whose reference the bus knows with the same contents is that order, and isn't added again.
+    One whose reference the bus knows with the same contents is that order, and isn't added again. What is to be done
+    in the same transaction is called with what is given.
     """
     with database.transaction():
         # Whoever adds waits here for whoever adds: what was added before is seen by what follows.
@@ -88,6 +90,8 @@ def add(database: Database, bus: str, items: list[Item], is_same_luminaire: bool
             known.setdefault(item.reference, (number, item.unit, item.fields))
             known.pop(None, None)
         insert(database, rows)
+        if also:
+            also(given)
     return given
 
 

@@ -100,8 +100,31 @@ update bench_orders set place = 1 + (
 ) where state = 'ended' and report is not null;
 update bench_orders set state = 'sent' where state = 'taken';
 """
+# Which luminaire the scan of a station was for, and what `verify` has found of it; what each station shows, and the scan
+# that the page has for it.
+THIRD = """
+create table bench_scans (
+    number bigint primary key references bench_orders,
+    key    text not null,
+    name   text not null,
+    latest integer not null default 1,
+    found  text
+);
+create unique index bench_scans_key on bench_scans (key) where latest = 1;
+create index bench_scans_keys on bench_scans (key, number);
+create table bench_stations (
+    bus    text primary key references bench_buses,
+    word   text not null,
+    lines  text not null,
+    until  bigint,
+    waits  integer not null,
+    seen   bigint not null,
+    scan   text,
+    answer text
+);
+"""
 # The statements that bring a store up, each from the version that is its place here to the next one.
-MIGRATIONS = (FIRST, SECOND)
+MIGRATIONS = (FIRST, SECOND, THIRD)
 
 
 def version_of(database: Database) -> int:

@@ -47,6 +47,12 @@ class Work:
                                    f" where bus = ? and {LIVE} order by number limit 1", self.bus)
         return Order(*found[0]) if found else None
 
+    def order(self, number: int) -> Optional[Order]:
+        """Give this order, if it has no end yet."""
+        found = self.database.rows("select number, unit, fields, state, sent from bench_orders where number = ? and"
+                                   f" {LIVE}", number)
+        return Order(*found[0]) if found else None
+
     def send(self, order: Order) -> Optional[Order]:
         """Keep that an order is about to be sent, before its line is written; None where it was cancelled just now.
 
@@ -104,8 +110,12 @@ class Work:
             "update bench_orders set state = ?, code = ?, told = ?, ended = ?, report = ?, frames = ?, misses = ?,"
             f" place = {PLACE} where number = ?", "reused" if it.code is None else "ended", it.code,
             words, now(), it.line, it.frames, it.misses, self.bus, it.number)
-        if it.code == 0 and not is_known:
+        if it.code == 0 and not is_known and not self._is_of_station(it.number):
             self.database.change("insert into bench_labels (number, made) values (?, ?)", it.number, now())
+
+    def _is_of_station(self, number: int) -> bool:
+        """Tell whether an order stands for a scan: its label is made once its luminaire is verified."""
+        return bool(self.database.rows("select 1 from bench_scans where number = ?", number))
 
     def say(self, state: BusState) -> None:
         """Keep what the bus says of itself."""

@@ -1,0 +1,638 @@
+"""Tests of the station: what it says and does for a person, a luminaire at a time, and what its page takes."""
+
+import http.client
+import json
+import os
+import pty
+import re
+import shutil
+import signal
+import socket
+import subprocess
+import threading
+import time
+import urllib.parse
+
+from base import BenchTest, want
+from line_bench import SHORT_BANK, Server, wait_for
+from line_look import Page, text_of
+from station_bench import (BLANK, FIRST, GTIN, LOOKING, NEXT, NOT_TAKEN, StationBench, TEMPLATE, bank_with, ended_of)
+
+SCAN_1, SCAN_2 = f"({'01'}){GTIN}(21)1A2B", f"({'01'}){GTIN}(21)1A2C"
+NUMBER_1, NUMBER_2 = "0000000000001A2B", "0000000000001A2C"
+STAYS = ("Leave its luminaire in, or put it back: {name}. Then scan it once more. If it is gone for good, take out what"
+         " stands there, and type: gone")
+
+
+def passed(name, order):
+    """Give what a station says of a luminaire that gets its label."""
+    return f"PASS: {name}. The label of order {order} is in the store: `labels --take` prints it. {NEXT}"
+
+
+def stopped(name, order):
+    """Give what a station says first after a stop amid an order."""
+    return f"FAIL: The station was stopped amid order {order}. {STAYS.format(name=name)}"
+
+
+class StationTest(BenchTest):
+    """A person at a station."""
+
+    def bench(self, **more):
+        """Give a bench with a luminaire at its seat."""
+        found = StationBench(self.folder, **more)
+        found.seat()
+        return found
+
+    def test_two_luminaires(self):
+        bench = self.bench()
+        station = bench.station()
+        self.assertEqual(station.asked(), FIRST)
+        self.assertEqual(station.serves(SCAN_1), passed(NUMBER_1, 1))
+        self.assertEqual(bench.seated(), bank_with(NUMBER_1))
+        bench.seat()
+        self.assertEqual(station.serves(SCAN_2), passed(NUMBER_2, 2))
+        self.assertEqual(bench.seated(), bank_with(NUMBER_2))
+        self.assertEqual(station.end(), 0)
+        # 15 bytes and 2 behind them take 280 frames; a look 30 before them, and 40 to verify.
+        times = [f"WORK: {NUMBER_1}. Leave the luminaire in, and don't scan. It takes some 15 s.",
+                 f"WORK: {NUMBER_1}, order 1. Leave the luminaire in, and don't scan. It takes some 14 s."]
+        self.assertEqual(station.lines[:5], [LOOKING, FIRST, *times, passed(NUMBER_1, 1)])
+        self.assertEqual(bench.log(), "")
+        self.assertEqual(bench.does("orders"), ["order 1 bus bus1 unit 5 ended: kept 0 Done",
+                                                "order 2 bus bus1 unit 5 ended: kept 0 Done"])
+        self.assertEqual(bench.labels_left(), [NUMBER_1, NUMBER_2])
+        self.assertEqual(bench.does("status")[0], "bus bus1 not running since "
+                         + re.search("since (.*)", bench.does("status")[0])[1])
+
+    def test_scans_that_are_refused(self):
+        bench = self.bench()
+        station = bench.station()
+        station.asked()
+        for scan, why in {"(01)04006381333932(21)1A2B": "the check digit of the GTIN 04006381333932 is wrong",
+                          "4006381333931": "that is the GTIN of the template: scan the code that has the luminaire's"
+                                           " number",
+                          "A lamp": "the number A lamp isn't 1 to 16 hexadecimal digits"}.items():
+            self.assertEqual(station.serves(scan), f"FAIL: The scan isn't taken: {why}. Scan again.")
+        self.assertEqual(bench.seated(), BLANK)
+        self.assertEqual(station.serves(SCAN_1), passed(NUMBER_1, 1))
+        bench.seat()
+        used = (f"FAIL: {NUMBER_1} has its label already, by order 1. If it is this luminaire, it is done: take it out."
+                " To write another one with the same number, type again, and scan again.")
+        self.assertEqual(station.serves("1A2B"), used)
+        self.assertEqual(bench.seated(), BLANK)
+        self.assertEqual(station.serves("again"),
+                         "SCAN: The next scan is taken even if its luminaire has a label. Scan it now.")
+        self.assertEqual(station.serves("1a2b"), passed(NUMBER_1, 2))
+        # `again` is for one scan alone.
+        self.assertEqual(station.serves("1A2B"), used.replace("order 1", "order 2"))
+        self.assertEqual(station.end(), 0)
+        station = bench.station("bus1", "--again")
+        station.asked()
+        self.assertEqual(station.serves("1A2B"), passed(NUMBER_1, 3))
+        self.assertEqual(station.end(), 0)
+
+    def test_a_luminaire_with_a_label_is_not_written_again(self):
+        bench = self.bench()
+        station = bench.station()
+        station.asked()
+        station.serves(SCAN_1)
+        # The person forgets to put the next one in.
+        self.assertEqual(station.serves(SCAN_2),
+                         f"FAIL: The luminaire that stands there has its label: {NUMBER_1}, by order 1. Take it out, put"
+                         " the right one in, and scan again. To write it anew, type again first.")
+        self.assertEqual(bench.seated(), bank_with(NUMBER_1))
+        bench.seat()
+        self.assertEqual(station.serves(SCAN_2), passed(NUMBER_2, 2))
+        # By intent.
+        station.serves("again")
+        self.assertEqual(station.serves("1A2D"), passed("0000000000001A2D", 3))
+        self.assertEqual(station.end(), 0)
+
+    def test_a_scan_while_work_is_on(self):
+        bench = self.bench()
+        bench.pace = 5
+        station = bench.station()
+        station.asked()
+        station.scan(SCAN_1, SCAN_1)
+        wait_for(lambda: any("order 1" in line for line in station.lines))
+        station.scan(SCAN_2)
+        self.assertEqual(station.asked(), passed(NUMBER_1, 1))
+        self.assertEqual(station.end(), 0)
+        self.assertEqual(station.lines.count(NOT_TAKEN), 2)
+        self.assertEqual(len(bench.states()), 1)
+
+    def test_luminaires_that_fail(self):
+        bench = self.bench()
+        station = bench.station()
+        station.asked()
+        bench.seat(None)
+        self.assertEqual(station.serves(SCAN_1), "FAIL: No luminaire answers at the short address 5. See to its power and"
+                         " its wire, then scan it again.")
+        bench.seat(SHORT_BANK)
+        self.assertEqual(station.serves(SCAN_1), "FAIL: Order 1: kept 1 Short. Its memory bank 1 is too short for the"
+                         " template: take it out, it doesn't suit.")
+        bench.seat(BLANK[:0x12] + b"\x04" + BLANK[0x13:])
+        self.assertEqual(station.serves(SCAN_1), "FAIL: Order 2: kept 2 Format. Its memory bank 1 has another content"
+                         " format: take it out, it doesn't suit.")
+        (self.folder / "bus1" / "unplugged").touch()
+        self.assertEqual(station.serves(SCAN_1), "FAIL: error: the interface is gone; drive fault 4 End. See to that, then"
+                         " scan again.")
+        (self.folder / "bus1" / "unplugged").unlink()
+        bench.seat()
+        # What was refused or failed may be scanned again.
+        self.assertEqual(station.serves(SCAN_1), passed(NUMBER_1, 3))
+        self.assertEqual(station.end(), 0)
+        self.assertEqual(bench.labels_left(), [NUMBER_1])
+
+    def test_a_luminaire_in_doubt_and_one_left_open(self):
+        bench = self.bench()
+        fixed = [bench.station_words()[0], str(ADAPTER), "--folder", "bus1", "--fixed", "5:14"]
+        station = bench.station(adapter=fixed[1:])
+        station.asked()
+        self.assertEqual(station.serves(SCAN_1), "FAIL: Order 1: kept 4 Doubt. It may be written in part. See to its power"
+                         " and its wire, then scan it again. If it fails again, take it out.")
+        self.assertEqual(station.end(), 0)
+        lost = [*fixed[1:4][:3], "--lose-frame", ",".join(map(str, range(60, 900)))]
+        station = bench.station(adapter=lost)
+        station.asked()
+        self.assertEqual(station.serves(SCAN_1), "FAIL: Order 2: kept 5 DoubtOpen. Leave it in: it may be written in part,"
+                         " and still be open. See to its power and its wire, then scan it again.")
+        self.assertEqual(station.end(), 0)
+        # It has its power, and the same one is written: no frame but a drive's comes before.
+        station = bench.station()
+        self.assertEqual(station.asked(), FIRST)
+        self.assertEqual(station.serves(SCAN_1), passed(NUMBER_1, 3))
+        self.assertEqual(station.end(), 0)
+        self.assertEqual(bench.seated(), bank_with(NUMBER_1))
+
+    def test_a_luminaire_that_is_not_the_same(self):
+        """Its bank is exchanged between the end of its order and `verify`."""
+        bench = self.bench()
+        station = bench.station(crash=("commit", "1000", "before"))
+        station.asked()
+        script = self.folder / "exchanging"
+        script.write_text(f"#!/bin/sh\ncase \" $* \" in *\" verify \"*) echo '{BLANK.hex()}' >bus1/unit_5.hex;; esac\n"
+                          f"exec {ADAPTER} --folder bus1 \"$@\"\n")
+        script.chmod(0o755)
+        station.end()
+        station = bench.station(adapter=[str(script)])
+        station.asked()
+        self.assertEqual(station.serves(SCAN_1), "FAIL: Order 1 was written, and its luminaire isn't the same: other 03"
+                         " FF. It gets no label. Scan it again. If it fails again, take it out.")
+        self.assertEqual(station.end(), 0)
+        self.assertEqual(bench.labels_left(), [])
+        station = bench.station()
+        station.asked()
+        self.assertEqual(station.serves(SCAN_1), passed(NUMBER_1, 2))
+        self.assertEqual(station.end(), 0)
+
+    def test_a_luminaire_that_is_silent_when_it_is_verified(self):
+        bench = self.bench()
+        script = self.folder / "cutting"
+        script.write_text("#!/bin/sh\ncase \" $* \" in *\" verify \"*) set -- --unit 9 \"$@\";; esac\n"
+                          f"exec {ADAPTER} --folder bus1 \"$@\"\n")
+        script.chmod(0o755)
+        station = bench.station(adapter=[str(script)])
+        station.asked()
+        gone = "If it is gone for good, take out what stands there, and type: gone"
+        silent = ("FAIL: Order 1 is written, and its luminaire doesn't answer now. Leave it in. See to its power and its"
+                  f" wire, then scan it once more. {gone}")
+        self.assertEqual(station.serves(SCAN_1), silent)
+        self.assertEqual(station.serves(SCAN_2), f"FAIL: {NUMBER_2} isn't taken: order 1 isn't finished. "
+                         + STAYS.format(name=NUMBER_1))
+        self.assertEqual(station.serves(SCAN_1), silent)
+        self.assertEqual(station.end(), 0)
+        station = bench.station()
+        self.assertEqual(station.asked(), stopped(NUMBER_1, 1))
+        self.assertEqual(station.serves(SCAN_1), passed(NUMBER_1, 1))
+        self.assertEqual(station.end(), 0)
+        self.assertEqual(len(bench.states()), 1)
+
+
+ADAPTER = StationBench.station_words.__globals__["ADAPTER"].parent.parent / "adapters" / "simulated_link.py"
+
+
+class StopTest(BenchTest):
+    """A station that is stopped, and what it says then."""
+
+    def bench(self):
+        """Give a bench with a luminaire at its seat, on a bus that takes its time."""
+        found = StationBench(self.folder)
+        found.seat()
+        found.pace = 5
+        return found
+
+    def test_a_stop_before_the_order_is_begun(self):
+        bench = self.bench()
+        station = bench.station(crash=("write", "99", "before"))
+        station.asked()
+        station.scan(SCAN_1)
+        wait_for(lambda: bench.states())
+        station.process.send_signal(signal.SIGKILL)
+        station.process.wait()
+        station = bench.station()
+        said = station.asked()
+        if "cancelled" in said:
+            self.assertEqual(said, "SCAN: Order 1 wasn't begun when the station was stopped, and is cancelled. Put a"
+                             " luminaire in, then scan it.")
+            self.assertEqual(station.serves(SCAN_1), passed(NUMBER_1, 2))
+        else:
+            self.assertEqual(said, stopped(NUMBER_1, 1))
+            self.assertEqual(station.serves(SCAN_1), passed(NUMBER_1, 1))
+        self.assertEqual(station.end(), 0)
+
+    def stopped_amid(self, bench, number=signal.SIGKILL):
+        """Stop a station amid its first order."""
+        station = bench.station()
+        station.asked()
+        station.scan(SCAN_1)
+        wait_for(lambda: bench.states().get(1) == "taken")
+        station.process.send_signal(number)
+        status = station.process.wait()
+        wait_for(lambda: not processes_in(self.folder))
+        return status
+
+    def test_a_stop_amid_an_order(self):
+        for number, status in ((signal.SIGKILL, -signal.SIGKILL), (signal.SIGTERM, 0)):
+            folder = self.folder
+            self.folder = folder / number.name
+            self.folder.mkdir()
+            bench = self.bench()
+            self.assertEqual(self.stopped_amid(bench, number), status)
+            station = bench.station()
+            self.assertEqual(station.asked(), stopped(NUMBER_1, 1))
+            before = bench.seated()
+            # Another one that stands there now is not written.
+            bench.seat()
+            self.assertEqual(station.serves(SCAN_2), f"FAIL: {NUMBER_2} isn't taken: order 1 isn't finished. "
+                             + STAYS.format(name=NUMBER_1))
+            self.assertEqual(bench.seated(), BLANK)
+            bench.seat(before)
+            self.assertEqual(station.serves(SCAN_1), passed(NUMBER_1, 1))
+            self.assertEqual(station.end(), 0)
+            self.assertEqual((bench.seated(), bench.labels_left()), (bank_with(NUMBER_1), [NUMBER_1]))
+            self.folder = folder
+
+    def test_a_luminaire_that_is_gone(self):
+        bench = self.bench()
+        self.stopped_amid(bench)
+        station = bench.station()
+        station.asked()
+        bench.seat(None)
+        self.assertEqual(station.serves("gone"), "SCAN: Order 1 is given up, and gets no label. Put the next luminaire in,"
+                         " then scan it.")
+        bench.seat()
+        # Its number may be another one's: it has no label.
+        self.assertEqual(station.serves(SCAN_1), passed(NUMBER_1, 2))
+        self.assertEqual(station.serves("gone"), "SCAN: There is no order to give up. Put the next luminaire in, then"
+                         " scan it.")
+        self.assertEqual(station.end(), 0)
+        self.assertEqual((bench.seated(), bench.labels_left()), (bank_with(NUMBER_1), [NUMBER_1]))
+
+    def test_a_stop_at_each_commit(self):
+        """Each time the person scans once more, or again; the luminaire has its numbers and one label, whatever comes."""
+        bench = self.bench()
+        bench.pace, number, stops = 0, 1, 0
+        while True:
+            for when in ("before", "behind"):
+                serial = f"{2 * number + (when == 'behind'):016X}"
+                bench.seat()
+                station = bench.station(crash=("commit", str(number), when))
+                asked = station.asked()
+                said = station.serves(serial) if asked else None
+                if said is not None and said.startswith("PASS"):
+                    self.assertEqual(station.end(), 0)
+                    assert stops > 20, stops
+                    print(f"stops of a station at a commit: {stops}", flush=True)
+                    return
+                self.assertEqual((number, when, said), (number, when, None))
+                stops += 1
+                self.ends_well(bench, serial)
+            number += 1
+
+    def ends_well(self, bench, serial):
+        """Have a person bring a luminaire to its end after a stop."""
+        station = bench.station()
+        asked = station.asked()
+        said = station.serves(serial)
+        is_labelled = said.startswith("FAIL: ") and "has its label already" in said
+        assert said.startswith("PASS") or is_labelled and asked == FIRST, (asked, said)
+        self.assertEqual(station.end(), 0)
+        self.assertEqual(bench.seated(), bank_with(serial))
+        self.assertEqual(bench.labels_left().count(serial), 1)
+
+    def test_another_order_of_the_bus(self):
+        bench = self.bench()
+        bench.does("add", "--bus", "bus1", "-", given=b'[{"unit": 5, "year": 9}]')
+        station = bench.station()
+        station.asked()
+        self.assertEqual(station.serves(SCAN_1), "FAIL: Order 1 of the bus stands for no scan. `cancel` it, or end the"
+                         " station and have `run` carry it out. Then scan again.")
+        self.assertEqual(bench.does("cancel", "1"), ["order 1 cancelled"])
+        self.assertEqual(station.serves(SCAN_1), passed(NUMBER_1, 2))
+        # Its bus has one process.
+        second = subprocess.run(bench.station_words(), cwd=self.folder, capture_output=True, text=True, check=False,
+                                stdin=subprocess.DEVNULL)
+        self.assertEqual((second.returncode, second.stderr),
+                         (1, "error: the bus bus1 has another process: only one `run` of a bus may be at work\n"))
+        self.assertEqual(bench.does("retire", "--bus", "bus1"), ["retired bench_1.journal"])
+        bench.seat()
+        self.assertEqual(station.serves(SCAN_2), passed(NUMBER_2, 3))
+        self.assertEqual(station.end(), 0)
+
+    def test_a_store_that_is_gone_for_a_while(self):
+        bench = self.bench()
+        station = bench.station()
+        station.asked()
+        os.rename(bench.store, self.folder / "away.db")
+        station.scan(SCAN_1)
+        wait_for(lambda: any("the store can't be used" in line for line in station.lines))
+        os.rename(self.folder / "away.db", bench.store)
+        self.assertEqual(station.asked(), FIRST)
+        self.assertEqual(station.serves(SCAN_1), passed(NUMBER_1, 1))
+        self.assertEqual(station.end(), 0)
+
+
+def processes_in(folder):
+    """Give the processes that work in a folder."""
+    found = []
+    for name in filter(str.isdigit, os.listdir("/proc")):
+        try:
+            if os.readlink(f"/proc/{name}/cwd") == str(folder):
+                found.append(name)
+        except OSError:
+            continue
+    return found
+
+
+class PlacesTest(BenchTest):
+    """Where a station's labels go, its terminal, and short addresses."""
+
+    def test_labels_go_to_a_command(self):
+        bench = StationBench(self.folder)
+        bench.seat()
+        (self.folder / "jam").touch()
+        station = bench.station("bus1", "--label-command", "sh -c 'test ! -e jam && cat >>labels'")
+        station.asked()
+        jam = ("FAIL: the label of order 1 isn't taken: sh ended with status 1. See to the printer: it is tried again."
+               " Leave the luminaire in.")
+        self.assertEqual(station.serves(SCAN_1), jam)
+        (self.folder / "jam").unlink()
+        self.assertEqual(station.asked(), f"PASS: {NUMBER_1}. The label of order 1 is out: put it on. {NEXT}")
+        label = json.loads((self.folder / "labels").read_text())
+        self.assertEqual((label["order"], label["identification"], label["gtin"]), (1, NUMBER_1, "4006381333931"))
+        bench.seat()
+        (self.folder / "jam").touch()
+        self.assertEqual(station.serves(SCAN_2), jam.replace("order 1", "order 2"))
+        station.process.send_signal(signal.SIGTERM)
+        self.assertEqual(station.process.wait(20), 0)
+        (self.folder / "jam").unlink()
+        # It comes at the next start.
+        station = bench.station("bus1", "--label-command", "sh -c 'cat >>labels'")
+        self.assertEqual(station.asked(), FIRST)
+        numbers = [json.loads(line)["order"] for line in (self.folder / "labels").read_text().splitlines()]
+        self.assertEqual((numbers, bench.does("labels")), ([1, 2], []))
+        self.assertEqual(station.end(), 0)
+
+    def test_labels_go_to_a_printer(self):
+        bench = StationBench(self.folder)
+        bench.seat()
+        taken = []
+        with socket.create_server(("127.0.0.1", 0)) as printer:
+            def serve():
+                connection, _ = printer.accept()
+                with connection:
+                    taken.append(connection.makefile().read())
+
+            thread = threading.Thread(target=serve)
+            thread.start()
+            station = bench.station("bus1", "--printer", f"127.0.0.1:{printer.getsockname()[1]}")
+            station.asked()
+            self.assertEqual(station.serves(SCAN_1), f"PASS: {NUMBER_1}. The label of order 1 is out: put it on. {NEXT}")
+            thread.join(20)
+        self.assertEqual(json.loads(taken[0])["identification"], NUMBER_1)
+        self.assertEqual(station.end(), 0)
+
+    def test_a_terminal(self):
+        bench = StationBench(self.folder)
+        bench.seat()
+        master, slave = pty.openpty()
+        process = subprocess.Popen(bench.station_words(), cwd=self.folder, stdin=slave, stdout=slave,
+                                   stderr=subprocess.DEVNULL)
+        os.close(slave)
+        bench.processes.append(process)
+        shown = b""
+
+        def has(words):
+            nonlocal shown
+            shown += os.read(master, 65536)
+            return words in shown
+
+        wait_for(lambda: has(b"Put a luminaire in, then scan it."))
+        os.write(master, SCAN_1.encode() + b"\r")
+        wait_for(lambda: has(b"is in the store"))
+        for colour, word in ((44, "SCAN"), (43, "WORK"), (42, "PASS")):
+            assert f"\033[2J\033[H\033[1;30;{colour}m{word.center(24)}\033[0m".encode() in shown, (word, shown)
+        assert b" s left." in shown, shown
+        process.send_signal(signal.SIGTERM)
+        self.assertEqual(process.wait(20), 0)
+        os.close(master)
+
+    def test_new_luminaires_get_their_address(self):
+        bench = StationBench(self.folder)
+        new = [str(ADAPTER), "--folder", "bus1", "--new", "1"]
+        station = bench.station("bus1", "--address", adapter=new)
+        station.asked()
+        for number, name in ((1, NUMBER_1), (2, NUMBER_2)):
+            said = station.serves(name)
+            assert re.fullmatch(f"PASS: {name}. The label of order {number} is in the store: `labels --take` prints it."
+                                " Take the luminaire out in (2[0-9]|30) s: then it has stored its short address. Put the"
+                                " next luminaire in, then scan it.", said), said
+            path = self.folder / "bus1" / "new_1.hex"
+            self.assertEqual(bytes.fromhex(path.read_text()), bank_with(name))
+            assert re.match("new_1 (short )?5 ", (self.folder / "bus1" / "addresses.txt").read_text())
+            path.unlink()
+            (self.folder / "bus1" / "addresses.txt").unlink()
+        # One that has its address already goes on with it: its order failed before.
+        self.assertEqual(station.end(), 0)
+        subprocess.run([*new, "--", bench.station_words()[bench.station_words().index("--program") + 1], "address", "5"],
+                       cwd=self.folder, check=True, capture_output=True)
+        station = bench.station("bus1", "--address", adapter=new)
+        station.asked()
+        self.assertEqual(station.serves("1A2D"), passed("0000000000001A2D", 3))
+        self.assertEqual(station.end(), 0)
+        # Two new ones at once: which one would get it?
+        for name in ("new_1.hex", "addresses.txt"):
+            (self.folder / "bus1" / name).unlink()
+        station = bench.station("bus1", "--address", adapter=[*new[:-1], "2"])
+        station.asked()
+        said = station.serves("1A2E")
+        print(said, flush=True)
+        assert said.startswith("FAIL: The luminaire got no short address: "), said
+        self.assertEqual(station.end(), 0)
+
+
+class PageOfStationTest(BenchTest):
+    """The page of a station."""
+
+    def setUp(self):
+        """Make a bench with a page."""
+        super().setUp()
+        self.bench = StationBench(self.folder)
+        self.bench.seat()
+        self.page = StationPage(self.bench)
+        self.addCleanup(self.page.__exit__)
+
+    def post(self, scan, path="/station", **headers):
+        """Send what the field sends; give the status and the words of the answer."""
+        host = self.page.host
+        given = {"Host": host, "Origin": f"http://{host}", "Content-Type": "application/x-www-form-urlencoded", **headers}
+        connection = http.client.HTTPConnection(host, timeout=20)
+        connection.request("POST", path, urllib.parse.urlencode({"scan": scan}),
+                           {name: value for name, value in given.items() if value is not None})
+        answer = connection.getresponse()
+        text = answer.read().decode()
+        connection.close()
+        return answer.status, text
+
+    def told(self, scan, **headers):
+        """Give the status, and what is told of a scan that isn't taken."""
+        status, text = self.post(scan, **headers)
+        found = re.search('role="alert">(.*?)</p>', text)
+        return status, found and found[1]
+
+    def test_a_scan_of_the_page(self):
+        station = self.bench.station()
+        self.assertEqual(station.asked(), FIRST)
+        assert "SCAN Put a luminaire in, then scan it." in text_of(self.page.get("/state"))
+        self.assertEqual(self.told(SCAN_1), (303, None))
+        self.assertEqual(station.asked(), passed(NUMBER_1, 1))
+        assert f"PASS {NUMBER_1}." in text_of(self.page.get("/state"))
+        self.assertEqual(self.told(""), (409, "The field was empty. Scan again."))
+        self.bench.seat()
+        self.bench.pace = 5
+        self.assertEqual(station.end(), 0)
+        assert "OFF The station has ended." in text_of(self.page.get("/state"))
+        self.assertEqual(self.told(SCAN_2), (409, "The station isn&#x27;t running."))
+
+    def test_a_scan_of_the_page_while_work_is_on(self):
+        self.bench.pace = 10
+        station = self.bench.station()
+        station.asked()
+        station.scan(SCAN_1)
+        wait_for(lambda: "order 1" in text_of(self.page.get("/state")))
+        assert "Leave the luminaire in" in text_of(self.page.get("/state"))
+        self.assertEqual(self.told(SCAN_2), (409, NOT_TAKEN.replace("'", "&#x27;")))
+        self.assertEqual(station.asked(), passed(NUMBER_1, 1))
+        self.assertEqual((station.end(), len(self.bench.states())), (0, 1))
+
+    def test_a_station_that_was_killed(self):
+        station = self.bench.station()
+        station.asked()
+        station.process.kill()
+        station.process.wait()
+        self.assertEqual(self.told(SCAN_1), (409, "The station doesn&#x27;t answer, and has not taken the scan."))
+        # The scan isn't for whoever stands there later.
+        station = self.bench.station()
+        self.assertEqual(station.asked(), FIRST)
+        time.sleep(0.5)
+        self.assertEqual(self.bench.states(), {})
+        self.assertEqual(station.end(), 0)
+
+    def test_scans_from_elsewhere(self):
+        station = self.bench.station()
+        station.asked()
+        host, port = self.page.host, self.page.host.split(":")[1]
+        page, computer = "A scan is taken from this page alone.", "A scan is taken from this computer alone."
+        names = f"A scan is taken at 127.0.0.1:{port} and localhost:{port} alone."
+        for headers, why in (({"Origin": None}, page), ({"Origin": "null"}, page), ({"Origin": "http://evil.example"}, page),
+                             ({"Origin": f"https://{host}"}, page), ({"Origin": "http://127.0.0.1:1"}, page),
+                             ({"Origin": f"http://localhost:{port}"}, page),
+                             ({"Host": f"evil.example:{port}", "Origin": f"http://evil.example:{port}"}, names),
+                             ({"Host": "127.0.0.1"}, names), ({"Host": ""}, names),
+                             ({"X-Forwarded-For": "192.0.2.7"}, computer), ({"Via": "1.1 proxy"}, computer)):
+            self.assertEqual((headers, self.told(SCAN_1, **headers)), (headers, (403, why)))
+        for headers, status in (({"Content-Length": "4097"}, 403), ({"Content-Length": "x"}, 403)):
+            self.assertEqual((headers, self.post(SCAN_1, **headers)[0]), (headers, status))
+        for path in ("/", "/station/", "/station/state", "/station?x", "/other"):
+            self.assertEqual((path, self.post(SCAN_1, path)[0]), (path, 501))
+        self.assertEqual(self.bench.states(), {})
+        nasty = "<script>alert(1)</script>"
+        self.assertEqual(self.told(nasty), (303, None))
+        assert "isn't 1 to 16 hexadecimal digits" in station.asked()
+        text = self.page.get("/state")
+        assert "<script" not in text and "&lt;script&gt;" in text, text
+        # By the other names of this computer too.
+        self.assertEqual(self.told(SCAN_1, Host=f"localhost:{port}", Origin=f"http://localhost:{port}"), (303, None))
+        self.assertEqual(station.asked(), passed(NUMBER_1, 1))
+        self.assertEqual(station.end(), 0)
+
+    def test_what_the_page_is(self):
+        for path, words in (("", ("<iframe", "autofocus")), ("/state", ('http-equiv="refresh" content="1"', "OFF")),
+                            (".css", ("body.pass",))):
+            connection = http.client.HTTPConnection(self.page.host, timeout=20)
+            connection.request("GET", f"/station{path}")
+            answer = connection.getresponse()
+            text = answer.read().decode()
+            self.assertEqual((path, answer.status), (path, 200))
+            assert all(it in text for it in words) and "<script" not in text, (path, text)
+            policy = answer.getheader("Content-Security-Policy")
+            assert "default-src 'none'" in policy and "frame-ancestors 'self'" in policy and "script" not in policy, policy
+            connection.close()
+        # The field's page is never loaded anew, or what is typed would be lost.
+        assert "refresh" not in self.page.get("")
+        ended = self.bench.give("page", "--station", "bus9", "--listen", "127.0.0.1:0")
+        self.assertEqual((ended.status, ended.told), (1, "error: there is no bus bus9: `init --bus bus9` makes it\n"))
+
+    def test_a_browser_scans(self):
+        if not shutil.which("chromium"):
+            self.skipTest("chromium isn't installed (Debian: chromium)")
+        from line_look import told_by_browser
+        station = self.bench.station()
+        station.asked()
+        picture = self.folder / "station.png"
+        told_by_browser(self.page.url, f"--screenshot={picture}", "--window-size=1100,700")
+        self.assertEqual(picture.read_bytes()[:8], b"\x89PNG\r\n\x1a\n")
+        self.assertEqual(station.end(), 0)
+
+
+class StationPage(Page):
+    """The page of a bench with a station."""
+
+    def __init__(self, bench):
+        self.process = subprocess.Popen(bench.words("page", "--listen", "127.0.0.1:0", "--station", "bus1"),
+                                        cwd=bench.folder, stdout=subprocess.PIPE, text=True)
+        self.url = self.process.stdout.readline().strip()
+        want(self.url.endswith("/station"), True)
+        self.host = self.url.split("/")[2]
+
+
+class TwoStationsTest(BenchTest):
+    """Stations at two buses over one store."""
+
+    def two_scan_one_luminaire(self, bench):
+        """Have two stations get one scan at once, several times; one of them takes it."""
+        stations = [bench.station(bus) for bus in ("bus1", "bus2")]
+        for station in stations:
+            station.asked()
+        for number in range(6):
+            for bus in ("bus1", "bus2"):
+                bench.seat(bus=bus)
+            for station in stations:
+                station.scan(f"{number:016X}")
+            said = [station.asked() for station in stations]
+            assert sorted(it[:4] for it in said) == ["FAIL", "PASS"], said
+            refused, = (it for it in said if it.startswith("FAIL"))
+            assert "is at work already" in refused or "has its label already" in refused, refused
+            first = said[0].startswith("PASS")
+            self.assertEqual([bench.seated(bus) == BLANK for bus in ("bus1", "bus2")], [not first, first])
+        for station in stations:
+            self.assertEqual(station.end(), 0)
+        self.assertEqual(bench.labels_left(), [f"{number:016X}" for number in range(6)])
+
+    def test_over_sqlite(self):
+        self.two_scan_one_luminaire(StationBench(self.folder, buses=("bus1", "bus2")))
+
+    def test_over_postgresql(self):
+        with Server(self.folder) as server:
+            self.two_scan_one_luminaire(StationBench(self.folder, server.url, ("bus1", "bus2")))

@@ -97,7 +97,7 @@ class Person:
     def go_on(self):
         """Go on until all kills are over, and the luminaire that is at the seat then has its end."""
         self.next_one()
-        while self.left > 0 or self.station is None or not self.here.is_labelled:
+        while self.left > 0 or self.station is None or not (self.here and self.here.is_labelled):
             if self.station is None:
                 self.start()
             said = self.asked()
@@ -108,6 +108,10 @@ class Person:
     def do(self, said):
         """Do what the station says."""
         hand = re.search("put it back: ([0-9A-F]+)[.]", said)
+        if "See to the printer" in said:
+            return
+        if self.here is None and not hand:
+            self.next_one()
         if "If it is gone for good" in said:
             self.see_to(hand[1] if hand else self.here.serial)
         elif said.startswith("PASS") or f"{self.here.serial} has its label already" in said:
@@ -150,7 +154,6 @@ class Person:
             self.counts["given up"] += 1
             self.put_in(None)
             self.scan("gone")
-            known.bank = BLANK  # whatever became of it
         else:
             if self.here is not known:
                 self.put_in(known)
@@ -174,7 +177,7 @@ class Person:
         self.station.scan(*lines)
         if what == "amid work":
             time.sleep(self.chance.uniform(0, 0.3))
-            self.station.scan(serial_of(len(self.luminaires)))
+            self.station.scan(line)
         if is_killed:
             time.sleep(self.chance.choice((0.2, 0.6, 1.5, 2.2)) * self.chance.random())
             self.kill()

@@ -8,7 +8,7 @@ import threading
 import time
 
 from driven import PATIENCE, ROOT, simulated_link
-from line_bench import Bench, wait_for
+from line_bench import Bench
 
 ADAPTER = ROOT / "tests" / "station_adapter.py"
 UNIT = 5
@@ -16,7 +16,6 @@ GTIN = "04006381333931"
 GTIN_BYTES = bytes.fromhex("03A4CEEFADAB")
 BLANK = simulated_link.BLANK_BANK_1
 TEMPLATE = {"unit": UNIT, "gtin": "4006381333931", "identification": "scan", "year": 24, "week": 9}
-WORDS = ("SCAN", "WORK", "PASS", "FAIL")
 NOT_TAKEN = "The scan wasn't taken: the station was at work. Scan again once it asks for it."
 LOOKING = "WORK: Looking at what is there. Don't scan."
 FIRST = "SCAN: Put a luminaire in, then scan it."
@@ -128,11 +127,6 @@ class Terminal:
         self.thread.join(PATIENCE)
         self.process.stdout.close()
         return status
-
-
-def ended_of(*processes):
-    """Wait until processes of these numbers aren't there any more."""
-    wait_for(lambda: not any(os.path.exists(f"/proc/{it}") and state_of(it) not in "ZX" for it in processes))
 
 
 def state_of(process):

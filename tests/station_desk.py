@@ -14,12 +14,13 @@ import time
 import urllib.parse
 
 from base import BenchTest, want
-from line_bench import SHORT_BANK, Server, wait_for
+from line_bench import ADAPTER, SHORT_BANK, Server, wait_for
 from line_look import Page, text_of
-from station_bench import (BLANK, FIRST, GTIN, LOOKING, NEXT, NOT_TAKEN, StationBench, TEMPLATE, bank_with, ended_of)
+from station_bench import BLANK, FIRST, GTIN, LOOKING, NEXT, NOT_TAKEN, StationBench, bank_with
 
-SCAN_1, SCAN_2 = f"({'01'}){GTIN}(21)1A2B", f"({'01'}){GTIN}(21)1A2C"
+SCAN_1, SCAN_2 = f"(01){GTIN}(21)1A2B", f"(01){GTIN}(21)1A2C"
 NUMBER_1, NUMBER_2 = "0000000000001A2B", "0000000000001A2C"
+NAME_1, NAME_2 = "1A2B", "1A2C"
 STAYS = ("Leave its luminaire in, or put it back: {name}. Then scan it once more. If it is gone for good, take out what"
          " stands there, and type: gone")
 
@@ -47,16 +48,16 @@ class StationTest(BenchTest):
         bench = self.bench()
         station = bench.station()
         self.assertEqual(station.asked(), FIRST)
-        self.assertEqual(station.serves(SCAN_1), passed(NUMBER_1, 1))
+        self.assertEqual(station.serves(SCAN_1), passed(NAME_1, 1))
         self.assertEqual(bench.seated(), bank_with(NUMBER_1))
         bench.seat()
-        self.assertEqual(station.serves(SCAN_2), passed(NUMBER_2, 2))
+        self.assertEqual(station.serves(SCAN_2), passed(NAME_2, 2))
         self.assertEqual(bench.seated(), bank_with(NUMBER_2))
         self.assertEqual(station.end(), 0)
         # 15 bytes and 2 behind them take 280 frames; a look 30 before them, and 40 to verify.
-        times = [f"WORK: {NUMBER_1}. Leave the luminaire in, and don't scan. It takes some 15 s.",
-                 f"WORK: {NUMBER_1}, order 1. Leave the luminaire in, and don't scan. It takes some 14 s."]
-        self.assertEqual(station.lines[:5], [LOOKING, FIRST, *times, passed(NUMBER_1, 1)])
+        times = [f"WORK: {NAME_1}. Leave the luminaire in, and don't scan. It takes some 15 s.",
+                 f"WORK: {NAME_1}, order 1. Leave the luminaire in, and don't scan. It takes some 14 s."]
+        self.assertEqual(station.lines[:5], [LOOKING, FIRST, *times, passed(NAME_1, 1)])
         self.assertEqual(bench.log(), "")
         self.assertEqual(bench.does("orders"), ["order 1 bus bus1 unit 5 ended: kept 0 Done",
                                                 "order 2 bus bus1 unit 5 ended: kept 0 Done"])
@@ -74,21 +75,21 @@ class StationTest(BenchTest):
                           "A lamp": "the number A lamp isn't 1 to 16 hexadecimal digits"}.items():
             self.assertEqual(station.serves(scan), f"FAIL: The scan isn't taken: {why}. Scan again.")
         self.assertEqual(bench.seated(), BLANK)
-        self.assertEqual(station.serves(SCAN_1), passed(NUMBER_1, 1))
+        self.assertEqual(station.serves(SCAN_1), passed(NAME_1, 1))
         bench.seat()
-        used = (f"FAIL: {NUMBER_1} has its label already, by order 1. If it is this luminaire, it is done: take it out."
+        used = (f"FAIL: {NAME_1} has its label already, by order 1. If it is this luminaire, it is done: take it out."
                 " To write another one with the same number, type again, and scan again.")
         self.assertEqual(station.serves("1A2B"), used)
         self.assertEqual(bench.seated(), BLANK)
         self.assertEqual(station.serves("again"),
                          "SCAN: The next scan is taken even if its luminaire has a label. Scan it now.")
-        self.assertEqual(station.serves("1a2b"), passed(NUMBER_1, 2))
+        self.assertEqual(station.serves("1a2b"), passed("1a2b", 2))
         # `again` is for one scan alone.
         self.assertEqual(station.serves("1A2B"), used.replace("order 1", "order 2"))
         self.assertEqual(station.end(), 0)
         station = bench.station("bus1", "--again")
         station.asked()
-        self.assertEqual(station.serves("1A2B"), passed(NUMBER_1, 3))
+        self.assertEqual(station.serves("1A2B"), passed(NAME_1, 3))
         self.assertEqual(station.end(), 0)
 
     def test_a_luminaire_with_a_label_is_not_written_again(self):
@@ -98,14 +99,14 @@ class StationTest(BenchTest):
         station.serves(SCAN_1)
         # The person forgets to put the next one in.
         self.assertEqual(station.serves(SCAN_2),
-                         f"FAIL: The luminaire that stands there has its label: {NUMBER_1}, by order 1. Take it out, put"
+                         f"FAIL: The luminaire that stands there has its label: {NAME_1}, by order 1. Take it out, put"
                          " the right one in, and scan again. To write it anew, type again first.")
         self.assertEqual(bench.seated(), bank_with(NUMBER_1))
         bench.seat()
-        self.assertEqual(station.serves(SCAN_2), passed(NUMBER_2, 2))
+        self.assertEqual(station.serves(SCAN_2), passed(NAME_2, 2))
         # By intent.
         station.serves("again")
-        self.assertEqual(station.serves("1A2D"), passed("0000000000001A2D", 3))
+        self.assertEqual(station.serves("1A2D"), passed("1A2D", 3))
         self.assertEqual(station.end(), 0)
 
     def test_a_scan_while_work_is_on(self):
@@ -116,7 +117,7 @@ class StationTest(BenchTest):
         station.scan(SCAN_1, SCAN_1)
         wait_for(lambda: any("order 1" in line for line in station.lines))
         station.scan(SCAN_2)
-        self.assertEqual(station.asked(), passed(NUMBER_1, 1))
+        self.assertEqual(station.asked(), passed(NAME_1, 1))
         self.assertEqual(station.end(), 0)
         self.assertEqual(station.lines.count(NOT_TAKEN), 2)
         self.assertEqual(len(bench.states()), 1)
@@ -140,20 +141,19 @@ class StationTest(BenchTest):
         (self.folder / "bus1" / "unplugged").unlink()
         bench.seat()
         # What was refused or failed may be scanned again.
-        self.assertEqual(station.serves(SCAN_1), passed(NUMBER_1, 3))
+        self.assertEqual(station.serves(SCAN_1), passed(NAME_1, 3))
         self.assertEqual(station.end(), 0)
         self.assertEqual(bench.labels_left(), [NUMBER_1])
 
     def test_a_luminaire_in_doubt_and_one_left_open(self):
         bench = self.bench()
-        fixed = [bench.station_words()[0], str(ADAPTER), "--folder", "bus1", "--fixed", "5:14"]
-        station = bench.station(adapter=fixed[1:])
+        words = [str(ADAPTER), "--folder", "bus1"]
+        station = bench.station(adapter=[*words, "--fixed", "5:14"])
         station.asked()
         self.assertEqual(station.serves(SCAN_1), "FAIL: Order 1: kept 4 Doubt. It may be written in part. See to its power"
                          " and its wire, then scan it again. If it fails again, take it out.")
         self.assertEqual(station.end(), 0)
-        lost = [*fixed[1:4][:3], "--lose-frame", ",".join(map(str, range(60, 900)))]
-        station = bench.station(adapter=lost)
+        station = bench.station(adapter=[*words, "--lose-frame", ",".join(map(str, range(60, 900)))])
         station.asked()
         self.assertEqual(station.serves(SCAN_1), "FAIL: Order 2: kept 5 DoubtOpen. Leave it in: it may be written in part,"
                          " and still be open. See to its power and its wire, then scan it again.")
@@ -161,20 +161,17 @@ class StationTest(BenchTest):
         # It has its power, and the same one is written: no frame but a drive's comes before.
         station = bench.station()
         self.assertEqual(station.asked(), FIRST)
-        self.assertEqual(station.serves(SCAN_1), passed(NUMBER_1, 3))
+        self.assertEqual(station.serves(SCAN_1), passed(NAME_1, 3))
         self.assertEqual(station.end(), 0)
         self.assertEqual(bench.seated(), bank_with(NUMBER_1))
 
     def test_a_luminaire_that_is_not_the_same(self):
         """Its bank is exchanged between the end of its order and `verify`."""
         bench = self.bench()
-        station = bench.station(crash=("commit", "1000", "before"))
-        station.asked()
         script = self.folder / "exchanging"
         script.write_text(f"#!/bin/sh\ncase \" $* \" in *\" verify \"*) echo '{BLANK.hex()}' >bus1/unit_5.hex;; esac\n"
                           f"exec {ADAPTER} --folder bus1 \"$@\"\n")
         script.chmod(0o755)
-        station.end()
         station = bench.station(adapter=[str(script)])
         station.asked()
         self.assertEqual(station.serves(SCAN_1), "FAIL: Order 1 was written, and its luminaire isn't the same: other 03"
@@ -183,7 +180,7 @@ class StationTest(BenchTest):
         self.assertEqual(bench.labels_left(), [])
         station = bench.station()
         station.asked()
-        self.assertEqual(station.serves(SCAN_1), passed(NUMBER_1, 2))
+        self.assertEqual(station.serves(SCAN_1), passed(NAME_1, 2))
         self.assertEqual(station.end(), 0)
 
     def test_a_luminaire_that_is_silent_when_it_is_verified(self):
@@ -198,18 +195,15 @@ class StationTest(BenchTest):
         silent = ("FAIL: Order 1 is written, and its luminaire doesn't answer now. Leave it in. See to its power and its"
                   f" wire, then scan it once more. {gone}")
         self.assertEqual(station.serves(SCAN_1), silent)
-        self.assertEqual(station.serves(SCAN_2), f"FAIL: {NUMBER_2} isn't taken: order 1 isn't finished. "
-                         + STAYS.format(name=NUMBER_1))
+        self.assertEqual(station.serves(SCAN_2), f"FAIL: {NAME_2} isn't taken: order 1 isn't finished. "
+                         + STAYS.format(name=NAME_1))
         self.assertEqual(station.serves(SCAN_1), silent)
         self.assertEqual(station.end(), 0)
         station = bench.station()
-        self.assertEqual(station.asked(), stopped(NUMBER_1, 1))
-        self.assertEqual(station.serves(SCAN_1), passed(NUMBER_1, 1))
+        self.assertEqual(station.asked(), stopped(NAME_1, 1))
+        self.assertEqual(station.serves(SCAN_1), passed(NAME_1, 1))
         self.assertEqual(station.end(), 0)
         self.assertEqual(len(bench.states()), 1)
-
-
-ADAPTER = StationBench.station_words.__globals__["ADAPTER"].parent.parent / "adapters" / "simulated_link.py"
 
 
 class StopTest(BenchTest):
@@ -224,21 +218,16 @@ class StopTest(BenchTest):
 
     def test_a_stop_before_the_order_is_begun(self):
         bench = self.bench()
-        station = bench.station(crash=("write", "99", "before"))
+        # Four lines are shown, and the fifth is that of the order.
+        station = bench.station(crash=("write", "5", "before"))
         station.asked()
-        station.scan(SCAN_1)
-        wait_for(lambda: bench.states())
-        station.process.send_signal(signal.SIGKILL)
-        station.process.wait()
+        self.assertEqual(station.serves(SCAN_1), None)
+        self.assertEqual(bench.states(), {1: "sent"})
         station = bench.station()
-        said = station.asked()
-        if "cancelled" in said:
-            self.assertEqual(said, "SCAN: Order 1 wasn't begun when the station was stopped, and is cancelled. Put a"
-                             " luminaire in, then scan it.")
-            self.assertEqual(station.serves(SCAN_1), passed(NUMBER_1, 2))
-        else:
-            self.assertEqual(said, stopped(NUMBER_1, 1))
-            self.assertEqual(station.serves(SCAN_1), passed(NUMBER_1, 1))
+        self.assertEqual(station.asked(), "SCAN: Order 1 wasn't begun when the station was stopped, and is cancelled. Put a"
+                         " luminaire in, then scan it.")
+        self.assertEqual(bench.states(), {1: "cancelled"})
+        self.assertEqual(station.serves(SCAN_1), passed(NAME_1, 2))
         self.assertEqual(station.end(), 0)
 
     def stopped_amid(self, bench, number=signal.SIGKILL):
@@ -260,15 +249,15 @@ class StopTest(BenchTest):
             bench = self.bench()
             self.assertEqual(self.stopped_amid(bench, number), status)
             station = bench.station()
-            self.assertEqual(station.asked(), stopped(NUMBER_1, 1))
+            self.assertEqual(station.asked(), stopped(NAME_1, 1))
             before = bench.seated()
             # Another one that stands there now is not written.
             bench.seat()
-            self.assertEqual(station.serves(SCAN_2), f"FAIL: {NUMBER_2} isn't taken: order 1 isn't finished. "
-                             + STAYS.format(name=NUMBER_1))
+            self.assertEqual(station.serves(SCAN_2), f"FAIL: {NAME_2} isn't taken: order 1 isn't finished. "
+                             + STAYS.format(name=NAME_1))
             self.assertEqual(bench.seated(), BLANK)
             bench.seat(before)
-            self.assertEqual(station.serves(SCAN_1), passed(NUMBER_1, 1))
+            self.assertEqual(station.serves(SCAN_1), passed(NAME_1, 1))
             self.assertEqual(station.end(), 0)
             self.assertEqual((bench.seated(), bench.labels_left()), (bank_with(NUMBER_1), [NUMBER_1]))
             self.folder = folder
@@ -283,7 +272,7 @@ class StopTest(BenchTest):
                          " then scan it.")
         bench.seat()
         # Its number may be another one's: it has no label.
-        self.assertEqual(station.serves(SCAN_1), passed(NUMBER_1, 2))
+        self.assertEqual(station.serves(SCAN_1), passed(NAME_1, 2))
         self.assertEqual(station.serves("gone"), "SCAN: There is no order to give up. Put the next luminaire in, then"
                          " scan it.")
         self.assertEqual(station.end(), 0)
@@ -329,7 +318,7 @@ class StopTest(BenchTest):
         self.assertEqual(station.serves(SCAN_1), "FAIL: Order 1 of the bus stands for no scan. `cancel` it, or end the"
                          " station and have `run` carry it out. Then scan again.")
         self.assertEqual(bench.does("cancel", "1"), ["order 1 cancelled"])
-        self.assertEqual(station.serves(SCAN_1), passed(NUMBER_1, 2))
+        self.assertEqual(station.serves(SCAN_1), passed(NAME_1, 2))
         # Its bus has one process.
         second = subprocess.run(bench.station_words(), cwd=self.folder, capture_output=True, text=True, check=False,
                                 stdin=subprocess.DEVNULL)
@@ -337,7 +326,7 @@ class StopTest(BenchTest):
                          (1, "error: the bus bus1 has another process: only one `run` of a bus may be at work\n"))
         self.assertEqual(bench.does("retire", "--bus", "bus1"), ["retired bench_1.journal"])
         bench.seat()
-        self.assertEqual(station.serves(SCAN_2), passed(NUMBER_2, 3))
+        self.assertEqual(station.serves(SCAN_2), passed(NAME_2, 3))
         self.assertEqual(station.end(), 0)
 
     def test_a_store_that_is_gone_for_a_while(self):
@@ -349,7 +338,7 @@ class StopTest(BenchTest):
         wait_for(lambda: any("the store can't be used" in line for line in station.lines))
         os.rename(self.folder / "away.db", bench.store)
         self.assertEqual(station.asked(), FIRST)
-        self.assertEqual(station.serves(SCAN_1), passed(NUMBER_1, 1))
+        self.assertEqual(station.serves(SCAN_1), passed(NAME_1, 1))
         self.assertEqual(station.end(), 0)
 
 
@@ -378,7 +367,7 @@ class PlacesTest(BenchTest):
                " Leave the luminaire in.")
         self.assertEqual(station.serves(SCAN_1), jam)
         (self.folder / "jam").unlink()
-        self.assertEqual(station.asked(), f"PASS: {NUMBER_1}. The label of order 1 is out: put it on. {NEXT}")
+        self.assertEqual(station.asked(), f"PASS: {NAME_1}. The label of order 1 is out: put it on. {NEXT}")
         label = json.loads((self.folder / "labels").read_text())
         self.assertEqual((label["order"], label["identification"], label["gtin"]), (1, NUMBER_1, "4006381333931"))
         bench.seat()
@@ -408,7 +397,7 @@ class PlacesTest(BenchTest):
             thread.start()
             station = bench.station("bus1", "--printer", f"127.0.0.1:{printer.getsockname()[1]}")
             station.asked()
-            self.assertEqual(station.serves(SCAN_1), f"PASS: {NUMBER_1}. The label of order 1 is out: put it on. {NEXT}")
+            self.assertEqual(station.serves(SCAN_1), f"PASS: {NAME_1}. The label of order 1 is out: put it on. {NEXT}")
             thread.join(20)
         self.assertEqual(json.loads(taken[0])["identification"], NUMBER_1)
         self.assertEqual(station.end(), 0)
@@ -443,13 +432,13 @@ class PlacesTest(BenchTest):
         new = [str(ADAPTER), "--folder", "bus1", "--new", "1"]
         station = bench.station("bus1", "--address", adapter=new)
         station.asked()
-        for number, name in ((1, NUMBER_1), (2, NUMBER_2)):
+        for number, name in ((1, NAME_1), (2, NAME_2)):
             said = station.serves(name)
             assert re.fullmatch(f"PASS: {name}. The label of order {number} is in the store: `labels --take` prints it."
                                 " Take the luminaire out in (2[0-9]|30) s: then it has stored its short address. Put the"
                                 " next luminaire in, then scan it.", said), said
             path = self.folder / "bus1" / "new_1.hex"
-            self.assertEqual(bytes.fromhex(path.read_text()), bank_with(name))
+            self.assertEqual(bytes.fromhex(path.read_text()), bank_with(name.zfill(16)))
             assert re.match("new_1 (short )?5 ", (self.folder / "bus1" / "addresses.txt").read_text())
             path.unlink()
             (self.folder / "bus1" / "addresses.txt").unlink()
@@ -459,7 +448,7 @@ class PlacesTest(BenchTest):
                        cwd=self.folder, check=True, capture_output=True)
         station = bench.station("bus1", "--address", adapter=new)
         station.asked()
-        self.assertEqual(station.serves("1A2D"), passed("0000000000001A2D", 3))
+        self.assertEqual(station.serves("1A2D"), passed("1A2D", 3))
         self.assertEqual(station.end(), 0)
         # Two new ones at once: which one would get it?
         for name in ("new_1.hex", "addresses.txt"):
@@ -506,8 +495,8 @@ class PageOfStationTest(BenchTest):
         self.assertEqual(station.asked(), FIRST)
         assert "SCAN Put a luminaire in, then scan it." in text_of(self.page.get("/state"))
         self.assertEqual(self.told(SCAN_1), (303, None))
-        self.assertEqual(station.asked(), passed(NUMBER_1, 1))
-        assert f"PASS {NUMBER_1}." in text_of(self.page.get("/state"))
+        self.assertEqual(station.asked(), passed(NAME_1, 1))
+        assert f"PASS {NAME_1}." in text_of(self.page.get("/state"))
         self.assertEqual(self.told(""), (409, "The field was empty. Scan again."))
         self.bench.seat()
         self.bench.pace = 5
@@ -523,7 +512,7 @@ class PageOfStationTest(BenchTest):
         wait_for(lambda: "order 1" in text_of(self.page.get("/state")))
         assert "Leave the luminaire in" in text_of(self.page.get("/state"))
         self.assertEqual(self.told(SCAN_2), (409, NOT_TAKEN.replace("'", "&#x27;")))
-        self.assertEqual(station.asked(), passed(NUMBER_1, 1))
+        self.assertEqual(station.asked(), passed(NAME_1, 1))
         self.assertEqual((station.end(), len(self.bench.states())), (0, 1))
 
     def test_a_station_that_was_killed(self):
@@ -564,7 +553,7 @@ class PageOfStationTest(BenchTest):
         assert "<script" not in text and "&lt;script&gt;" in text, text
         # By the other names of this computer too.
         self.assertEqual(self.told(SCAN_1, Host=f"localhost:{port}", Origin=f"http://localhost:{port}"), (303, None))
-        self.assertEqual(station.asked(), passed(NUMBER_1, 1))
+        self.assertEqual(station.asked(), passed(NAME_1, 1))
         self.assertEqual(station.end(), 0)
 
     def test_what_the_page_is(self):

@@ -19,8 +19,8 @@ from .program import Program
 from .template import key_of
 
 VERIFIED = "line_computer.verify"  # the file in the folder of a bus that has the order which is verified
-PATIENCE = 600  # seconds behind which a command over the adapter is ended
-STEP = 0.2  # seconds between two looks whether the station is to end
+PATIENCE = 600  # seconds after which a command over the adapter is ended
+STEP = 0.2  # seconds between two looks whether it goes on
 THERE = re.compile("unit [0-9]+ last [0-9A-F]{2}(?: gtin (.*) identification (.*))?")
 FOUND = re.compile("order [0-9]+ unit [0-9]+ (same|other [0-9A-F]{2} [0-9A-F]{2}|short|format|silent)")
 GIVEN = re.compile("given 1 missing 0 shared 0")
@@ -42,9 +42,9 @@ class Ended(NamedTuple):
 class Luminaire:
     """The luminaire at a unit of a bus."""
 
-    def __init__(self, folder: pathlib.Path, adapter: list[str], program: Program, is_wanted: Callable[[], bool]):
-        """Take how it is reached, and what tells whether it is still to be."""
-        self.folder, self.adapter, self.program, self.is_wanted = folder, adapter, program, is_wanted
+    def __init__(self, folder: pathlib.Path, adapter: list[str], program: Program, goes_on: Callable[[], bool]):
+        """Take how it is reached, and what is called while a command goes on; that tells whether it is to."""
+        self.folder, self.adapter, self.program, self.goes_on = folder, adapter, program, goes_on
 
     def keys(self, unit: int) -> Optional[list[str]]:
         """Give what tells the luminaire at a unit from each other one, where its bank says that; None where none is."""
@@ -86,7 +86,7 @@ class Luminaire:
             raise Failed(f"the adapter can't be started: {why(fault)}") from fault
         last = time.monotonic() + PATIENCE
         try:
-            while self.is_wanted() and time.monotonic() < last:
+            while self.goes_on() and time.monotonic() < last:
                 with contextlib.suppress(subprocess.TimeoutExpired):
                     told = process.communicate(timeout=STEP)[1]
                     return Ended(process.returncode, told.decode("ascii", "replace").splitlines())

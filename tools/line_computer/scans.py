@@ -8,7 +8,7 @@ from typing import NamedTuple, Optional
 from .faults import Refused, plain
 
 MOST = 200  # characters of a scan
-SEPARATOR = "\x1d"  # the FNC1 behind an element string of variable length, as a scanner sends it
+SEPARATOR = "\x1d"  # the FNC1 after an element string of variable length, as a scanner sends it
 SYMBOLOGIES = ("]d2", "]C1", "]Q3")  # GS1 DataMatrix, GS1-128, GS1 QR Code
 GTIN, SERIAL = "01", "21"  # application identifiers
 # The element strings of predefined length: how long each is with its application identifier, by the first two digits.
@@ -52,7 +52,7 @@ def read(line: str) -> Scan:
 
 
 def elements(text: str) -> list[tuple[str, str]]:
-    """Part element strings: each with the first two digits of its application identifier, and what stands behind."""
+    """Part element strings: each with the first two digits of its application identifier, and its data."""
     found, at = [], 0
     while at < len(text):
         if text[at] == SEPARATOR:

@@ -28,7 +28,7 @@ SEEN = 2  # seconds between two tellings that the station is there
 FRAME = 0.041  # seconds that a frame takes with its answer, as a rule
 SCANNING, ADDRESSING, VERIFYING = 30, 120, 40  # frames, as a rule
 PRINTING = 3  # seconds until a label that isn't out is tried again
-STORED = 30  # seconds behind which a unit has stored its short address for sure
+STORED = 30  # seconds after which a unit has stored its short address for sure
 DOUBT_OPEN = 5
 NEXT = "Put the next luminaire in, then scan it."
 STAY = "Leave the luminaire in, and don't scan."
@@ -68,7 +68,7 @@ class Station:
         """Take the bus, whose store is open and locked."""
         self.bus, self.choices, self.screen = bus, choices, Screen()
         self.template = choices.template
-        self.luminaire = Luminaire(bus.folder, bus.adapter, bus.program, lambda: not bus.is_ended)
+        self.luminaire = Luminaire(bus.folder, bus.adapter, bus.program, self._goes_on)
         self.scanner = Scanner(self._refuse_line)
         self.is_again, self.is_idle, self.hand = choices.is_again, False, None
         self.given_at: Optional[float] = None  # when the luminaire got its short address
@@ -127,6 +127,11 @@ class Station:
         if time.monotonic() - self.said_at > SEEN:
             stations.say(self.database, self.bus.bus)
             self.said_at = time.monotonic()
+
+    def _goes_on(self) -> bool:
+        """Show how far the work is; tell whether it goes on."""
+        self._watch()
+        return not self.bus.is_ended
 
     def _refuse_line(self) -> None:
         """Tell that a line of the scanner isn't taken."""

@@ -19,7 +19,7 @@ SCANS = "bench_scans join bench_orders on bench_orders.number = bench_scans.numb
 NOT_TAKEN = "The scan wasn't taken: the station was at work. Scan again once it asks for it."
 TAKEN = "taken"
 # A station that hasn't said so long that it is there has no process.
-SILENT = 10
+SILENT = 40
 
 
 class AtHand(NamedTuple):

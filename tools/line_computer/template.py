@@ -22,7 +22,7 @@ class Wanted(NamedTuple):
 
     item: Item
     key: str
-    name: str  # by which a person knows it
+    name: str  # by which a person knows it: the number as it was scanned
 
 
 class Template(NamedTuple):
@@ -42,11 +42,11 @@ class Template(NamedTuple):
         order = {**self.keys, **moment(self.keys, datetime.date.today())}
         if self.takes("gtin"):
             order["gtin"] = gtin
+        name = scan.serial or scan.text
         if identification is None:
-            name = scan.serial or scan.text
             return Wanted(self.item(order), f"scan {scan.gtin or '-'} {name}", name)
         order["identification"] = identification
-        return Wanted(self.item(order), key_of(order.get("gtin"), identification), identification)
+        return Wanted(self.item(order), key_of(order.get("gtin"), identification), name)
 
     def item(self, order: dict) -> Item:
         """Give an order as it is added, which `check` has accepted."""

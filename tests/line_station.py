@@ -211,8 +211,8 @@ class Person:
                 assert byte in (0xFF, own[at]), f"{it.serial} has {byte:02X} of another one: {it.bank.hex()}"
             if it.is_labelled:
                 want((it.serial, it.bank.hex()), (it.serial, bank_with(it.serial).hex()))
-        rows = self.bench.rows("select bench_orders.number, code, found, name, latest from bench_scans join bench_orders"
-                               " on bench_orders.number = bench_scans.number order by bench_orders.number")
+        rows = self.bench.rows("select bench_orders.number, code, found, name, latest from bench_scans join"
+                               " bench_orders on bench_orders.number = bench_scans.number order by bench_orders.number")
         labels = [number for number, in self.bench.rows("select number from bench_labels order by number")]
         want(labels, [number for number, _, found, _, _ in rows if found == "same"])
         named = {number: name for number, _, _, name, _ in rows}

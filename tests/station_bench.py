@@ -45,8 +45,8 @@ class StationBench(Bench):
     def station_words(self, bus="bus1", *options, adapter=None, crash=()):
         """Give the words of a station."""
         adapter = adapter or [ADAPTER, bus, str(self.loss), str(self.seed), str(self.pace)]
-        return self.words("station", "--bus", bus, "--longest-wait", "0.2", "--template", "template.json", *options, "--",
-                          *adapter, crash=crash)
+        return self.words("station", "--bus", bus, "--longest-wait", "0.2", "--template", "template.json", *options,
+                          "--", *adapter, crash=crash)
 
     def station(self, bus="bus1", *options, adapter=None, crash=()):
         """Start a station."""
@@ -79,8 +79,8 @@ class Terminal:
 
     def __init__(self, words, folder, log):
         with open(log, "ab") as told:
-            self.process = subprocess.Popen(words, cwd=folder, stdin=subprocess.PIPE, stdout=subprocess.PIPE, stderr=told,
-                                            bufsize=0)
+            self.process = subprocess.Popen(words, cwd=folder, stdin=subprocess.PIPE, stdout=subprocess.PIPE,
+                                            stderr=told, bufsize=0)
         self.lines, self.at = [], 0
         self.thread = threading.Thread(target=self._read, daemon=True)
         self.thread.start()

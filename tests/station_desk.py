@@ -13,7 +13,7 @@ import threading
 import time
 import urllib.parse
 
-from base import BenchTest, want
+from base import BenchTest, settings, want
 from line_bench import ADAPTER, SHORT_BANK, Server, wait_for
 from line_look import Page, text_of
 from station_bench import BLANK, FIRST, GTIN, LOOKING, NEXT, NOT_TAKEN, StationBench, bank_with
@@ -127,8 +127,8 @@ class StationTest(BenchTest):
         station = bench.station()
         station.asked()
         bench.seat(None)
-        self.assertEqual(station.serves(SCAN_1), "FAIL: No luminaire answers at the short address 5. See to its power and"
-                         " its wire, then scan it again.")
+        self.assertEqual(station.serves(SCAN_1), "FAIL: No luminaire answers at the short address 5. See to its power"
+                         " and its wire, then scan it again.")
         bench.seat(SHORT_BANK)
         self.assertEqual(station.serves(SCAN_1), "FAIL: Order 1: kept 1 Short. Its memory bank 1 is too short for the"
                          " template: take it out, it doesn't suit.")
@@ -136,8 +136,8 @@ class StationTest(BenchTest):
         self.assertEqual(station.serves(SCAN_1), "FAIL: Order 2: kept 2 Format. Its memory bank 1 has another content"
                          " format: take it out, it doesn't suit.")
         (self.folder / "bus1" / "unplugged").touch()
-        self.assertEqual(station.serves(SCAN_1), "FAIL: error: the interface is gone; drive fault 4 End. See to that, then"
-                         " scan again.")
+        self.assertEqual(station.serves(SCAN_1), "FAIL: error: the interface is gone; drive fault 4 End. See to that,"
+                         " then scan again.")
         (self.folder / "bus1" / "unplugged").unlink()
         bench.seat()
         # What was refused or failed may be scanned again.
@@ -150,13 +150,13 @@ class StationTest(BenchTest):
         words = [str(ADAPTER), "--folder", "bus1"]
         station = bench.station(adapter=[*words, "--fixed", "5:14"])
         station.asked()
-        self.assertEqual(station.serves(SCAN_1), "FAIL: Order 1: kept 4 Doubt. It may be written in part. See to its power"
-                         " and its wire, then scan it again. If it fails again, take it out.")
+        self.assertEqual(station.serves(SCAN_1), "FAIL: Order 1: kept 4 Doubt. It may be written in part. See to its"
+                         " power and its wire, then scan it again. If it fails again, take it out.")
         self.assertEqual(station.end(), 0)
         station = bench.station(adapter=[*words, "--lose-frame", ",".join(map(str, range(60, 900)))])
         station.asked()
-        self.assertEqual(station.serves(SCAN_1), "FAIL: Order 2: kept 5 DoubtOpen. Leave it in: it may be written in part,"
-                         " and still be open. See to its power and its wire, then scan it again.")
+        self.assertEqual(station.serves(SCAN_1), "FAIL: Order 2: kept 5 DoubtOpen. Leave it in: it may be written in"
+                         " part, and still be open. See to its power and its wire, then scan it again.")
         self.assertEqual(station.end(), 0)
         # It has its power, and the same one is written: no frame but a drive's comes before.
         station = bench.station()
@@ -192,8 +192,8 @@ class StationTest(BenchTest):
         station = bench.station(adapter=[str(script)])
         station.asked()
         gone = "If it is gone for good, take out what stands there, and type: gone"
-        silent = ("FAIL: Order 1 is written, and its luminaire doesn't answer now. Leave it in. See to its power and its"
-                  f" wire, then scan it once more. {gone}")
+        silent = ("FAIL: Order 1 is written, and its luminaire doesn't answer now. Leave it in. See to its power and"
+                  f" its wire, then scan it once more. {gone}")
         self.assertEqual(station.serves(SCAN_1), silent)
         self.assertEqual(station.serves(SCAN_2), f"FAIL: {NAME_2} isn't taken: order 1 isn't finished. "
                          + STAYS.format(name=NAME_1))
@@ -224,8 +224,8 @@ class StopTest(BenchTest):
         self.assertEqual(station.serves(SCAN_1), None)
         self.assertEqual(bench.states(), {1: "sent"})
         station = bench.station()
-        self.assertEqual(station.asked(), "SCAN: Order 1 wasn't begun when the station was stopped, and is cancelled. Put a"
-                         " luminaire in, then scan it.")
+        self.assertEqual(station.asked(), "SCAN: Order 1 wasn't begun when the station was stopped, and is cancelled."
+                         " Put a luminaire in, then scan it.")
         self.assertEqual(bench.states(), {1: "cancelled"})
         self.assertEqual(station.serves(SCAN_1), passed(NAME_1, 2))
         self.assertEqual(station.end(), 0)
@@ -268,8 +268,8 @@ class StopTest(BenchTest):
         station = bench.station()
         station.asked()
         bench.seat(None)
-        self.assertEqual(station.serves("gone"), "SCAN: Order 1 is given up, and gets no label. Put the next luminaire in,"
-                         " then scan it.")
+        self.assertEqual(station.serves("gone"), "SCAN: Order 1 is given up, and gets no label. Put the next luminaire"
+                         " in, then scan it.")
         bench.seat()
         # Its number may be another one's: it has no label.
         self.assertEqual(station.serves(SCAN_1), passed(NAME_1, 2))
@@ -279,7 +279,7 @@ class StopTest(BenchTest):
         self.assertEqual((bench.seated(), bench.labels_left()), (bank_with(NUMBER_1), [NUMBER_1]))
 
     def test_a_stop_at_each_commit(self):
-        """Each time the person scans once more, or again; the luminaire has its numbers and one label, whatever comes."""
+        """Each time the person scans once more; the luminaire has its numbers and one label, whatever comes."""
         bench = self.bench()
         bench.pace, number, stops = 0, 1, 0
         while True:
@@ -435,8 +435,8 @@ class PlacesTest(BenchTest):
         for number, name in ((1, NAME_1), (2, NAME_2)):
             said = station.serves(name)
             assert re.fullmatch(f"PASS: {name}. The label of order {number} is in the store: `labels --take` prints it."
-                                " Take the luminaire out in (2[0-9]|30) s: then it has stored its short address. Put the"
-                                " next luminaire in, then scan it.", said), said
+                                " Take the luminaire out in (2[0-9]|30) s: then it has stored its short address. Put"
+                                " the next luminaire in, then scan it.", said), said
             path = self.folder / "bus1" / "new_1.hex"
             self.assertEqual(bytes.fromhex(path.read_text()), bank_with(name.zfill(16)))
             assert re.match("new_1 (short )?5 ", (self.folder / "bus1" / "addresses.txt").read_text())
@@ -444,8 +444,8 @@ class PlacesTest(BenchTest):
             (self.folder / "bus1" / "addresses.txt").unlink()
         # One that has its address already goes on with it: its order failed before.
         self.assertEqual(station.end(), 0)
-        subprocess.run([*new, "--", bench.station_words()[bench.station_words().index("--program") + 1], "address", "5"],
-                       cwd=self.folder, check=True, capture_output=True)
+        subprocess.run([*new, "--", settings["program"], "address", "5"], cwd=self.folder, check=True,
+                       capture_output=True)
         station = bench.station("bus1", "--address", adapter=new)
         station.asked()
         self.assertEqual(station.serves("1A2D"), passed("1A2D", 3))
@@ -475,7 +475,8 @@ class PageOfStationTest(BenchTest):
     def post(self, scan, path="/station", **headers):
         """Send what the field sends; give the status and the words of the answer."""
         host = self.page.host
-        given = {"Host": host, "Origin": f"http://{host}", "Content-Type": "application/x-www-form-urlencoded", **headers}
+        form = "application/x-www-form-urlencoded"
+        given = {"Host": host, "Origin": f"http://{host}", "Content-Type": form, **headers}
         connection = http.client.HTTPConnection(host, timeout=20)
         connection.request("POST", path, urllib.parse.urlencode({"scan": scan}),
                            {name: value for name, value in given.items() if value is not None})
@@ -534,8 +535,9 @@ class PageOfStationTest(BenchTest):
         host, port = self.page.host, self.page.host.split(":")[1]
         page, computer = "A scan is taken from this page alone.", "A scan is taken from this computer alone."
         names = f"A scan is taken at 127.0.0.1:{port} and localhost:{port} alone."
-        for headers, why in (({"Origin": None}, page), ({"Origin": "null"}, page), ({"Origin": "http://evil.example"}, page),
-                             ({"Origin": f"https://{host}"}, page), ({"Origin": "http://127.0.0.1:1"}, page),
+        for headers, why in (({"Origin": None}, page), ({"Origin": "null"}, page),
+                             ({"Origin": "http://evil.example"}, page), ({"Origin": f"https://{host}"}, page),
+                             ({"Origin": "http://127.0.0.1:1"}, page),
                              ({"Origin": f"http://localhost:{port}"}, page),
                              ({"Host": f"evil.example:{port}", "Origin": f"http://evil.example:{port}"}, names),
                              ({"Host": "127.0.0.1"}, names), ({"Host": ""}, names),
@@ -566,7 +568,8 @@ class PageOfStationTest(BenchTest):
             self.assertEqual((path, answer.status), (path, 200))
             assert all(it in text for it in words) and "<script" not in text, (path, text)
             policy = answer.getheader("Content-Security-Policy")
-            assert "default-src 'none'" in policy and "frame-ancestors 'self'" in policy and "script" not in policy, policy
+            for words in ("default-src 'none'", "frame-ancestors 'self'", "form-action 'self'"):
+                assert words in policy and "script" not in policy, policy
             connection.close()
         # The field's page is never loaded anew, or what is typed would be lost.
         assert "refresh" not in self.page.get("")

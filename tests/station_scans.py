@@ -113,10 +113,10 @@ NO_TEMPLATES = {
     "{": "the template is no JSON: FILE: Expecting property name enclosed in double quotes: line 1 column 2 (char 1)",
     "[]": "the template is an object with keys of an order, without its number: FILE",
     '{"order": 1, "unit": 5, "year": 24}': "the template is an object with keys of an order, without its number: FILE",
-    '{"unit": 5, "year": "scan"}': "the template is refused: FILE: item 1: year: the text \"scan\", and it is a whole number"
-                                   " from 0 to 99, or null",
-    '{"unit": 64, "year": "now"}': "the template is refused: FILE: item 1: unit: the number 64, and a short address is 0"
-                                   " to 63",
+    '{"unit": 5, "year": "scan"}': "the template is refused: FILE: item 1: year: the text \"scan\", and it is a whole"
+                                   " number from 0 to 99, or null",
+    '{"unit": 64, "year": "now"}': "the template is refused: FILE: item 1: unit: the number 64, and a short address is"
+                                   " 0 to 63",
     '{"unit": 5}': "the template is refused: FILE: item 1: it has no field that could be written",
 }
 

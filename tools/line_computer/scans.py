@@ -40,7 +40,8 @@ def read(line: str) -> Scan:
         raise Refused(f"a scan has 1 to {MOST} characters from space to tilde, and FNC1 as 1Dh")
     if text[0] == "]":
         if not text.startswith(SYMBOLOGIES):
-            raise Refused(f"the code's symbology identifier is {plain(text[:3])}, and GS1's are {', '.join(SYMBOLOGIES)}")
+            raise Refused(f"the code's symbology identifier is {plain(text[:3])}, and GS1's are"
+                          f" {', '.join(SYMBOLOGIES)}")
         return of_elements(text, elements(text[3:]))
     if BRACKETED.fullmatch(text):
         return of_elements(text, re.findall(r"\(([0-9]{2,4})\)([^()]+)", text))

@@ -100,8 +100,8 @@ update bench_orders set place = 1 + (
 ) where state = 'ended' and report is not null;
 update bench_orders set state = 'sent' where state = 'taken';
 """
-# Which luminaire the scan of a station was for, and what `verify` has found of it; what each station shows, and the scan
-# that the page has for it.
+# Which luminaire the scan of a station was for, and what `verify` has found of it; what each station shows, and the
+# scan that the page has for it.
 THIRD = """
 create table bench_scans (
     number bigint primary key references bench_orders,

@@ -248,7 +248,7 @@ class Station:
         self._show(Shown(WORK, (f"{name}.", f"{STAY} It takes some {seconds} s."), now() + seconds))
 
     def _look(self, unit: int) -> None:
-        """Make sure that the luminaire that stands there may be written. It gets its short address, if that is meant."""
+        """Make sure that the luminaire that stands there may be written. A new one gets its short address first."""
         if not self.is_idle:
             return  # a unit is left: no frames but those of the drive that closes it
         keys = self.luminaire.keys(unit)
@@ -266,8 +266,8 @@ class Station:
         try:
             self.luminaire.address(unit)
         except Refused as fault:
-            raise Fault(f"The luminaire got no short address: {fault}.",
-                        "See that just one luminaire is in, and to its power and its wire, then scan it again.") from fault
+            raise Fault(f"The luminaire got no short address: {fault}.", "See that just one luminaire is in, and to its"
+                        " power and its wire, then scan it again.") from fault
         self.given_at = time.monotonic()
 
     # Orders

@@ -85,7 +85,7 @@ def key_of(gtin: Optional[str], identification: str) -> str:
 
 
 def moment(keys: dict, today: datetime.date) -> dict:
-    """Give year and week for `now`: a week of ISO 8601 with the year that it belongs to, or else the calendar's year."""
+    """Give year and week for `now`: a week of ISO 8601 with its year, or without a week the calendar's year."""
     year, week, _ = today.isocalendar()
     if keys.get("week") != NOW:
         year = today.year

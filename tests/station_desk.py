@@ -223,6 +223,9 @@ class StopTest(BenchTest):
         station.asked()
         self.assertEqual(station.serves(SCAN_1), None)
         self.assertEqual(bench.states(), {1: "sent"})
+        # No other process of the bus takes it, for whatever stands there then.
+        self.assertEqual(bench.run(adapter=bench.station_words()[-5:]), 0)
+        self.assertEqual((bench.states(), bench.seated()), ({1: "sent"}, BLANK))
         station = bench.station()
         self.assertEqual(station.asked(), "SCAN: Order 1 wasn't begun when the station was stopped, and is cancelled."
                          " Put a luminaire in, then scan it.")
@@ -378,7 +381,8 @@ class PlacesTest(BenchTest):
         (self.folder / "jam").unlink()
         # It comes at the next start.
         station = bench.station("bus1", "--label-command", "sh -c 'cat >>labels'")
-        self.assertEqual(station.asked(), FIRST)
+        self.assertEqual(station.asked(), "SCAN: The label of 1A2C, order 2, is out now: put it on. Put a luminaire in,"
+                                          " then scan it.")
         numbers = [json.loads(line)["order"] for line in (self.folder / "labels").read_text().splitlines()]
         self.assertEqual((numbers, bench.does("labels")), ([1, 2], []))
         self.assertEqual(station.end(), 0)

@@ -18,6 +18,8 @@ STATES = ("added", *AT_WORK, "ended", "refused", "reused", "cancelled")
 SENT = f"state in {AT_WORK}"
 # Of those that have no end yet there is an index, which a query uses that says so with these words.
 LIVE = f"state in {('added', *AT_WORK)}"
+# An order that stands for the scan of a station is carried out there alone.
+OF_NO_SCAN = "not exists (select 1 from bench_scans where bench_scans.number = bench_orders.number)"
 
 FIRST = f"""
 create table bench_store (

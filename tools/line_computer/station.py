@@ -149,14 +149,16 @@ class Station:
         if hand and not hand.is_written():
             self.bus.cancel_unbegun(hand.order)
         self.hand, self.is_idle = stations.at_hand(database, bus), self.bus.stands_idle()
-        for number in stations.unprinted(database, bus) if self.choices.put else []:
+        out = stations.unprinted(database, bus) if self.choices.put else []
+        for number, _ in out:
             self._put(number)
+        lines = [f"The label of {name}, order {number}, is out now: put it on." for number, name in out]
         if self.hand:
-            return Shown(FAIL, (f"The station was stopped amid order {self.hand.order.number}.", *self._stays()))
+            lines.append(f"The station was stopped amid order {self.hand.order.number}.")
+            return Shown(FAIL, (*lines, *self._stays()))
         if hand:
-            return Shown(SCAN, (f"Order {hand.order.number} wasn't begun when the station was stopped, and is"
-                                " cancelled.", "Put a luminaire in, then scan it."))
-        return Shown(SCAN, ("Put a luminaire in, then scan it.",))
+            lines.append(f"Order {hand.order.number} wasn't begun when the station was stopped, and is cancelled.")
+        return Shown(SCAN, (*lines, "Put a luminaire in, then scan it."))
 
     def _stays(self) -> tuple:
         """Tell what to do while an order is at hand."""
@@ -299,6 +301,9 @@ class Station:
     def _carry_out(self, number: int) -> tuple[str, Optional[int]]:
         """Carry out an order to its end; give that in words, and its code."""
         self.bus.carry_out(number)
+        self.trouble = None
+        if self.bus.is_ended:
+            return "", None
         self.hand = stations.at_hand(self.database, self.bus.bus)
         state, code, told = self.database.rows(
             "select state, code, told from bench_orders where number = ?", number)[0]

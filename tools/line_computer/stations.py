@@ -9,7 +9,7 @@ from .database import Database
 from .faults import Refused
 from .luminaire import SAME
 from .orders import Order, now
-from .schema import LIVE
+from .schema import LIVE, OF_NO_SCAN
 from .template import Wanted
 
 GONE = "gone"  # found of an order whose luminaire a person has given up
@@ -44,8 +44,7 @@ def at_hand(database: Database, bus: str) -> Optional[AtHand]:
 def others(database: Database, bus: str) -> list[int]:
     """Give the orders of a bus that have no end and stand for no scan."""
     return [number for number, in database.rows(
-        f"select number from bench_orders where bus = ? and {LIVE} and number not in (select number from bench_scans)"
-        " order by number", bus)]
+        f"select number from bench_orders where bus = ? and {LIVE} and {OF_NO_SCAN} order by number", bus)]
 
 
 def want_unused(database: Database, wanted: Wanted, is_again: bool) -> None:
@@ -91,11 +90,11 @@ def settle(database: Database, number: int, found: str) -> None:
             database.change("insert into bench_labels (number, made) values (?, ?)", number, now())
 
 
-def unprinted(database: Database, bus: str) -> list[int]:
-    """Give the orders of a bus's station whose labels nobody has taken."""
-    return [number for number, in database.rows(
-        f"select bench_labels.number from bench_labels join {SCANS} on bench_orders.number = bench_labels.number where"
-        " bus = ? and taken is null order by bench_labels.number", bus)]
+def unprinted(database: Database, bus: str) -> list[tuple[int, str]]:
+    """Give the orders of a bus's station whose labels nobody has taken, and the names of their luminaires."""
+    return database.rows("select bench_labels.number, name from bench_labels join bench_scans on bench_scans.number ="
+                         " bench_labels.number join bench_orders on bench_orders.number = bench_labels.number where"
+                         " bus = ? and taken is null order by bench_labels.number", bus)
 
 
 # What a station shows

@@ -7,7 +7,7 @@ from typing import Optional
 
 from .database import Database
 from .orders import Order, now
-from .schema import LIVE, SENT
+from .schema import LIVE, OF_NO_SCAN, SENT
 from .told import REUSED, Ready, Reported, Told, Unaccepted
 
 
@@ -42,9 +42,9 @@ class Work:
         self.database, self.bus = database, bus
 
     def next_order(self) -> Optional[Order]:
-        """Give the first order that has no end yet."""
+        """Give the first order that has no end yet, without those of a station."""
         found = self.database.rows("select number, unit, fields, state, sent from bench_orders"
-                                   f" where bus = ? and {LIVE} order by number limit 1", self.bus)
+                                   f" where bus = ? and {LIVE} and {OF_NO_SCAN} order by number limit 1", self.bus)
         return Order(*found[0]) if found else None
 
     def order(self, number: int) -> Optional[Order]:
@@ -114,7 +114,7 @@ class Work:
             self.database.change("insert into bench_labels (number, made) values (?, ?)", it.number, now())
 
     def _is_of_station(self, number: int) -> bool:
-        """Tell whether an order stands for a scan: its label is made once its luminaire is verified."""
+        """Tell whether an order stands for a scan: then its label is made once its luminaire is verified."""
         return bool(self.database.rows("select 1 from bench_scans where number = ?", number))
 
     def say(self, state: BusState) -> None:

@@ -22,7 +22,7 @@ SCAN_1, SCAN_2 = f"(01){GTIN}(21)1A2B", f"(01){GTIN}(21)1A2C"
 NUMBER_1, NUMBER_2 = "0000000000001A2B", "0000000000001A2C"
 NAME_1, NAME_2 = "1A2B", "1A2C"
 STAYS = ("Leave its luminaire in, or put it back: {name}. Then scan it once more. If it is gone for good, take out what"
-         " stands there, and type: gone")
+         " stands there, and type the word GONE.")
 
 
 def passed(name, order):
@@ -78,7 +78,7 @@ class StationTest(BenchTest):
         self.assertEqual(station.serves(SCAN_1), passed(NAME_1, 1))
         bench.seat()
         used = (f"FAIL: {NAME_1} has its label already, by order 1. If it is this luminaire, it is done: take it out."
-                " To write another one with the same number, type again, and scan again.")
+                " To write another one with the same number, type the word AGAIN, then scan.")
         self.assertEqual(station.serves("1A2B"), used)
         self.assertEqual(bench.seated(), BLANK)
         self.assertEqual(station.serves("again"),
@@ -100,7 +100,7 @@ class StationTest(BenchTest):
         # The person forgets to put the next one in.
         self.assertEqual(station.serves(SCAN_2),
                          f"FAIL: The luminaire that stands there has its label: {NAME_1}, by order 1. Take it out, put"
-                         " the right one in, and scan again. To write it anew, type again first.")
+                         " the right one in, and scan again. To write it anew, type the word AGAIN, then scan.")
         self.assertEqual(bench.seated(), bank_with(NUMBER_1))
         bench.seat()
         self.assertEqual(station.serves(SCAN_2), passed(NAME_2, 2))
@@ -191,7 +191,7 @@ class StationTest(BenchTest):
         script.chmod(0o755)
         station = bench.station(adapter=[str(script)])
         station.asked()
-        gone = "If it is gone for good, take out what stands there, and type: gone"
+        gone = "If it is gone for good, take out what stands there, and type the word GONE."
         silent = ("FAIL: Order 1 is written, and its luminaire doesn't answer now. Leave it in. See to its power and"
                   f" its wire, then scan it once more. {gone}")
         self.assertEqual(station.serves(SCAN_1), silent)
@@ -276,7 +276,7 @@ class StopTest(BenchTest):
         bench.seat()
         # Its number may be another one's: it has no label.
         self.assertEqual(station.serves(SCAN_1), passed(NAME_1, 2))
-        self.assertEqual(station.serves("gone"), "SCAN: There is no order to give up. Put the next luminaire in, then"
+        self.assertEqual(station.serves("GONE"), "SCAN: There is no order to give up. Put the next luminaire in, then"
                          " scan it.")
         self.assertEqual(station.end(), 0)
         self.assertEqual((bench.seated(), bench.labels_left()), (bank_with(NUMBER_1), [NUMBER_1]))

@@ -23,7 +23,8 @@ from .stations import GONE, AtHand, Shown
 from .template import Template, Wanted
 from .work import BusState
 
-AGAIN = "again"
+# Words that a person types in place of a scan, in capitals or not.
+AGAIN, GIVE_UP = "AGAIN", "GONE"
 SEEN = 2  # seconds between two tellings that the station is there
 FRAME = 0.041  # seconds that a frame takes with its answer, as a rule
 SCANNING, ADDRESSING, VERIFYING = 30, 120, 40  # frames, as a rule
@@ -163,7 +164,7 @@ class Station:
     def _stays(self) -> tuple:
         """Tell what to do while an order is at hand."""
         return (f"Leave its luminaire in, or put it back: {self.hand.name}. Then scan it once more.",
-                f"If it is gone for good, take out what stands there, and type: {GONE}")
+                f"If it is gone for good, take out what stands there, and type the word {GIVE_UP}.")
 
     def _next_line(self) -> Optional[str]:
         """Wait for a line of the scanner, or a scan of the page; None where standard input has ended."""
@@ -191,10 +192,10 @@ class Station:
     def _answer(self, line: str) -> Shown:
         """Do what a line asks for; give what is to be shown for it."""
         try:
-            if line.strip() == AGAIN:
+            if line.strip().upper() == AGAIN:
                 self.is_again = True
                 return Shown(SCAN, ("The next scan is taken even if its luminaire has a label.", "Scan it now."))
-            if line.strip() == GONE:
+            if line.strip().upper() == GIVE_UP:
                 return self._give_up()
             try:
                 return self._serve(line)
@@ -242,7 +243,7 @@ class Station:
             stations.want_unused(self.database, wanted, self.is_again)
         except Refused as fault:
             raise Fault(f"{fault}.", "If it is this luminaire, it is done: take it out. To write another one with the"
-                        f" same number, type {AGAIN}, and scan again.") from fault
+                        f" same number, type the word {AGAIN}, then scan.") from fault
 
     def _show_work(self, name: str, frames: int) -> None:
         """Show that the station is at work, so many frames."""
@@ -261,7 +262,8 @@ class Station:
                         "See to its power and its wire, then scan it again.")
         elif (before := stations.labelled(self.database, keys)) and not self.is_again:
             raise Fault(f"The luminaire that stands there has its label: {before[1]}, by order {before[0]}.",
-                        f"Take it out, put the right one in, and scan again. To write it anew, type {AGAIN} first.")
+                        "Take it out, put the right one in, and scan again. To write it anew, type the word"
+                        f" {AGAIN}, then scan.")
 
     def _address(self, unit: int) -> None:
         """Give the luminaire its short address."""
@@ -286,7 +288,7 @@ class Station:
                 raise Fault(f"Order {number}: {told}.", REMEDIES.get(code, "Scan it again."))
         if not self.is_idle:
             raise Fault(f"Order {number} can't be verified: another one has left a unit open.",
-                        f"Type {GONE}, then scan again.")
+                        f"Type the word {GIVE_UP}, then scan again.")
         found = self.luminaire.verify(hand.order)
         if found == SILENT:
             raise Fault(f"Order {number} is written, and its luminaire doesn't answer now.",

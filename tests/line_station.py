@@ -52,6 +52,7 @@ class Person:
         self.counts, self.luminaires, self.station = collections.Counter(), [], None
         self.here = None  # the luminaire at the seat
         self.tries = 0  # scans of it
+        self.span, self.scanned_at = 1.0, None  # seconds from a scan to its label, and when the last scan was
 
     # The seat
 
@@ -116,6 +117,8 @@ class Person:
             self.see_to(hand[1] if hand else self.here.serial)
         elif said.startswith("PASS") or f"{self.here.serial} has its label already" in said:
             self.counts["labels that a kill had hidden"] += not said.startswith("PASS")
+            if said.startswith("PASS") and self.scanned_at:
+                self.span = time.monotonic() - self.scanned_at
             if not self.here.is_labelled:
                 self.with_label()
             if self.left > 0 and self.chance.random() < 0.15:
@@ -168,6 +171,8 @@ class Person:
             lines = [line, line]
         elif what == "next one at once":
             lines = [line, serial_of(len(self.luminaires))]
+        elif what == "again the last one" and self.luminaires[-2:][0].is_labelled:
+            lines = [self.luminaires[-2:][0].serial]
         self.counts[f"scanned {what}" if what else "scanned"] += 1
         is_killed = self.left > 0 and self.chance.random() < 0.75
         if is_killed and self.chance.random() < 0.1:
@@ -178,8 +183,9 @@ class Person:
         if what == "amid work":
             time.sleep(self.chance.uniform(0, 0.3))
             self.station.scan(line)
+        self.scanned_at = None if is_killed else time.monotonic()
         if is_killed:
-            time.sleep(self.chance.choice((0.2, 0.6, 1.5, 2.2)) * self.chance.random())
+            time.sleep(self.chance.uniform(0, 1.1 * self.span))
             self.kill()
 
     def kill(self):

@@ -101,6 +101,7 @@ class Station:
         """Serve scan after scan; tell whether standard input has ended."""
         shown = self._begin()
         while not self.bus.is_ended:
+            self.scanner.wait()
             self._show(shown, True)
             line = self._next_line()
             if line is None:
@@ -168,7 +169,6 @@ class Station:
 
     def _next_line(self) -> Optional[str]:
         """Wait for a line of the scanner, or a scan of the page; None where standard input has ended."""
-        self.scanner.wait()
         try:
             while not self.bus.is_ended:
                 line = self.scanner.take(IDLE) or stations.take_posted(self.database, self.bus.bus)

@@ -96,7 +96,7 @@ class Bench:
     def words(self, command, *words, crash=()):
         """Give the words of a command; with `crash` it is killed there, as tests/line_crash.py says."""
         starter = [CRASHING, *crash] if crash else [PROGRAM]
-        program = ["--program", settings["program"]] if command in ("add", "cancel", "run", "retire") else []
+        program = ["--program", settings["program"]] if command in ("add", "again", "cancel", "run", "retire") else []
         return [self.python, *starter, command, "--store", self.store, *program, *words]
 
     def give(self, command, *words, given=b"", crash=(), **options):

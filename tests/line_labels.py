@@ -37,7 +37,10 @@ WRONG = {
         "^XA^FH\\^FD{reference}^FS^XZ": "{reference} may have characters that ZPL takes for commands",
         "^XA^BCN,80^FH^FD{luminaire}^FS^XZ": "{luminaire} may have characters that a bar code takes for commands",
         "^XA^BXN,5,200,,,,_,1^FH^FD_1{gs1}^FS^XZ": "behind ^FH a _ begins two hexadecimal digits, and here it doesn't",
-        "^XA^FH^FD_{gtin}^FS^XZ": "behind ^FH a _ begins two hexadecimal digits"},
+        "^XA^FH^FD_{gtin}^FS^XZ": "behind ^FH a _ begins two hexadecimal digits",
+        "^XA^FH\n^FD{bus}^FS^XZ": "{bus} may have characters that ZPL takes for commands",
+        "~cc+^XA^FH^FD{bus}^FS^XZ": "it gives ZPL other characters than ^ and ~, and values are escaped for these",
+        "^XA^CT+^FH^FD{bus}^FS^XZ": "it gives ZPL other characters than ^ and ~"},
     "a.txt": {"{gtin} \n{Gtin} {week2}": "line 2: there is no {week2}: ", "{ gtin }": "it has no placeholder"},
     "a.prn": {"{gtin}": "its name has to end with .zpl, .txt, .json, .html, .svg, which says what is escaped"},
     "zpl": {"{gtin}": "its name has to end with .zpl"},
@@ -133,6 +136,12 @@ class TemplateTest(BenchTest):
         with Printer() as printer:
             bench.does("labels", "--take", "3", "--template", name, "--to", printer.place)
             self.assertEqual([field.text for field in printer.labels()[0]], [NASTY, f"^{NASTY}^{NASTY}"])
+
+    def test_a_template_of_a_designer(self):
+        """Its first line sets what is set already."""
+        bench = labelled(self.folder)
+        name = template(bench, "a.zpl", "CT~~CD,~CC^~CT~\n^XA^FD{gtin}^FS^XZ")
+        self.assertEqual(bench.does("labels", "--take", "1", "--template", name)[-1], "^XA^FD4006381333931^FS^XZ")
 
     def test_a_reference_of_another_program(self):
         bench = labelled(self.folder)

@@ -296,6 +296,7 @@ class ArchiveTest(BenchTest):
         added = (0, "item 1 order 1\nadded 1 known 0\n", "")
         self.assertEqual(run([top / "line_computer", "add", "--store", self.folder / "orders.db", orders], cwd="/"),
                          added)
+        self.assertEqual((top / "examples" / "label.zpl").read_bytes(), (ROOT / "examples" / "label.zpl").read_bytes())
 
     def test_archive_tells_a_limit_on_the_length_of_files(self):
         top = unpacked(self.folder)

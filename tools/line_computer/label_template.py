@@ -31,7 +31,9 @@ TEXTS, NO_BARS = ("bus", "reference", "colour", "luminaire"), ("bus", "colour", 
 END_OF_FIELD = re.compile(r"\^FS", re.IGNORECASE)
 DATA = re.compile(r"\^F[DV]", re.IGNORECASE)
 BAR_CODE = re.compile(r"\^B[0-9A-XZ]", re.IGNORECASE)
-HEXADECIMAL = re.compile(r"\^FH_?(?=\^|$)", re.IGNORECASE)
+HEXADECIMAL = re.compile(r"\^FH_?(?=\^|\Z)", re.IGNORECASE)
+# Other characters in the place of ^ and ~.
+CHANGED = re.compile(r"[\^~](?:CC[^^]|CT[^~])", re.IGNORECASE)
 NO_DIGITS = re.compile("_(?![0-9A-F]{2})", re.IGNORECASE)
 
 
@@ -45,6 +47,8 @@ def want_zpl(text: str) -> None:
     """Refuse what a printer would print wrongly, or not at all."""
     if not re.search(r"\^XA.*\^XZ\s*$", text, re.IGNORECASE | re.DOTALL):
         raise Refused("it has to begin a label with ^XA and to end it with ^XZ, or the printer prints nothing")
+    if CHANGED.search(text):
+        raise Refused("it gives ZPL other characters than ^ and ~, and values are escaped for these")
     for field in END_OF_FIELD.split(text):
         head, *data = DATA.split(field, maxsplit=1)
         outside = PLACEHOLDER.search(head)

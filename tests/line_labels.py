@@ -38,6 +38,8 @@ WRONG = {
         "^XA^BCN,80^FH^FD{luminaire}^FS^XZ": "{luminaire} may have characters that a bar code takes for commands",
         "^XA^BXN,5,200,,,,_,1^FH^FD_1{gs1}^FS^XZ": "behind ^FH a _ begins two hexadecimal digits, and here it doesn't",
         "^XA^FH^FD_{gtin}^FS^XZ": "behind ^FH a _ begins two hexadecimal digits",
+        "^XA^FD{gtin}^XZ": "the field has to end with ^FS before the next command: {gtin}^XZ",
+        "^XA^FH^FD{bus}^FO1,9^FD{bus}^FS^XZ": "the field has to end with ^FS before the next command",
         "^XA^FH\n^FD{bus}^FS^XZ": "{bus} may have characters that ZPL takes for commands",
         "~cc+^XA^FH^FD{bus}^FS^XZ": "it gives ZPL other characters than ^ and ~, and values are escaped for these",
         "^XA^CT+^FH^FD{bus}^FS^XZ": "it gives ZPL other characters than ^ and ~"},

@@ -12,14 +12,14 @@ from functools import partialmethod
 
 from base import BenchTest, want
 from line_bench import ABSENT, Bench, Server, processes_of, stop, wait_for
-from line_day import SLOW, TO_2, UNIT, add, change, exchange, identified, units
+from line_day import SLOW, TO_2, UNIT, add, change, identified, units
 from line_look import Page, text_of
 
 BERLIN = "CET-1CEST,M3.5.0,M10.5.0/3"
 HEADER = ("order,bus,reference,repeats,unit,state,end,told,plan,added,sent,ended,sends,frames,misses,gtin,"
           "identification,year,week,input_power,min_dim_power,min_voltage,max_voltage,light_output,cri,cct,"
           "distribution,colour,luminaire")
-# Orders by their numbers: bus, reference, repeats and its reference, state, code, told, the moment of the end: in Berlin
+# Orders by their numbers: bus, reference, repeats, its reference, state, code, told, the moment of the end: in Berlin
 # the last second of 29 November, the first of the 30th, those before and at 15:00, the last of the 30th.
 ROWS = {
     1: ("bus1", "70", None, None, "ended", 0, "kept 0 Done", 1764457199),

@@ -61,6 +61,8 @@ def want_zpl(text: str) -> None:
 def want_field(head: str, data: str) -> None:
     """Refuse a field whose data would come out as something else."""
     names, is_hexadecimal = PLACEHOLDER.findall(data), HEXADECIMAL.search(head)
+    if names and "^" in data:
+        raise Refused(f"the field has to end with ^FS before the next command: {data}")
     if names and is_hexadecimal and NO_DIGITS.search(PLACEHOLDER.sub("  ", data)):
         raise Refused(f"behind ^FH a _ begins two hexadecimal digits, and here it doesn't: {data}")
     for name in names:

@@ -59,6 +59,12 @@ TEXTS = {'=HYPERLINK("x")': "'=HYPERLINK(\"x\")", "+49": "'+49", "-1": "'-1", "@
          "Ü€": "Ü€", " =a": " =a"}
 
 
+# An order with all fields.
+FULL = {"gtin": "4006381333931", "identification": 16 * "B", "year": 24, "week": 9, "input_power": 1,
+        "min_dim_power": 1, "min_voltage": 1, "max_voltage": 1, "light_output": 1, "cri": 1, "cct": 3000,
+        "distribution": 0, "colour": "A", "luminaire": "B"}
+
+
 def quoted(value):
     """Spell a value for a statement."""
     return "null" if value is None else str(value) if isinstance(value, int) else "'" + value.replace("'", "''") + "'"
@@ -230,8 +236,8 @@ def run(bench, *options, adapter=None, crash=()):
 
 
 def plans(bench):
-    """Give the plan of each order, and how many frames it took."""
-    return bench.rows("select plan, frames from bench_orders order by number")
+    """Give the plan of each order, how many frames it took, and how many were expected."""
+    return bench.rows("select plan, frames, expected from bench_orders order by number")
 
 
 def the_short_plan(bench):
@@ -240,12 +246,19 @@ def the_short_plan(bench):
     for options in (), ("--short-plan",), ():
         want(add(bench, gtin).status, 0)
         want(run(bench, *options), 0)
-    want(plans(bench), [("checked", 112), ("short", 49), ("checked", 112)])
+    want(plans(bench), [("checked", 112, 112), ("short", 49, 49), ("checked", 112, 112)])
     want([row[6:9] for row in table(bench)[1:]], [["Done", "kept 0 Done", plan] for plan in
                                                   ("checked", "short", "checked")])
+    # A year; neighbours in one row and in several; three runs; all fields.
+    orders = [{"unit": UNIT, **order} for order in (
+        {"year": 24}, {"identification": 16 * "A", "gtin": "96385074"}, {"colour": "A"},
+        {"year": 24, "luminaire": "A"}, FULL)]
+    want(add(bench, *orders, options=["--same-luminaire"]).status, 0)
+    want(run(bench, "--short-plan"), 0)
+    want(plans(bench)[3:], [("short", frames, frames) for frames in (44, 81, 142, 309, 536)])
     want(add(bench, gtin).status, 0)
     want(bench.rows("select plan from bench_orders where state = 'added'"), [(None,)])
-    want(len(bench.does("labels")), 3)
+    want(len(bench.does("labels")), 8)
 
 
 def another_plan_goes_on(bench):

@@ -291,9 +291,11 @@ class BusProcess:
 
     def _bring(self, order: Order) -> None:
         """Send an order, the first time once `check` accepts it."""
+        expected = None
         if order.state == "added":
             try:
-                self.program.check([order.object()])
+                checked = self.program.check([order.object()])[0]
+                expected = checked.short_frames if self.plan == SHORT else checked.frames
             except Refused as fault:
                 self.work.refuse(order.number, plain(str(fault)))
                 return
@@ -301,7 +303,7 @@ class BusProcess:
                 self.tell(str(fault))
                 self.order_waits.begin()
                 return
-        order = self.work.send(order)
+        order = self.work.send(order, expected)
         if order is None:
             return
         self.order, self.unbegun_at = order, None

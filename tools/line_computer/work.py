@@ -49,17 +49,18 @@ class Work:
                                    f" where bus = ? and {LIVE} order by number limit 1", self.bus)
         return Order(*found[0]) if found else None
 
-    def send(self, order: Order) -> Optional[Order]:
+    def send(self, order: Order, expected: Optional[int] = None) -> Optional[Order]:
         """Keep that an order is about to be sent, before its line is written; None where it was cancelled just now.
 
         The moment of its first time is that of its submission for good: by it an end is told from that of an order
-        which a journal knew before. Its plan is that of the first drive, until another one has kept its end.
+        which a journal knew before. Its plan is that of the first drive, until another one has kept its end; so many
+        frames are expected of it, where that is known anew.
         """
         with self.database.transaction():
             is_sent = self.database.change(
                 "update bench_orders set state = case state when 'added' then 'sent' else state end, sends = sends + 1,"
-                f" sent = coalesce(sent, ?), plan = coalesce(plan, ?) where number = ? and {LIVE}", now(), self.plan,
-                order.number)
+                " sent = coalesce(sent, ?), plan = coalesce(plan, ?), expected = coalesce(?, expected)"
+                f" where number = ? and {LIVE}", now(), self.plan, expected, order.number)
             moment = self.database.rows("select sent from bench_orders where number = ?", order.number)[0][0]
         return order._replace(state="sent", sent=moment) if is_sent else None
 

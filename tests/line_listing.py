@@ -167,8 +167,8 @@ def an_order_again(bench):
     want(bench.give("again", "2").told,
          f"error: order 2 was repeated by order {number}, which has ended: kept 0 Done\n")
     want(bench.give("again", str(number)).told,
-         f"error: order {number} is done, so it isn't repeated: `labels --again {number}` prints its label once more;"
-         " for another luminaire add an order of its own\n")
+         f"error: order {number} is done, so it isn't repeated: if its label tore, `labels --again {number}` prints it"
+         " once more; for a luminaire without a label add an order of its own\n")
     want([json.loads(line)["reference"] for line in bench.does("labels")], ["70"])
     # The number stays that of the first one, where it comes from.
     want(add(bench, {"order": 70, "unit": ABSENT, "gtin": "96385074"}).lines(), ["item 1 order 1 known",

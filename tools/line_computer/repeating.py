@@ -35,8 +35,8 @@ class Tried(NamedTuple):
         if self.is_live:
             raise Refused(f"order {number} hasn't ended, so it isn't repeated: wait for its end, or cancel it")
         if self.code == 0:
-            raise Refused(f"order {number} is done, so it isn't repeated: `labels --again {number}` prints its label"
-                          " once more; for another luminaire add an order of its own")
+            raise Refused(f"order {number} is done, so it isn't repeated: if its label tore, `labels --again {number}`"
+                          " prints it once more; for a luminaire without a label add an order of its own")
         if repeat and not repeat.is_live:
             next_one = "" if repeat.code == 0 else f": `again {repeat.order.number}` repeats that one"
             raise Refused(f"order {number} was repeated by order {repeat.order.number}, which has ended:"

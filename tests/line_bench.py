@@ -96,7 +96,7 @@ class Bench:
     def words(self, command, *words, crash=()):
         """Give the words of a command; with `crash` it is killed there, as tests/line_crash.py says."""
         starter = [CRASHING, *crash] if crash else [PROGRAM]
-        is_asking = command in ("add", "cancel", "run", "retire", "station")
+        is_asking = command in ("add", "again", "cancel", "run", "retire", "station")
         program = ["--program", settings["program"]] if is_asking else []
         return [self.python, *starter, command, "--store", self.store, *program, *words]
 

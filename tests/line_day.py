@@ -363,17 +363,24 @@ def an_older_journal(bench):
     want(len(bench.does("labels")), 3)
 
 
+# What makes the tables of a version those of the one before.
+TO_2 = ("drop table bench_scans", "drop table bench_stations", "drop index bench_orders_repeats",
+        "drop index bench_orders_repeated_reference", "alter table bench_orders drop column plan",
+        "alter table bench_orders drop column repeats", "alter table bench_orders drop column repeated_reference",
+        "update bench_store set version = 2")
+TO_1 = ("drop table bench_withdrawals", "alter table bench_labels drop column printed",
+        "alter table bench_orders drop column place", "update bench_store set version = 1")
+
+
 def a_store_of_version_1(bench):
-    """A store as the line computer before this one has left it is brought up by `init`, and all of it goes on."""
+    """A store as an earlier line computer has left it is brought up by `init`, and all of it goes on."""
     three_labels(bench)
     want(len(bench.does("labels", "--take")), 3)
     want(add(bench, {"unit": UNIT, "year": 4}, {"unit": UNIT, "year": 5}).status, 0)
     process = bench.start(adapter=units(UNIT, frame_time=SLOW))
     wait_for(lambda: bench.states()[4] == "taken")
     want(stop(process), 0)
-    for statement in ("drop table bench_scans", "drop table bench_stations",
-                      "drop table bench_withdrawals", "alter table bench_labels drop column printed",
-                      "alter table bench_orders drop column place", "update bench_store set version = 1"):
+    for statement in (*TO_2, *TO_1):
         change(bench, statement)
     ended = bench.give("status")
     want((ended.status, ended.told),

@@ -400,7 +400,7 @@ class PlacesTest(BenchTest):
 
             thread = threading.Thread(target=serve)
             thread.start()
-            station = bench.station("bus1", "--printer", f"127.0.0.1:{printer.getsockname()[1]}")
+            station = bench.station("bus1", "--to", f"127.0.0.1:{printer.getsockname()[1]}")
             station.asked()
             self.assertEqual(station.serves(SCAN_1), f"PASS: {NAME_1}. The label of order 1 is out: put it on. {NEXT}")
             thread.join(20)

@@ -164,7 +164,7 @@ class PackageTest(BenchTest):
             status, shown, told = within(root, "sh", "-c", f"cd /root && {drive}")
             self.assertEqual((status, told, "gtin 04006381333931\n" in shown), (0, DONE, True))
             words = ["line_computer", "init", "--store", "/root/orders.db", "--bus", "b"]
-            self.assertEqual(within(root, *words), (0, "store of version 2\nbus b\n", ""))
+            self.assertEqual(within(root, *words), (0, "store of version 3\nbus b\n", ""))
             user = within(root, "getent", "passwd", "dali-bench")[1].strip().split(":")
             self.assertEqual(user[5:], ["/var/lib/dali-bench", "/usr/sbin/nologin"])
             self.assertEqual(within(root, "dpkg", "--verify", "dali-bench"), (0, "", ""))

@@ -21,7 +21,7 @@ from .link import Link
 from .orders import Order, now
 from .program import NOT_BEGUN, Program
 from .told import Ready, Replied, Reported, Taken, Told, Trouble, Unaccepted, told_by
-from .work import BusState, Work
+from .work import CHECKED, SHORT, BusState, Work
 
 POLL = 0.05  # seconds between two looks at what is told
 IDLE = 0.2  # and at the store, where there is no order
@@ -67,7 +67,7 @@ class BusProcess:
         self.link: Optional[Link] = None
         self.state = BusState()
         self.start_waits, self.store_waits, self.order_waits = (Waits(longest_wait) for _ in range(3))
-        self.is_wanted, self.is_until_empty = True, False
+        self.is_wanted, self.is_until_empty, self.plan = True, False, CHECKED
         self.asked_at = 0.0  # when to look whether an order is to be cancelled
         self._forget()
 
@@ -93,7 +93,7 @@ class BusProcess:
             if time.monotonic() > last:
                 raise Refused(f"the bus {self.bus} has another process: only one `run` of a bus may be at work")
             time.sleep(POLL)
-        self.work = Work(self.database, self.bus)
+        self.work = Work(self.database, self.bus, self.plan)
         try:
             self.mark = journals.claim(self.database, self.bus, self.folder)
             journals.recover(self.database, self.bus, self.folder)
@@ -110,7 +110,7 @@ class BusProcess:
             if not database.lock(self.bus, schema.number_of_bus(database, self.bus)):
                 self._end_link()
                 raise StoreLost(f"the bus {self.bus} is locked by another process, or still by an earlier connection")
-        self.database, self.work = database, Work(database, self.bus)
+        self.database, self.work = database, Work(database, self.bus, self.plan)
 
     def _lose_store(self, fault: Exception) -> None:
         """Close the store, and wait before it is opened again."""
@@ -173,7 +173,8 @@ class BusProcess:
         try:
             journals.recover(self.database, self.bus, self.folder)
             older = journals.older(self.database, self.bus)
-            self.link = Link(self.folder, self.adapter, [self.program.path, "drive"], older)
+            drive = [self.program.path, "drive", *(["--short-plan"] if self.plan == SHORT else [])]
+            self.link = Link(self.folder, self.adapter, drive, older)
         except StoreLost:
             raise
         except (Refused, Failed, OSError) as fault:
@@ -294,9 +295,11 @@ class BusProcess:
 
     def _bring(self, order: Order) -> None:
         """Send an order, the first time once `check` accepts it."""
+        expected = None
         if order.state == "added":
             try:
-                self.program.check([order.object()])
+                checked = self.program.check([order.object()])[0]
+                expected = checked.short_frames if self.plan == SHORT else checked.frames
             except Refused as fault:
                 self.work.refuse(order.number, plain(str(fault)))
                 return
@@ -304,7 +307,7 @@ class BusProcess:
                 self.tell(str(fault))
                 self.order_waits.begin()
                 return
-        order = self.work.send(order)
+        order = self.work.send(order, expected)
         if order is None:
             return
         self.order, self.unbegun_at = order, None

@@ -93,7 +93,7 @@ def items_of(data: bytes, is_latin_1: bool, program: Program) -> list[Item]:
     except Refused as fault:
         raise Refused(without_numbers(str(fault), orders), fault.lines) from fault
     items = []
-    for order, (unit, frames) in zip(orders, accepted):
+    for order, (unit, frames, _) in zip(orders, accepted):
         fields = {key: value for key, value in order.items() if key not in ("order", "unit")}
         gtin = fields.get("gtin")
         items.append(Item(str(order["order"]) if "order" in order else None, unit, spelled(fields),

@@ -4,12 +4,12 @@ from __future__ import annotations
 
 import json
 import re
-import time
 from html import escape
 from typing import Optional
 
 from .charts import ENDS, HOURS, LAST_ORDERS, Hour, hours_picture, means_of, misses_picture
 from .database import Database
+from .moments import moment
 from .orders import LENGTH_OF_GTIN, now
 from .schema import LIVE, MOST_NUMBER
 
@@ -46,11 +46,6 @@ svg { display: block; width: 100%; height: auto; } svg text { fill: var(--soft);
 .legend svg { display: inline; width: 10px; } .few { display: grid; gap: 16px 24px;
   grid-template-columns: repeat(auto-fill, minmax(240px, 1fr)); } .few h3 { font-size: 13px; margin: 0; }
 """ + "".join(f".{kind} {{ fill: var(--{kind}); }}\n" for kind in ENDS.values())
-
-
-def moment(seconds: Optional[int]) -> str:
-    """Spell a moment by the computer's clock."""
-    return "" if seconds is None else time.strftime("%Y-%m-%d %H:%M:%S", time.localtime(seconds))
 
 
 # Buses
@@ -170,7 +165,8 @@ def order_row(row) -> str:
 
 def order_part(database: Database, number: int) -> str:
     """Show all that is known of one order."""
-    names = ("bus", "reference", "unit", "fields", "state", "told", "added", "sent", "ended", "sends", "report")
+    names = ("bus", "reference", "repeats", "repeated_reference", "unit", "fields", "state", "told", "plan", "added",
+             "sent", "ended", "sends", "report")
     found = database.rows(f"select {', '.join(names)} from bench_orders where number = ?", number)
     if not found:
         return ""

@@ -102,9 +102,19 @@ update bench_orders set place = 1 + (
 ) where state = 'ended' and report is not null;
 update bench_orders set state = 'sent' where state = 'taken';
 """
+# By which plan an order was carried out: in a store of version 2 all that it sent itself went by the checked one. Which
+# order it repeats, at most one each, and the number that this had where it came from, which stays that one's alone.
 # Which luminaire the scan of a station was for, and what `verify` has found of it; what each station shows, and the
 # scan that the page has for it.
 THIRD = """
+alter table bench_orders add column plan text;
+alter table bench_orders add column repeats bigint;
+alter table bench_orders add column repeated_reference text;
+create unique index bench_orders_repeats on bench_orders (repeats) where repeats is not null;
+create index bench_orders_repeated_reference on bench_orders (repeated_reference, number)
+    where repeated_reference is not null;
+update bench_orders set plan = 'checked'
+    where sent is not null and (told is null or told = replace(told, ', known before', ''));
 create table bench_scans (
     number bigint primary key references bench_orders,
     key    text not null,

@@ -21,12 +21,13 @@ from .screen import FAIL, OFF, PASS, SCAN, WORK, Scanner, Screen
 from .station_bus import StationBus
 from .stations import GONE, AtHand, Shown
 from .template import Template, Wanted
-from .work import BusState
+from .work import SHORT, BusState
 
 # Words that a person types in place of a scan, in capitals or not.
 AGAIN, GIVE_UP = "AGAIN", "GONE"
 SEEN = 2  # seconds between two tellings that the station is there
 FRAME = 0.041  # seconds that a frame takes with its answer, as a rule
+SHORTER = 0.45  # the part of its frames that an order takes by the short plan, as a rule
 SCANNING, ADDRESSING, VERIFYING = 30, 120, 40  # frames, as a rule
 PRINTING = 3  # seconds until a label that isn't out is tried again
 STORED = 30  # seconds after which a unit has stored its short address for sure
@@ -221,21 +222,25 @@ class Station:
             if wanted.key != self.hand.key:
                 raise Fault(f"{wanted.name} isn't taken: order {self.hand.order.number} isn't finished.",
                             " ".join(self._stays()))
-            return self._finish(self.hand, wanted.item.expected)
+            return self._finish(self.hand, self._frames(wanted))
         waiting = stations.others(self.database, self.bus.bus)
         if waiting:
             raise Fault(f"Order {waiting[0]} of the bus stands for no scan.",
                         "`cancel` it, or end the station and have `run` carry it out. Then scan again.")
         self._want_unused(wanted)
         before = SCANNING + ADDRESSING * self.choices.is_addressing
-        self._show_work(wanted.name, before + wanted.item.expected + VERIFYING)
+        self._show_work(wanted.name, before + self._frames(wanted) + VERIFYING)
         self.given_at = None
         self._look(wanted.item.unit)
         stations.add(self.database, self.bus.bus, wanted, self.is_again)
         self.hand = stations.at_hand(self.database, self.bus.bus)
         if self.hand is None:
             raise Fault("The order was cancelled.", "Scan again.")
-        return self._finish(self.hand, wanted.item.expected)
+        return self._finish(self.hand, self._frames(wanted))
+
+    def _frames(self, wanted: Wanted) -> float:
+        """Give how many frames the order of a scan should take."""
+        return wanted.item.expected * (SHORTER if self.bus.plan == SHORT else 1)
 
     def _want_unused(self, wanted: Wanted) -> None:
         """Refuse a scan whose luminaire has its label."""
@@ -245,7 +250,7 @@ class Station:
             raise Fault(f"{fault}.", "If it is this luminaire, it is done: take it out. To write another one with the"
                         f" same number, type the word {AGAIN}, then scan.") from fault
 
-    def _show_work(self, name: str, frames: int) -> None:
+    def _show_work(self, name: str, frames: float) -> None:
         """Show that the station is at work, so many frames."""
         seconds = 1 + round(frames * FRAME)
         self._show(Shown(WORK, (f"{name}.", f"{STAY} It takes some {seconds} s."), now() + seconds))
@@ -276,7 +281,7 @@ class Station:
 
     # Orders
 
-    def _finish(self, hand: AtHand, expected: int) -> Shown:
+    def _finish(self, hand: AtHand, expected: float) -> Shown:
         """Carry out the order at hand, verify its luminaire, and put its label out."""
         number = hand.order.number
         self._show_work(f"{hand.name}, order {number}", VERIFYING + expected * (not hand.is_written()))
@@ -333,7 +338,7 @@ class Station:
                 return
             except StoreLost:
                 raise
-            except Failed as fault:
+            except (Failed, Refused) as fault:
                 self._show(Shown(FAIL, (f"{fault}.", "See to the printer: it is tried again. Leave the luminaire in.")))
             last = time.monotonic() + PRINTING
             while time.monotonic() < last and not self.bus.is_ended:

@@ -11,6 +11,8 @@ from .schema import LIVE, OF_NO_SCAN, SENT
 from .told import REUSED, Ready, Reported, Told, Unaccepted
 
 
+# The plans of a drive.
+CHECKED, SHORT = "checked", "short"
 # The place that the journal in use gets among those of its bus, once it is retired.
 PLACE = "1 + (select count(*) from bench_journals where bus = ?)"
 
@@ -37,9 +39,9 @@ class BusState:
 class Work:
     """The orders of one bus, as its process has them."""
 
-    def __init__(self, database: Database, bus: str):
-        """Take the store and the bus, whose lock the process has."""
-        self.database, self.bus = database, bus
+    def __init__(self, database: Database, bus: str, plan: str = CHECKED):
+        """Take the store, the bus, whose lock the process has, and the plan of its drive."""
+        self.database, self.bus, self.plan = database, bus, plan
 
     def next_order(self) -> Optional[Order]:
         """Give the first order that has no end yet, without those of a station."""
@@ -53,16 +55,18 @@ class Work:
                                    f" {LIVE}", number)
         return Order(*found[0]) if found else None
 
-    def send(self, order: Order) -> Optional[Order]:
+    def send(self, order: Order, expected: Optional[int] = None) -> Optional[Order]:
         """Keep that an order is about to be sent, before its line is written; None where it was cancelled just now.
 
         The moment of its first time is that of its submission for good: by it an end is told from that of an order
-        which a journal knew before.
+        which a journal knew before. Its plan is that of the first drive, until another one has kept its end; so many
+        frames are expected of it, where that is known anew.
         """
         with self.database.transaction():
             is_sent = self.database.change(
                 "update bench_orders set state = case state when 'added' then 'sent' else state end, sends = sends + 1,"
-                f" sent = coalesce(sent, ?) where number = ? and {LIVE}", now(), order.number)
+                " sent = coalesce(sent, ?), plan = coalesce(plan, ?), expected = coalesce(?, expected)"
+                f" where number = ? and {LIVE}", now(), self.plan, expected, order.number)
             moment = self.database.rows("select sent from bench_orders where number = ?", order.number)[0][0]
         return order._replace(state="sent", sent=moment) if is_sent else None
 
@@ -95,8 +99,8 @@ class Work:
 
     def _keep_reply(self, it: Reported) -> None:
         """Keep the last reply to an order that was sent; one that wasn't is none of this store's."""
-        found = self.database.rows(f"select sent from bench_orders where number = ? and bus = ? and {SENT}", it.number,
-                                   self.bus)
+        found = self.database.rows(f"select sent, plan from bench_orders where number = ? and bus = ? and {SENT}",
+                                   it.number, self.bus)
         if not found:
             return
         what = it.reply.split()[0]
@@ -104,12 +108,14 @@ class Work:
             self.database.change("update bench_orders set state = ?, told = ? where number = ?", what, it.reply,
                                  it.number)
             return
-        is_known = it.code is not None and it.moment != found[0][0]
+        sent, plan = found[0]
+        is_known = it.code is not None and it.moment != sent
+        plan = None if is_known else self.plan if it.is_now else plan
         words = REUSED if it.code is None else f"{it.reply}, known before" if is_known else it.reply
         self.database.change(
             "update bench_orders set state = ?, code = ?, told = ?, ended = ?, report = ?, frames = ?, misses = ?,"
-            f" place = {PLACE} where number = ?", "reused" if it.code is None else "ended", it.code,
-            words, now(), it.line, it.frames, it.misses, self.bus, it.number)
+            f" plan = ?, place = {PLACE} where number = ?", "reused" if it.code is None else "ended", it.code,
+            words, now(), it.line, it.frames, it.misses, plan, self.bus, it.number)
         if it.code == 0 and not is_known and not self._is_of_station(it.number):
             self.database.change("insert into bench_labels (number, made) values (?, ?)", it.number, now())
 

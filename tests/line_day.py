@@ -13,7 +13,7 @@ from functools import partial, partialmethod
 
 from base import BenchTest, want
 from driven import PATIENCE
-from line_bench import ADAPTER, Bench, Server, processes_of, python, stop, wait_for
+from line_bench import ADAPTER, TO_VERSION_2, Bench, Server, processes_of, python, stop, wait_for
 from line_look import Page, text_of
 
 LEFT, UNIT = 60, 5
@@ -371,13 +371,13 @@ def a_store_of_version_1(bench):
     process = bench.start(adapter=units(UNIT, frame_time=SLOW))
     wait_for(lambda: bench.states()[4] == "taken")
     want(stop(process), 0)
-    for statement in ("drop table bench_withdrawals", "alter table bench_labels drop column printed",
+    for statement in (*TO_VERSION_2, "drop table bench_withdrawals", "alter table bench_labels drop column printed",
                       "alter table bench_orders drop column place", "update bench_store set version = 1"):
         change(bench, statement)
     ended = bench.give("status")
     want((ended.status, ended.told),
-         (1, "error: the store has version 1, and this line computer has 2: `init` brings it up\n"))
-    want(bench.does("init"), ["store of version 2"])
+         (1, "error: the store has version 1, and this line computer has 3: `init` brings it up\n"))
+    want(bench.does("init"), ["store of version 3"])
     want(bench.run(adapter=units(UNIT)), 0)
     want(set(bench.states().values()), {"ended"})
     want(bench.rows("select place from bench_orders order by number"), [(1,)] * 5)

@@ -113,8 +113,8 @@ class OrdersTest(BenchTest):
             connection.execute("delete from bench_orders")
         connection.close()
         self.assertEqual(bench.does("add", "-", given=b'[{"unit":5,"year":24}]')[0], "item 1 order 181")
-        self.assertEqual(bench.does("init", "--first", "7"), ["store of version 2"])
-        self.assertEqual(bench.does("init", "--first", "1000"), ["store of version 2"])
+        self.assertEqual(bench.does("init", "--first", "7"), ["store of version 3"])
+        self.assertEqual(bench.does("init", "--first", "1000"), ["store of version 3"])
         self.assertEqual(bench.does("add", "-", given=b'[{"unit":5,"year":24}]')[0], "item 1 order 1000")
         bench.does("init", "--first", str(2**53 - 2))
         self.assertEqual(bench.give("add", "-", given=b'[{"unit":5,"year":24},{"unit":5,"year":24}]').status, 1)
@@ -214,13 +214,13 @@ class MistakesTest(BenchTest):
     def test_a_store_of_another_version_is_told(self):
         bench = Bench(self.folder)
         bench.does("add", "-", given=b'[{"unit":5,"year":24}]')
-        for version, what in ((3, "use the line computer that made it"), (0, "")):
+        for version, what in ((4, "use the line computer that made it"), (0, "")):
             with sqlite3.connect(bench.store) as connection:
                 connection.execute("update bench_store set version = ?", (version,))
             connection.close()
             for command in (("status",), ("add", "-"), ("labels",), ("cancel", "1")):
                 ended = bench.give(*command, given=b'[{"unit":5,"year":24}]')
-                wanted = f"error: the store has version {version}, and this line computer has 2: {what}"
+                wanted = f"error: the store has version {version}, and this line computer has 3: {what}"
                 if version:
                     self.assertEqual((command, ended.status, ended.told), (command, 1, wanted + "\n"))
                 else:
@@ -248,7 +248,7 @@ def judge_migration(bench):
                                cwd=bench.folder, capture_output=True, text=True, check=False)
         return ended.returncode, ended.stdout, ended.stderr
 
-    older = "error: the store has version 2, and this line computer has 3: `init` brings it up\n"
+    older = "error: the store has version 3, and this line computer has 4: `init` brings it up\n"
     want(later("status"), (1, "", older))
     process = bench.start()
     while bench.rows("select state from bench_states where bus = 'bus1'")[0][0] != "ready":
@@ -256,13 +256,13 @@ def judge_migration(bench):
     want(later("init"), (1, "", "error: the bus bus1 is at work: end its `run` first\n"))
     process.terminate()
     process.wait()
-    want(later("init"), (0, "store of version 3\n", ""))
-    want(later("init"), (0, "store of version 3\n", ""))
+    want(later("init"), (0, "store of version 4\n", ""))
+    want(later("init"), (0, "store of version 4\n", ""))
     want(later("orders"), (0, "order 1 bus bus1 unit 5 ended: kept 0 Done\n", ""))
     want(bench.rows("select count(*), count(remark) from bench_orders"), [(1, 0)])
-    want(bench.give("status")[::2], (1, "error: the store has version 3, and this line computer has 2: use the line"
+    want(bench.give("status")[::2], (1, "error: the store has version 4, and this line computer has 3: use the line"
                                      " computer that made it\n"))
-    want(bench.give("init")[::2], (1, "error: the store has version 3, and this line computer has 2\n"))
+    want(bench.give("init")[::2], (1, "error: the store has version 4, and this line computer has 3\n"))
 
 
 class StoreTest(BenchTest):

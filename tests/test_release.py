@@ -290,7 +290,7 @@ class ArchiveTest(BenchTest):
     def test_archive_has_the_line_computer(self):
         top = unpacked(self.folder)
         words = [top / "line_computer", "init", "--store", self.folder / "orders.db", "--bus", "bus1"]
-        self.assertEqual(run(words), (0, "store of version 2\nbus bus1\n", ""))
+        self.assertEqual(run(words), (0, "store of version 3\nbus bus1\n", ""))
         orders = self.folder / "orders.csv"
         orders.write_text("unit,year\n5,24\n")
         added = (0, "item 1 order 1\nadded 1 known 0\n", "")

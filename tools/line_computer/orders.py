@@ -8,12 +8,11 @@ from typing import NamedTuple, Optional
 
 from .database import Database
 from .faults import Refused
-from .schema import LIVE, MOST_NUMBER
+from .identities import identification_of, identity
+from .schema import LIVE, MOST_NUMBER, ROWS
 
-LENGTH_OF_GTIN = 14
-# So many rows a statement: an older SQLite takes at most 999 values.
-ROWS = 90
-COLUMNS = ("number", "bus", "reference", "unit", "fields", "gtin", "expected", "state", "added")
+COLUMNS = ("number", "bus", "reference", "unit", "fields", "gtin", "expected", "state", "added",
+           "identification")
 
 
 class Item(NamedTuple):
@@ -80,7 +79,8 @@ def add(database: Database, bus: str, items: list[Item], is_same_luminaire: bool
             if before is None:
                 if luminaires:
                     luminaires.want_same(item, len(given) + 1)
-                rows += (number, bus, item.reference, item.unit, item.fields, item.gtin, item.expected, "added", now())
+                rows += (number, bus, item.reference, item.unit, item.fields, item.gtin, item.expected, "added", now(),
+                         identification_of(item.fields))
             elif before[1:] != (item.unit, item.fields):
                 raise Refused(f"item {len(given) + 1} order {item.reference}: the number of order {before[0]} of this"
                               " store, which is another one")
@@ -113,18 +113,6 @@ class Luminaires:
                 raise Refused(f"item {at}: unit {item.unit} would get {key} {value}, and {who}, {before}: where both"
                               " are for one luminaire, --same-luminaire says so; else add this once that one has ended"
                               " and the next luminaire is there")
-
-
-def identity(fields: str) -> list[tuple[str, str]]:
-    """Give what the fields of an order say of which luminaire it is for, spelled so that the same has the same text."""
-    try:
-        found = json.loads(fields)
-    except ValueError:
-        found = None
-    if not isinstance(found, dict):
-        return []  # another program has put it into the store: `check` refuses it before it is sent
-    return [(key, "unknown" if found[key] is None else str(found[key]).upper().zfill(length))
-            for key, length in (("gtin", LENGTH_OF_GTIN), ("identification", 0)) if key in found]
 
 
 def known_references(database: Database, bus: str, references: list[str]) -> dict:

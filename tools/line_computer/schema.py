@@ -7,7 +7,10 @@ import uuid
 
 from .database import Database, opened
 from .faults import Failed, Refused
+from .identities import identification_of
 
+# So many rows a statement: an older SQLite takes at most 999 values.
+ROWS = 90
 BUS = re.compile("[A-Za-z0-9][A-Za-z0-9_-]{0,31}")
 # A number up to this one is read exactly by whatever reads JSON.
 MOST_NUMBER = 2**53 - 1
@@ -18,6 +21,10 @@ STATES = ("added", *AT_WORK, "ended", "refused", "reused", "cancelled")
 SENT = f"state in {AT_WORK}"
 # Of those that have no end yet there is an index, which a query uses that says so with these words.
 LIVE = f"state in {('added', *AT_WORK)}"
+# And of those that came to an end, and aren't done.
+NOT_DONE = "(code > 0 or state in ('refused', 'reused'))"
+# Seconds of a quarter of an hour, at which time zones and shifts begin: by these the ends of orders are counted.
+QUARTER = 900
 
 FIRST = f"""
 create table bench_store (
@@ -100,8 +107,21 @@ update bench_orders set place = 1 + (
 ) where state = 'ended' and report is not null;
 update bench_orders set state = 'sent' where state = 'taken';
 """
+# The identification number of an order's luminaire, by which it is searched for; when a drive last spoke, or was last
+# spoken to. What the page looks for has indexes.
+THIRD = f"""
+alter table bench_orders add column identification text;
+alter table bench_states add column spoke bigint;
+create index bench_orders_identification on bench_orders (identification, number) where identification is not null;
+create index bench_orders_reference on bench_orders (reference, number) where reference is not null;
+drop index bench_orders_hour;
+create index bench_orders_quarter on bench_orders ((ended / {QUARTER}), bus, state, code);
+create index bench_orders_not_done on bench_orders (ended) where {NOT_DONE};
+"""
 # The statements that bring a store up, each from the version that is its place here to the next one.
-MIGRATIONS = (FIRST, SECOND)
+MIGRATIONS = (FIRST, SECOND, THIRD)
+IDENTIFIED = 3  # the version from which on an order has its identification number by itself
+FILLED = 500  # orders that get it at once
 
 
 def version_of(database: Database) -> int:
@@ -152,11 +172,30 @@ def bring_up(database: Database) -> None:
         for statement in migration.split(";\n"):
             if statement.strip():
                 database.change(statement)
+    if 0 < version < IDENTIFIED:
+        fill_identifications(database)
     if version == 0:
         database.change("insert into bench_store (version, id, following) values (?, ?, 1)", len(MIGRATIONS),
                         str(uuid.uuid4()))
     else:
         database.change("update bench_store set version = ?", len(MIGRATIONS))
+
+
+def fill_identifications(database: Database) -> None:
+    """Give each order the identification number that its fields say.
+
+    No statement that both databases take gets it out of the text, which may be no JSON.
+    """
+    last = -1
+    while rows := database.rows("select number, fields from bench_orders where number > ? and fields like ?"
+                                " order by number limit ?", last, '%"identification"%', FILLED):
+        found = [(number, text) for number, fields in rows if (text := identification_of(fields)) is not None]
+        for at in range(0, len(found), ROWS):
+            some = found[at:at + ROWS]
+            cases, places = " ".join(["when ? then ?"] * len(some)), ", ".join("?" * len(some))
+            database.change(f"update bench_orders set identification = case number {cases} end where number in ({places})",
+                            *(it for pair in some for it in pair), *(number for number, _ in some))
+        last = rows[-1][0]
 
 
 def number_of_bus(database: Database, bus: str) -> int:

@@ -11,14 +11,14 @@ from http.server import BaseHTTPRequestHandler, ThreadingHTTPServer
 from typing import Callable
 
 from .faults import Failed, Refused
-from .page import STYLE, document, page_of
+from .page import SCRIPT, STYLE, Look, document, page_of
 from .schema import open_store
 
-HTML, CSS = "text/html; charset=utf-8", "text/css; charset=utf-8"
-# What a browser may do with the page: show it, with our style, and send its form here.
+HTML, CSS, SCRIPTS = (f"text/{kind}; charset=utf-8" for kind in ("html", "css", "javascript"))
+# What a browser may do with the page: show it, with our style and our script, and ask and send its form here.
 HEADERS = {
-    "Content-Security-Policy": "default-src 'none'; style-src 'self'; form-action 'self'; base-uri 'none';"
-                               " frame-ancestors 'none'",
+    "Content-Security-Policy": "default-src 'none'; style-src 'self'; script-src 'self'; connect-src 'self';"
+                               " form-action 'self'; base-uri 'none'; frame-ancestors 'none'",
     "X-Content-Type-Options": "nosniff",
     "Referrer-Policy": "no-referrer",
     "Cache-Control": "no-store",
@@ -30,17 +30,19 @@ class Handler(BaseHTTPRequestHandler):
 
     server_version, sys_version, protocol_version = "line_computer", "", "HTTP/1.1"
     timeout = 20  # seconds for a request to come
-    place = ""
+    place, look = "", Look("", [])
 
     def do_GET(self) -> None:
-        """Answer with the page, or its style."""
+        """Answer with the page, its style or its script."""
         path, _, query = self.path.partition("?")
         if path == "/style.css":
             self.answer(HTTPStatus.OK, CSS, STYLE)
+        elif path == "/page.js":
+            self.answer(HTTPStatus.OK, SCRIPTS, SCRIPT)
         elif path == "/":
             self.answer(*self.page(dict(urllib.parse.parse_qsl(query, keep_blank_values=True))))
         else:
-            self.answer(HTTPStatus.NOT_FOUND, HTML, document("", "<h1>There is no such page</h1>"))
+            self.answer(HTTPStatus.NOT_FOUND, HTML, document("<h1>There is no such page</h1>"))
 
     do_HEAD = do_GET
 
@@ -49,12 +51,12 @@ class Handler(BaseHTTPRequestHandler):
         try:
             database = open_store(self.place)
             try:
-                return HTTPStatus.OK, HTML, page_of(database, query)
+                return HTTPStatus.OK, HTML, page_of(database, query, self.look)
             finally:
                 database.close()
         except (Failed, Refused) as fault:
             body = f"<h1>The store can't be used</h1><p>{escape(str(fault))}</p>"
-            return HTTPStatus.SERVICE_UNAVAILABLE, HTML, document("", body)
+            return HTTPStatus.SERVICE_UNAVAILABLE, HTML, document(body)
 
     def answer(self, status: HTTPStatus, kind: str, text: str) -> None:
         """Send an answer."""
@@ -88,9 +90,9 @@ def is_of_this_computer(host: str) -> bool:
     return all(ipaddress.ip_address(place[0].partition("%")[0]).is_loopback for *_, place in found)
 
 
-def serve(place: str, host: str, port: int, tell: Callable[[str], None]) -> None:
+def serve(place: str, look: Look, host: str, port: int, tell: Callable[[str], None]) -> None:
     """Serve the page at a host and a port, and tell its address once it can be reached."""
-    handler = type("Handler", (Handler,), {"place": place})
+    handler = type("Handler", (Handler,), {"place": place, "look": look})
     kind = type("Server", (Server,), {"address_family": socket.AF_INET6 if ":" in host else socket.AF_INET})
     with kind((host, port), handler) as server:
         name = f"[{host}]" if ":" in host else host

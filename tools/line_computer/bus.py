@@ -94,6 +94,7 @@ class BusProcess:
                 raise Refused(f"the bus {self.bus} has another process: only one `run` of a bus may be at work")
             time.sleep(POLL)
         self.work = Work(self.database, self.bus)
+        self.work.say(self.state)
         try:
             self.mark = journals.claim(self.database, self.bus, self.folder)
             journals.recover(self.database, self.bus, self.folder)

@@ -32,7 +32,7 @@ STYLE = """
   --open: #cc79a7; --refused: #8b949e; --reused: #c4cad0; --over: #1c2126; }
 @media (prefers-color-scheme: dark) {
   :root { --text: #e4e8ec; --soft: #9aa4ae; --line: #353c44; --back: #14181c; --panel: #1c2228; --alarm: #ff9d5c;
-    --done: #3d9bd8; } }
+    --done: #1f7fc0; } }
 body { font: 15px/1.45 system-ui, sans-serif; color: var(--text); background: var(--back); margin: 0 auto;
   max-width: 1240px; padding: 16px 20px 40px; }
 h1 { font-size: 20px; margin: 0; } h2 { font-size: 15px; margin: 28px 0 8px; } a { color: inherit; }
@@ -146,7 +146,8 @@ def bus_counts(buses: list[Bus], live: dict, ends: list) -> dict[str, dict]:
     """Count by bus what waits, is at work, is done and isn't."""
     found = {it.bus: {"waiting": 0, "work": 0, "done": 0, "failed": 0, **live.get(it.bus, {})} for it in buses}
     for _, bus, end, count in ends:
-        found[bus]["done" if end == "Done" else "failed"] += count
+        if bus in found:  # one that was made just now isn't shown yet
+            found[bus]["done" if end == "Done" else "failed"] += count
     return found
 
 

@@ -55,7 +55,7 @@ def shift(times: list[datetime.time], moment: int, back: int = 0) -> Span:
                      for days in range(-back - 2, 3) for at in times})
     at = max(number for number, start in enumerate(starts) if start <= moment) - back
     start, end = starts[at:at + 2]
-    return Span(f"the shift {time.strftime('%d.%m.', time.localtime(start))} {clock(start)} to {clock(end)}", start, end)
+    return Span(f"the shift {time.strftime('%Y-%m-%d', time.localtime(start))} {clock(start)} to {clock(end)}", start, end)
 
 
 def quarters(span: Span) -> tuple[int, int]:

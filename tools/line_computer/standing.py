@@ -53,7 +53,7 @@ class Bus(NamedTuple):
         """Tell how a bus stands that has no process."""
         if self.state == "stopped" and self.trouble is not None:
             return f"stopped, in trouble since {moment(self.since)}: {self.trouble}"
-        ending = "" if self.state == "stopped" or self.is_locked else ": its process was killed"
+        ending = "" if self.state == "stopped" or self.is_locked else ": its process was killed, or has lost the store"
         return f"not running since {moment(self.seen)}{ending}" if self.seen else "not running"
 
     def is_silent(self) -> bool:

@@ -101,8 +101,8 @@ def seconds_of(text):
 def add_time_limit(parser, who):
     """Add the option of the longest time in which a frame is sent and answered by what carries it."""
     parser.add_argument("--time-limit", metavar="S", type=seconds_of, default="0.5",
-                        help=f"seconds within which the {who} sends a frame and answers, or never; the first frame waits"
-                             " as long (default: %(default)s)")
+                        help=f"seconds within which the {who} sends a frame and answers, or never; the first frame"
+                             " waits as long (default: %(default)s)")
 
 
 def words_of(fault):

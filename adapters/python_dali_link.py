@@ -78,7 +78,7 @@ def commands_of_library():
 
 
 def open_interface(options):
-    """Have the library open the device, as the only adapter to it, and pass over the time in which a frame may go out."""
+    """Have the library open the device, for this adapter alone, and pass over the time in which a frame may go out."""
     kind, form = driver_of(options.driver)
     commands = commands_of_library()
     if options.driver in DRIVERS or options.device.startswith("/"):

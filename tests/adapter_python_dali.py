@@ -178,8 +178,9 @@ def test_python_dali_cannot_start(folder):
     for how, driver, words in [
             ({"connect": "refused"}, "tridonic", "{} can't be opened: the library can't"),
             ({"connect": "never"}, "tridonic", "{} can't be opened: the library gave no answer in 5 seconds"),
-            ({"connect": "refused"}, "luba232", "{} can't be opened: the library tells OSError [Errno 16] could not open"
-                                                " port: Device or resource busy: look at the interface and its plug"),
+            ({"connect": "refused"}, "luba232", "{} can't be opened: the library tells OSError [Errno 16] could not"
+                                                " open port: Device or resource busy: look at the interface and its"
+                                                " plug"),
             ({}, "dali.driver.hid:launchpad", "the library python-dali that is installed has no launchpad in"
                                               " dali.driver.hid")]:
         interface = Interface(folder, [["none"]], **how)

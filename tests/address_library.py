@@ -1,4 +1,4 @@
-"""Tests of `address` and `drive` over the adapter to python-dali, with a library of the tests' own over simulated units."""
+"""Tests of `address` and `drive` over the link over python-dali: a library of the tests' own over simulated units."""
 
 import json
 import subprocess

@@ -119,7 +119,7 @@ class Place(Bench):
         known = {"number": number, "bus": "bus1", "unit": 5, "fields": "{}", "state": state, "added": 1, **more}
         if code is not None:
             known["code"] = code
-        values = ", ".join("null" if it is None else str(it) if isinstance(it, int) else "'" + it.replace("'", "''") + "'"
+        values = ", ".join("null" if it is None else str(it) if isinstance(it, int) else f"'{it}'"
                            for it in known.values())
         self.write(f"insert into bench_orders ({', '.join(known)}) values ({values})")
 
@@ -181,13 +181,14 @@ class SpanTest(BenchTest):
         self.assertEqual(spans.day(JULY[0]).hours(), 24)
 
     def test_clock_times_that_are_none(self):
-        for text in ("", "6:00", "06:10", "24:00", "06:00,06:00", "06:00;14:00", "06:00,", "06:60", "06:00 ", "\u0660\u0666:00"):
+        for text in ("", "6:00", "06:10", "24:00", "06:00,06:00", "06:00;14:00", "06:00,", "06:60", "06:00 ",
+                     "\u0660\u0666:00"):
             with self.assertRaises(faults.Refused):
                 spans.clock_times(text)
         ended = Place(self.folder).give("page", "--shift", "06:10")
         self.assertEqual((ended.status, ended.told),
-                         (1, "error: --shift takes clock times, each once, at quarters of an hour, as 06:00,14:00,22:00,"
-                             " and not 06:10\n"))
+                         (1, "error: --shift takes clock times, each once, at quarters of an hour, as"
+                             " 06:00,14:00,22:00, and not 06:10\n"))
 
 
 class LeaderTest(BenchTest):
@@ -207,7 +208,8 @@ class LeaderTest(BenchTest):
         at = [datetime.datetime.fromtimestamp(start + shift).strftime("%H:%M") for shift in (-7200, 0, 7200)]
         with Shown(bench, "--shift", ",".join(at), "--name", "Halle <3>") as page:
             text = page.get()
-            self.assertEqual(rows_of(text, "Buses")[0], ["Bus", "How it stands", "Waiting", "At work", "Done", "Not done"])
+            self.assertEqual(rows_of(text, "Buses")[0],
+                             ["Bus", "How it stands", "Waiting", "At work", "Done", "Not done"])
             self.assertEqual([row[2:] for row in rows_of(text, "Buses")[1:]],
                              [["2", "1", "1", "1"], ["0", "1", "1", "1"], ["2", "2", "2", "2"]])
             self.assertEqual([row[2:] for row in rows_of(page.get("?back=1"), "Buses")[1:]],
@@ -227,8 +229,8 @@ class LeaderTest(BenchTest):
         bench, now = Place(self.folder), int(time.time())
         ends = {3: "Silent", 4: "Doubt", 5: "DoubtOpen", 1: "Short", 2: "Format", 0: "Done"}
         for number, (code, name) in enumerate(ends.items(), 1):
-            bench.order(number, "ended", code, ended=now - 100 + number, told=f"kept {code} {name}", reference=f"A-{number}",
-                        identification=f"{number:016X}")
+            bench.order(number, "ended", code, ended=now - 100 + number, told=f"kept {code} {name}",
+                        reference=f"A-{number}", identification=f"{number:016X}")
         bench.order(7, "blocked", told="blocked 9")
         bench.order(8, "refused", ended=now, told="item 1: gtin: <b>")
         bench.order(9, "added", reference="A-9")
@@ -241,8 +243,8 @@ class LeaderTest(BenchTest):
                 "8": ["refused: item 1: gtin: <b>", "mend what it says; add it anew"],
                 "5": ["kept 2 Format", "take another unit; add it anew"],
                 "4": ["kept 1 Short", "take another unit, or fewer fields; add it anew"],
-                "3": ["kept 5 DoubtOpen", "keep the unit on the bus, look at power and wire; add the same anew. In doubt"
-                                          " again: take the unit out"],
+                "3": ["kept 5 DoubtOpen", "keep the unit on the bus, look at power and wire; add the same anew. In"
+                                          " doubt again: take the unit out"],
                 "2": ["kept 4 Doubt", "look at power and wire; add the same anew. In doubt again: take the unit out"],
                 "1": ["kept 3 Silent", "look at power, wire and address; add it anew"]})
             self.assertEqual(found["1"][:5], ["A-1", "bus1", "5", "", "0000000000000001"])
@@ -276,7 +278,8 @@ class LeaderTest(BenchTest):
     def test_a_report_is_a_table(self):
         bench = Place(self.folder)
         report = {"cause": {"byte": 255, "location": 5, "was": "other"}, "code": 4, "ended": "now", "frames": 98,
-                  "misses": 8, "moment": JULY[0], "name": "Doubt", "order": 2, "reply": "kept 4 Doubt", "run": 1, "unit": 6}
+                  "misses": 8, "moment": JULY[0], "name": "Doubt", "order": 2, "reply": "kept 4 Doubt", "run": 1,
+                  "unit": 6}
         texts = [json.dumps(report), json.dumps({**report, "cause": None, "ended": "before"}), "{<b>" + 300 * "x",
                  '"text"', "[1]", '{"cause": 5, "moment": "x"}', None]
         for number, text in enumerate(texts, 1):
@@ -285,8 +288,9 @@ class LeaderTest(BenchTest):
         with Shown(bench, env={**os.environ, "TZ": "UTC"}) as page:
             one = page.get("?number=1")
             words = re.search('<table class="pairs"><tr><th>reply.*?</table>', one)[0]
-            self.assertEqual(text_of(words).split(), "reply kept 4 Doubt by this drive begun 2026-07-01 00:30:00 frames 98"
-                             " misses 8 cause other at location 05h, which holds FFh".split())
+            self.assertEqual(text_of(words).split(),
+                             "reply kept 4 Doubt by this drive begun 2026-07-01 00:30:00 frames 98 misses 8 cause other"
+                             " at location 05h, which holds FFh".split())
             assert "{" not in text_of(one), "JSON is left"
             assert "Year 24" in text_of(one) and "Colour unknown" in text_of(one), text_of(one)
             assert "by an earlier one" in text_of(page.get("?number=2")) and "cause" not in page.get("?number=2")
@@ -347,8 +351,9 @@ def judge_older_store(bench):
     fields = {1: {"identification": "00ab000000000000", "year": 24}, 2: {"year": 24}, 3: {"identification": None},
               1500: {"identification": "FFAB000000000000"}}
     texts = {number: json.dumps(it) for number, it in fields.items()} | {4: '"identification" no JSON', 5: "[1]"}
-    bench.write(SECOND, *(f"insert into bench_orders (number, bus, unit, fields, state, added, reference) values ({number},"
-                          f" 'bus1', 5, '{text}', 'added', 1, 'R{number}')" for number, text in texts.items()),
+    bench.write(SECOND, *("insert into bench_orders (number, bus, unit, fields, state, added, reference) values"
+                          f" ({number}, 'bus1', 5, '{text}', 'added', 1, 'R{number}')"
+                          for number, text in texts.items()),
                 *(f"insert into bench_orders (number, bus, unit, fields, state, code, added, ended) values ({number},"
                   f" 'bus1', 6, '{{\"identification\":\"{number:016x}\"}}', 'ended', 0, 1, 2)"
                   for number in range(100, 1400)))
@@ -360,7 +365,8 @@ def judge_older_store(bench):
          {1: "00AB000000000000", 2: None, 3: "unknown", 4: None, 5: None, 1500: "FFAB000000000000"})
     want(bench.rows("select count(*) from bench_orders where identification is not null"), [(1303,)])
     with Shown(bench) as page:
-        for query, number in (("?identification=00ab000000000000", 1), ("?identification=3e8", 1000), ("?reference=R4", 4)):
+        for query, number in (("?identification=00ab000000000000", 1), ("?identification=3e8", 1000),
+                              ("?reference=R4", 4)):
             want((query, re.findall(r'<a href="/\?number=([0-9]+)">', page.get(query))), (query, [str(number)]))
     want(bench.does("init"), ["store of version 3"])
 

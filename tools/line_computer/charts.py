@@ -68,8 +68,8 @@ def bar(found: dict, hour: str, left: float, wide: float, scale: float) -> list[
                      f' height="{scale * count:.1f}"><title>{hour} {escape(end)}: {count}</title></rect>')
     not_done = sum(found.values()) - found.get("Done", 0)
     if not_done:
-        parts.append(f'<text class="count" x="{left + wide / 2:.1f}" y="{below - 4:.1f}" text-anchor="middle">!{not_done}'
-                     "</text>")
+        parts.append(f'<text class="count" x="{left + wide / 2:.1f}" y="{below - 4:.1f}" text-anchor="middle">'
+                     f"!{not_done}</text>")
     return parts
 
 

@@ -48,7 +48,8 @@ td { overflow-wrap: anywhere; min-width: 3em; } .pairs .pairs td { border: 0; pa
 .pairs .pairs th { border: 0; padding: 0 12px 0 0; }
 th { color: var(--soft); font-weight: 500; } td.n, th.n { text-align: right; font-variant-numeric: tabular-nums; }
 tr.trouble td:first-child, tr.trouble .end { color: var(--alarm); }
-tr.trouble td:first-child::before { content: "! "; font-weight: 700; } td.w { white-space: nowrap; } td.a { min-width: 20em; }
+tr.trouble td:first-child::before { content: "! "; font-weight: 700; } td.w { white-space: nowrap; }
+td.a { min-width: 20em; }
 progress { width: 120px; accent-color: var(--done); vertical-align: middle; }
 form { display: flex; flex-wrap: wrap; gap: 8px; align-items: end; } label { color: var(--soft); font-size: 13px; }
 input, button { display: block; font: inherit; padding: 4px 8px; color: var(--text); background: var(--panel);
@@ -63,7 +64,8 @@ svg text.count { fill: var(--alarm); font-weight: 700; } .over { stroke: var(--o
   .cards, .cards tbody { display: block; } .cards tr:first-child { display: none; }
   .cards tr { display: block; border-bottom: 2px solid var(--line); padding: 6px 0; }
   .cards td, .cards td.n { display: flex; gap: 8px; border: 0; padding: 1px 0; text-align: left; }
-  .cards td:empty { display: none; } td.a { min-width: 0; } .cards tr.trouble td:first-child::before { content: "! " attr(data-name); }
+  .cards td:empty { display: none; } td.a { min-width: 0; }
+  .cards tr.trouble td:first-child::before { content: "! " attr(data-name); }
   .cards td::before, .cards tr.trouble td:first-child::before { flex: 0 0 8.5em; color: var(--soft); font-weight: 500; }
   .cards td::before { content: attr(data-name); } .cards tr.trouble td:first-child::before { color: var(--alarm); } }
 """ + "".join(f".{kind} {{ fill: var(--{kind}); }}\n" for kind in ENDS.values())
@@ -158,7 +160,8 @@ def buses_part(buses: list[Bus], counts: dict[str, dict]) -> str:
         bar = f' <progress max="{it.expected}" value="{min(it.frames, it.expected)}"></progress>' if it.is_at_work() \
             else ""
         numbers = {key: str(count) for key, count in counts[it.bus].items()}
-        rows.append((not it.is_well(), {"bus": escape(it.bus), "words": f'<span class="end">{escape(it.words())}</span>{bar}', **numbers}))
+        words = f'<span class="end">{escape(it.words())}</span>{bar}'
+        rows.append((not it.is_well(), {"bus": escape(it.bus), "words": words, **numbers}))
     if len(buses) > 1:
         sums = {key: str(sum(it[key] for it in counts.values())) for key in ("waiting", "work", "done", "failed")}
         rows.append((False, {"bus": "all", **sums}))
@@ -233,9 +236,9 @@ def page_of(database: Database, query: dict, look: Look) -> str:
                   misses_part(database, buses)]
         below = tables.orders_part(database, {})
     kept = {key: query[key] for key in (BACK, DAY) if key in query}
-    return document(
-        f'<header><h1>{TITLE} {escape(look.name)}</h1><p id="moment">{moment(now())}</p></header>'
-        f'<div id="above">{"".join(above)}</div>{tables.form_part(query, kept)}<div id="below">{below}</div>', look.name)
+    head = f'<header><h1>{TITLE} {escape(look.name)}</h1><p id="moment">{moment(now())}</p></header>'
+    return document(f'{head}<div id="above">{"".join(above)}</div>{tables.form_part(query, kept)}'
+                    f'<div id="below">{below}</div>', look.name)
 
 
 def document(body: str, name: str = "") -> str:

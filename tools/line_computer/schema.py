@@ -193,8 +193,8 @@ def fill_identifications(database: Database) -> None:
         for at in range(0, len(found), ROWS):
             some = found[at:at + ROWS]
             cases, places = " ".join(["when ? then ?"] * len(some)), ", ".join("?" * len(some))
-            database.change(f"update bench_orders set identification = case number {cases} end where number in ({places})",
-                            *(it for pair in some for it in pair), *(number for number, _ in some))
+            database.change(f"update bench_orders set identification = case number {cases} end where number in"
+                            f" ({places})", *(it for pair in some for it in pair), *(number for number, _ in some))
         last = rows[-1][0]
 
 

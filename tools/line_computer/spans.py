@@ -35,7 +35,8 @@ def clock_times(text: str) -> list[datetime.time]:
     """Read at which clock times shifts begin."""
     found = [CLOCK.fullmatch(it) for it in text.split(",")]
     if None in found or len({it[0] for it in found}) != len(found):
-        raise Refused(f"--shift takes clock times, each once, at quarters of an hour, as 06:00,14:00,22:00, and not {text}")
+        raise Refused("--shift takes clock times, each once, at quarters of an hour, as 06:00,14:00,22:00, and not"
+                      f" {text}")
     return sorted(datetime.time(int(it[1]), int(it[2])) for it in found)
 
 
@@ -55,7 +56,8 @@ def shift(times: list[datetime.time], moment: int, back: int = 0) -> Span:
                      for days in range(-back - 2, 3) for at in times})
     at = max(number for number, start in enumerate(starts) if start <= moment) - back
     start, end = starts[at:at + 2]
-    return Span(f"the shift {time.strftime('%Y-%m-%d', time.localtime(start))} {clock(start)} to {clock(end)}", start, end)
+    date = time.strftime("%Y-%m-%d", time.localtime(start))
+    return Span(f"the shift {date} {clock(start)} to {clock(end)}", start, end)
 
 
 def quarters(span: Span) -> tuple[int, int]:

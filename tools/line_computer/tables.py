@@ -1,4 +1,4 @@
-"""The page's tables of orders: those that wait, those that aren't done, those that are found, and one with its report."""
+"""The page's tables of orders: those that wait, aren't done or are found, and one order with its report."""
 
 from __future__ import annotations
 
@@ -10,7 +10,7 @@ from typing import Optional
 from .advice import advice
 from .database import Database
 from .identities import LENGTH_OF_GTIN
-from .schema import LIVE, MOST_NUMBER, NOT_DONE
+from .schema import MOST_NUMBER, NOT_DONE
 from .spans import Span
 from .standing import moment
 
@@ -34,7 +34,7 @@ REPORT = {"reply": "reply", "ended": "by", "moment": "begun", "frames": "frames"
 
 
 def table(names: dict[str, str], rows: list[tuple[bool, dict]], numbers: tuple = NUMBERS) -> str:
-    """Show rows of cells by their columns, each with whether it is in trouble. A narrow screen shows a row as a card."""
+    """Show rows of cells by their columns, with whether each is in trouble. On a narrow screen a row is a card."""
     if not rows:
         return '<p class="soft">none</p>'
     classes = {**dict.fromkeys(numbers, "n"), **dict.fromkeys(WHOLE, "w"), "advice": "a"}
@@ -89,8 +89,8 @@ def not_done_part(database: Database, span: Span) -> str:
     """Show the orders that are stuck, and the last ones of a span that aren't done, with what is to be done."""
     places = ", ".join("?" * len(STUCK))
     stuck = orders_of(database, f"where state in ({places}) order by number limit ?", *STUCK, SHOWN)
-    ended = orders_of(database, f"where {NOT_DONE} and ended >= ? and ended < ? order by ended desc, number desc limit ?",
-                      span.start, span.end, SHOWN)
+    ended = orders_of(database, f"where {NOT_DONE} and ended >= ? and ended < ? order by ended desc, number desc"
+                      " limit ?", span.start, span.end, SHOWN)
     more = f'<p class="soft">the last {SHOWN}</p>' if len(ended) == SHOWN else ""
     found = orders_table(stuck + ended, *WHOSE, "end", "advice", "ended")
     return f"<h2>Not done in {escape(span.name)}</h2>{found}{more}"

@@ -118,8 +118,8 @@ class Work:
     def _say(self, state: BusState) -> None:
         """Keep what the bus says of itself, within a transaction."""
         self.database.change("update bench_states set state = ?, number = ?, frames = ?, trouble = ?, since = ?,"
-                             " spoke = ?, seen = ? where bus = ?", state.state, state.number, state.frames, state.trouble,
-                             state.since, state.spoke, now(), self.bus)
+                             " spoke = ?, seen = ? where bus = ?", state.state, state.number, state.frames,
+                             state.trouble, state.since, state.spoke, now(), self.bus)
 
     def is_asked_to_retire(self) -> bool:
         """Tell whether the journal is asked to be retired."""

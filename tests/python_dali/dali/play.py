@@ -7,7 +7,6 @@ device is gone behind this frame's answer), `nothing` for no response at all, an
 import asyncio
 import json
 import os
-import sys
 
 from . import command, frame
 
@@ -84,8 +83,6 @@ class Player:
             if part == "gone":
                 self.is_up.clear()
                 await asyncio.Event().wait()
-            if part == "exit":
-                sys.exit(3)
             if part == "lost":
                 asyncio.get_running_loop().call_later(0, self.is_up.clear)
             elif isinstance(part, (int, float)):

@@ -235,10 +235,16 @@ class LeaderTest(BenchTest):
         bench.order(8, "refused", ended=now, told="item 1: gtin: <b>")
         bench.order(9, "added", reference="A-9")
         bench.order(10, "ended", 3, ended=now - 90000, told="kept 3 Silent")
+        # The luminaire of one was done by another order since; before that one it doesn't count.
+        bench.order(11, "ended", 3, ended=now, told="kept 3 Silent", identification="00000000000000AA")
+        bench.order(12, "ended", 0, ended=now, told="kept 0 Done", identification="00000000000000AA")
+        bench.order(13, "ended", 3, ended=now, told="kept 3 Silent", identification="00000000000000AA")
         with Shown(bench) as page:
             text = page.get()
             found = {row[0]: row[1:] for row in rows_of(text, "Not done in")[1:]}
             self.assertEqual({number: row[-3:-1] for number, row in found.items()}, {
+                "11": ["kept 3 Silent", "done since, as order 12"],
+                "13": ["kept 3 Silent", "look at power, wire and address; add it anew"],
                 "7": ["blocked 9", "put unit 9 back, or any unit at its address; or cancel the order"],
                 "8": ["refused: item 1: gtin: <b>", "mend what it says; add it anew"],
                 "5": ["kept 2 Format", "take another unit; add it anew"],
@@ -250,8 +256,8 @@ class LeaderTest(BenchTest):
             self.assertEqual(found["1"][:5], ["A-1", "bus1", "5", "", "0000000000000001"])
             self.assertEqual([row[:2] for row in rows_of(text, "Waiting orders")[1:]], [["9", "A-9"]])
             # Nothing is told by a colour alone: what isn't done has a mark and words.
-            self.assertEqual(text.count('<tr class=trouble><td class="w" data-name="Order">'), 7 + 8)
-            assert "!6" in text_of(text), "the picture has no number above its bar"
+            self.assertEqual(text.count('<tr class=trouble><td class="w" data-name="Order">'), 8 + 10)
+            assert "!8" in text_of(text), "the picture has no number above its bar"
         self.assertEqual((advice.advice("full", None, "full"), advice.advice("reused", None, None),
                           advice.advice("added", None, None), advice.advice("ended", 0, "kept 0 Done")),
                          ("nothing: the journal is retired by itself", "add it anew", "", ""))

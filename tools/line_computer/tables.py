@@ -63,7 +63,7 @@ def row_of(order: dict) -> tuple[bool, dict]:
     number, frames = order["number"], order["frames"]
     cells = {key: escape(str(order[key])) for key in COLUMNS if order[key] is not None}
     cells |= {key: moment(order[key]) for key in ("added", "sent", "ended")}
-    cells["number"] = f'<a href="/?number={number}">{number}</a>'
+    cells["number"] = link_to(number)
     end = order["told"] if order["code"] is not None or order["state"] == "blocked" else order["state"]
     if order["state"] == "refused":
         end += f": {order['told']}"
@@ -73,16 +73,21 @@ def row_of(order: dict) -> tuple[bool, dict]:
     return is_in_trouble(order), cells
 
 
-def orders_table(orders: list[dict], *columns: str) -> str:
-    """Show orders with these columns."""
-    return table({key: NAMES[key] for key in columns}, [row_of(order) for order in orders])
+def link_to(number: int) -> str:
+    """Lead to all that is known of an order."""
+    return f'<a href="/?number={number}">{number}</a>'
+
+
+def orders_table(rows: list[tuple[bool, dict]], *columns: str) -> str:
+    """Show rows of orders with these columns."""
+    return table({key: NAMES[key] for key in columns}, rows)
 
 
 def waiting_part(database: Database, count: int) -> str:
     """Show the first of the orders that wait, of which there are so many."""
     first = orders_of(database, "where state = 'added' order by number limit ?", WAITING)
     more = f'<p class="soft">and {count - len(first)} more</p>' if count > len(first) else ""
-    return f'<h2>Waiting orders</h2>{orders_table(first, *WHOSE, "added")}{more}'
+    return f'<h2>Waiting orders</h2>{orders_table(list(map(row_of, first)), *WHOSE, "added")}{more}'
 
 
 def not_done_part(database: Database, span: Span) -> str:
@@ -92,8 +97,23 @@ def not_done_part(database: Database, span: Span) -> str:
     ended = orders_of(database, f"where {NOT_DONE} and ended >= ? and ended < ? order by ended desc, number desc"
                       " limit ?", span.start, span.end, SHOWN)
     more = f'<p class="soft">the last {SHOWN}</p>' if len(ended) == SHOWN else ""
-    found = orders_table(stuck + ended, *WHOSE, "end", "advice", "ended")
+    rows = [settled_row(order, done_since(database, order)) for order in stuck + ended]
+    found = orders_table(rows, *WHOSE, "end", "advice", "ended")
     return f"<h2>Not done in {escape(span.name)}</h2>{found}{more}"
+
+
+def done_since(database: Database, order: dict) -> Optional[int]:
+    """Give the number of the order by which its luminaire was done later, where that has a serial number."""
+    if order["identification"] is None:
+        return None
+    return database.rows("select min(number) from bench_orders where identification = ? and number > ? and code = 0",
+                         order["identification"], order["number"])[0][0]
+
+
+def settled_row(order: dict, since: Optional[int]) -> tuple[bool, dict]:
+    """Give the row of an order that isn't done; there is nothing to do where its luminaire was done since."""
+    is_left, cells = row_of(order)
+    return (is_left, cells) if since is None else (False, {**cells, "advice": f"done since, as order {link_to(since)}"})
 
 
 # Searches
@@ -122,7 +142,7 @@ def orders_part(database: Database, wanted: dict) -> str:
     """Show the last orders that were begun or ended, or the last of those that are searched for."""
     where = " and ".join(f"{key} = ?" for key in wanted) or "state <> 'added'"
     orders = orders_of(database, f"where {where} order by number desc limit ?", *wanted.values(), SHOWN)
-    found = orders_table(orders, *WHOSE, "end", "sent", "ended", "frames", "misses", "sends")
+    found = orders_table(list(map(row_of, orders)), *WHOSE, "end", "sent", "ended", "frames", "misses", "sends")
     return f"<h2>{'Orders found' if wanted else 'Last orders'}</h2>{found}"
 
 

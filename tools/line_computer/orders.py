@@ -8,11 +8,12 @@ from typing import NamedTuple, Optional
 
 from .database import Database
 from .faults import Refused
-from .identities import identification_of, identity
-from .schema import LIVE, MOST_NUMBER, ROWS
+from .identities import fill_identifications, identity
+from .schema import LIVE, MOST_NUMBER
 
-COLUMNS = ("number", "bus", "reference", "unit", "fields", "gtin", "expected", "state", "added",
-           "identification")
+# So many rows a statement: an older SQLite takes at most 999 values.
+ROWS = 90
+COLUMNS = ("number", "bus", "reference", "unit", "fields", "gtin", "expected", "state", "added")
 
 
 class Item(NamedTuple):
@@ -79,8 +80,7 @@ def add(database: Database, bus: str, items: list[Item], is_same_luminaire: bool
             if before is None:
                 if luminaires:
                     luminaires.want_same(item, len(given) + 1)
-                rows += (number, bus, item.reference, item.unit, item.fields, item.gtin, item.expected, "added", now(),
-                         identification_of(item.fields))
+                rows += (number, bus, item.reference, item.unit, item.fields, item.gtin, item.expected, "added", now())
             elif before[1:] != (item.unit, item.fields):
                 raise Refused(f"item {len(given) + 1} order {item.reference}: the number of order {before[0]} of this"
                               " store, which is another one")
@@ -88,6 +88,7 @@ def add(database: Database, bus: str, items: list[Item], is_same_luminaire: bool
             known.setdefault(item.reference, (number, item.unit, item.fields))
             known.pop(None, None)
         insert(database, rows)
+        fill_identifications(database, following - len(items))
     return given
 
 

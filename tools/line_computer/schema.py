@@ -7,10 +7,8 @@ import uuid
 
 from .database import Database, opened
 from .faults import Failed, Refused
-from .identities import identification_of
+from .identities import fill_identifications
 
-# So many rows a statement: an older SQLite takes at most 999 values.
-ROWS = 90
 BUS = re.compile("[A-Za-z0-9][A-Za-z0-9_-]{0,31}")
 # A number up to this one is read exactly by whatever reads JSON.
 MOST_NUMBER = 2**53 - 1
@@ -121,7 +119,6 @@ create index bench_orders_not_done on bench_orders (ended) where {NOT_DONE};
 # The statements that bring a store up, each from the version that is its place here to the next one.
 MIGRATIONS = (FIRST, SECOND, THIRD)
 IDENTIFIED = 3  # the version from which on an order has its identification number by itself
-FILLED = 500  # orders that get it at once
 
 
 def version_of(database: Database) -> int:
@@ -179,23 +176,6 @@ def bring_up(database: Database) -> None:
                         str(uuid.uuid4()))
     else:
         database.change("update bench_store set version = ?", len(MIGRATIONS))
-
-
-def fill_identifications(database: Database) -> None:
-    """Give each order the identification number that its fields say.
-
-    No statement that both databases take gets it out of the text, which may be no JSON.
-    """
-    last = -1
-    while rows := database.rows("select number, fields from bench_orders where number > ? and fields like ?"
-                                " order by number limit ?", last, '%"identification"%', FILLED):
-        found = [(number, text) for number, fields in rows if (text := identification_of(fields)) is not None]
-        for at in range(0, len(found), ROWS):
-            some = found[at:at + ROWS]
-            cases, places = " ".join(["when ? then ?"] * len(some)), ", ".join("?" * len(some))
-            database.change(f"update bench_orders set identification = case number {cases} end where number in"
-                            f" ({places})", *(it for pair in some for it in pair), *(number for number, _ in some))
-        last = rows[-1][0]
 
 
 def number_of_bus(database: Database, bus: str) -> int:

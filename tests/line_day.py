@@ -13,7 +13,7 @@ from functools import partial, partialmethod
 
 from base import BenchTest, want
 from driven import PATIENCE
-from line_bench import ADAPTER, Bench, Server, processes_of, python, stop, wait_for
+from line_bench import ADAPTER, TO_VERSION_2, Bench, Server, processes_of, python, stop, wait_for
 from line_look import Page, text_of
 
 LEFT, UNIT = 60, 5
@@ -363,11 +363,7 @@ def an_older_journal(bench):
     want(len(bench.does("labels")), 3)
 
 
-# What makes the tables of a version those of the one before.
-TO_2 = ("drop table bench_scans", "drop table bench_stations", "drop index bench_orders_repeats",
-        "drop index bench_orders_repeated_reference", "alter table bench_orders drop column plan",
-        "alter table bench_orders drop column repeats", "alter table bench_orders drop column repeated_reference",
-        "update bench_store set version = 2")
+# What makes the tables of version 2 those of version 1.
 TO_1 = ("drop table bench_withdrawals", "alter table bench_labels drop column printed",
         "alter table bench_orders drop column place", "update bench_store set version = 1")
 
@@ -380,7 +376,7 @@ def a_store_of_version_1(bench):
     process = bench.start(adapter=units(UNIT, frame_time=SLOW))
     wait_for(lambda: bench.states()[4] == "taken")
     want(stop(process), 0)
-    for statement in (*TO_2, *TO_1):
+    for statement in (*TO_VERSION_2, *TO_1):
         change(bench, statement)
     ended = bench.give("status")
     want((ended.status, ended.told),

@@ -11,8 +11,8 @@ import subprocess
 from functools import partialmethod
 
 from base import BenchTest, want
-from line_bench import ABSENT, Bench, Server, processes_of, stop, wait_for
-from line_day import SLOW, TO_2, UNIT, add, change, identified, units
+from line_bench import ABSENT, TO_VERSION_2, Bench, Server, processes_of, stop, wait_for
+from line_day import SLOW, UNIT, add, change, identified, units
 from line_look import Page, text_of
 
 BERLIN = "CET-1CEST,M3.5.0,M10.5.0/3"
@@ -302,7 +302,7 @@ def a_store_of_version_2(bench):
     wait_for(lambda: bench.states()[2] == "taken")
     want(stop(process), 0)
     change(bench, "update bench_orders set told = 'kept 0 Done, known before' where number = 1")
-    for statement in TO_2:
+    for statement in TO_VERSION_2:
         change(bench, statement)
     want(bench.give("again", "1")[::2],
          (1, "error: the store has version 2, and this line computer has 3: `init` brings it up\n"))

@@ -526,7 +526,8 @@ class PageOfStationTest(BenchTest):
         station.asked()
         station.process.kill()
         station.process.wait()
-        self.assertEqual(self.told(SCAN_1), (409, "The station doesn&#x27;t answer, and has not taken the scan."))
+        self.assertEqual(self.told(SCAN_1), (409, "The station isn&#x27;t running."))
+        assert "OFF It hasn't run since" in text_of(self.page.get("/state"))
         # The scan isn't for whoever stands there later.
         station = self.bench.station()
         self.assertEqual(station.asked(), FIRST)

@@ -233,7 +233,7 @@ class ArchiveTest(BenchTest):
         # Cases of examples/ are named without their folder and their ending.
         words |= {f"examples/{word}.{ending}" for word in words for ending in ("json", "cases")}
         named = {word for word in words if (ROOT / word).is_file() and ".." not in word and not word.startswith("/")}
-        adapters = {"adapters/serial_link.py", "adapters/daliserver_link.py", "adapters/simulated_link.py"}
+        adapters = {f"adapters/{it}_link.py" for it in ("serial", "daliserver", "python_dali", "simulated")}
         assert {"docs/LINK.md", "examples/run_left.json", *adapters} <= named, named
         self.assertEqual([name for name in named if not (top / name).is_file()], [])
         links = set(re.findall(r"\]\(([^)#]+)\)", text))

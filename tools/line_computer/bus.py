@@ -94,6 +94,7 @@ class BusProcess:
                 raise Refused(f"the bus {self.bus} has another process: only one `run` of a bus may be at work")
             time.sleep(POLL)
         self.work = Work(self.database, self.bus, self.plan)
+        self.work.say(self.state)
         try:
             self.mark = journals.claim(self.database, self.bus, self.folder)
             journals.recover(self.database, self.bus, self.folder)
@@ -180,7 +181,7 @@ class BusProcess:
         except (Refused, Failed, OSError) as fault:
             self._wait_to_start(why(fault))
             return
-        self.state.state, self.state.number, self.state.frames = "starting", None, None
+        self.state.state, self.state.number, self.state.frames, self.state.spoke = "starting", None, None, now()
         self._say()
 
     def _listen(self, lines: list[str]) -> None:
@@ -199,10 +200,13 @@ class BusProcess:
 
     def _show(self, it: Told) -> None:
         """Show what was told in what the bus says of itself. It may be shown again, where the store was lost."""
+        self.state.spoke = now()
         if isinstance(it, Ready):
             self.state.state = "ready"
         elif isinstance(it, Taken):
             self.state.number = it.number
+        elif isinstance(it, Unaccepted):
+            self.state.number = self.state.frames = None
         elif isinstance(it, Reported):
             self.state.number = self.state.frames = None
             if it.code is None:
@@ -314,6 +318,8 @@ class BusProcess:
         self.unanswered[order.number] += 1
         if self.link.write(order.line()):
             self.sent, self.is_taken, self.sent_at = order.number, False, time.monotonic()
+            if self.state.number != order.number:
+                self.state.number, self.state.frames, self.state.spoke = order.number, 0, now()
         else:
             self.order_waits.begin()
 
@@ -355,7 +361,9 @@ class BusProcess:
     def _say_how_far(self) -> None:
         """Say now and then how many frames of the order were answered."""
         if time.monotonic() - self.said_at > SAY:
-            self.state.frames = self.link.frames()
+            frames = self.link.frames()
+            if frames != self.state.frames:
+                self.state.frames, self.state.spoke = frames, now()
             self._say()
 
     def _rest(self) -> None:

@@ -7,6 +7,7 @@ import contextlib
 import errno
 import os
 import pathlib
+import platform
 import re
 import shlex
 import shutil
@@ -15,13 +16,14 @@ import sys
 import time
 from typing import Callable
 
-from . import (cancelling, incoming, journals, label_template, labels, listing, moments, orders, outputs, page,
-               repeating, scans, schema, server, template)
+from . import (cancelling, incoming, journals, label_template, labels, listing, moments, orders, outputs, repeating,
+               scans, schema, server, spans, standing, template)
 from .arguments import number_of, place_of, read_by, seconds_of
 from .bus import BusProcess
 from .database import STORE, Database, StoreLost
 from .faults import Failed, Refused, plain, why
 from .outputs import write, write_text
+from .page import Look
 from .program import Program
 from .schema import MIGRATIONS, STATES
 from .station import Choices, Station
@@ -128,7 +130,7 @@ def want_adapter(name: str) -> None:
 def on_status(options) -> None:
     """Tell how the buses stand, and how many orders and labels there are."""
     database = schema.open_store(options.store)
-    lines = [f"bus {bus} {page.standing(*rest)}" for bus, *rest in page.bus_rows(database)]
+    lines = [f"bus {it.bus} {it.words()}" for it in standing.buses(database)]
     counts = dict(database.rows("select state, count(*) from bench_orders group by state"))
     done = database.rows("select count(*) from bench_orders where state = 'ended' and code = 0")[0][0]
     left = database.rows("select count(*) from bench_labels where taken is null")[0][0]
@@ -274,6 +276,7 @@ def on_page(options) -> None:
     if not options.anyone_may_read and not server.is_of_this_computer(host):
         raise Refused(f"--listen {options.listen} is open to other computers, and the page asks for no password: leave"
                       " it at 127.0.0.1, behind a server with a password, or let them by --anyone-may-read")
+    look = Look(options.name, spans.clock_times(options.shift) if options.shift else [])
     database = schema.open_store(options.store)
     if options.station:
         schema.number_of_bus(database, options.station)
@@ -281,7 +284,7 @@ def on_page(options) -> None:
     for number in (signal.SIGTERM, signal.SIGINT):
         signal.signal(number, lambda *_: sys.exit(0))
     try:
-        server.serve(options.store, host, port, options.station, lambda url: write([url]))
+        server.serve(options.store, look, host, port, options.station, lambda url: write([url]))
     except OSError as fault:
         more = f": --listen {host}:{port + 1} takes another port" if fault.errno == errno.EADDRINUSE else ""
         raise Failed(f"{options.listen}: {fault.strerror or fault}{more}") from fault
@@ -397,6 +400,10 @@ def make_bus_commands(commands) -> None:
                       " from this computer")
     made.add_argument("--anyone-may-read", action="store_true",
                       help="let other computers read it, which asks for no password")
+    made.add_argument("--name", metavar="NAME", default=platform.node(),
+                      help="what the bench is called in its title (default: as this computer)")
+    made.add_argument("--shift", metavar="TIMES",
+                      help="count by shifts, which begin at these clock times, as 06:00,14:00,22:00")
 
 
 def make_station(commands, bus: dict) -> None:

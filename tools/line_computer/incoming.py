@@ -10,7 +10,8 @@ import re
 import sys
 
 from .faults import Failed, Refused, why
-from .orders import LENGTH_OF_GTIN, Item, spelled
+from .identities import LENGTH_OF_GTIN
+from .orders import Item, spelled
 from .program import Program
 
 # It stands beside this package, and is a program by itself.

@@ -13,9 +13,9 @@ import re
 from typing import Callable, NamedTuple
 
 from .faults import Failed, Refused, plain, why
+from .identities import LENGTH_OF_GTIN
 from .labels import FIELDS, Label
 from .moments import moment
-from .orders import LENGTH_OF_GTIN
 
 PLACEHOLDER = re.compile(r"\{([a-z][a-z0-9_]*)\}")
 # What is made of other members, and of which.

@@ -8,9 +8,9 @@ from typing import Callable, NamedTuple, Optional
 
 from .database import Database
 from .faults import Refused
+from .identities import fill_identifications, identity
 from .schema import LIVE, MOST_NUMBER
 
-LENGTH_OF_GTIN = 14
 # So many rows a statement: an older SQLite takes at most 999 values.
 ROWS = 90
 COLUMNS = ("number", "bus", "reference", "unit", "fields", "gtin", "expected", "state", "added")
@@ -86,6 +86,7 @@ def add(database: Database, bus: str, items: list[Item], is_same_luminaire: bool
             known.setdefault(item.reference, (number, item.unit, item.fields))
             known.pop(None, None)
         insert(database, rows)
+        fill_identifications(database, first)
         if also:
             also(given)
     return given
@@ -125,18 +126,6 @@ class Luminaires:
                 raise Refused(f"{name}: unit {unit} would get {key} {value}, and {who}, {before}: where both are for"
                               " one luminaire, --same-luminaire says so; else add this once that one has ended and the"
                               " next luminaire is there")
-
-
-def identity(fields: str) -> list[tuple[str, str]]:
-    """Give what the fields of an order say of which luminaire it is for, spelled so that the same has the same text."""
-    try:
-        found = json.loads(fields)
-    except ValueError:
-        found = None
-    if not isinstance(found, dict):
-        return []  # another program has put it into the store: `check` refuses it before it is sent
-    return [(key, "unknown" if found[key] is None else str(found[key]).upper().zfill(length))
-            for key, length in (("gtin", LENGTH_OF_GTIN), ("identification", 0)) if key in found]
 
 
 def known_references(database: Database, bus: str, references: list[str]) -> dict:

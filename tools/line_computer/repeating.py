@@ -7,6 +7,7 @@ from typing import NamedTuple, Optional
 from . import orders
 from .database import Database
 from .faults import Refused
+from .identities import fill_identifications
 from .orders import Luminaires, Order, now
 from .program import Program
 from .schema import LIVE, OF_NO_SCAN
@@ -86,6 +87,7 @@ def again(database: Database, numbers: list[int], program: Program, is_same_lumi
                 rows += order.row(new, expected)
             given.append((number, repeat.order.number if repeat else new, repeat is None))
         orders.insert(database, rows, COLUMNS)
+        fill_identifications(database, first)
     return given
 
 

@@ -13,12 +13,13 @@ from typing import Callable, Optional
 from . import station_page
 from .database import Database
 from .faults import Failed, Refused
-from .page import STYLE, document, page_of
+from .page import SCRIPT, STYLE, Look, document, page_of
 from .schema import open_store
 
-HTML, CSS = "text/html; charset=utf-8", "text/css; charset=utf-8"
-# What a browser may do with the page: show it, with our style, and send its form here.
-POLICY = "default-src 'none'; style-src 'self'; form-action 'self'; base-uri 'none'; frame-ancestors 'none'"
+HTML, CSS, SCRIPTS = (f"text/{kind}; charset=utf-8" for kind in ("html", "css", "javascript"))
+# What a browser may do with the page: show it, with our style and our script, and ask and send its form here.
+POLICY = ("default-src 'none'; style-src 'self'; script-src 'self'; connect-src 'self'; form-action 'self';"
+          " base-uri 'none'; frame-ancestors 'none'")
 HEADERS = {
     "X-Content-Type-Options": "nosniff",
     "Referrer-Policy": "no-referrer",
@@ -31,25 +32,27 @@ class Handler(BaseHTTPRequestHandler):
 
     server_version, sys_version, protocol_version = "line_computer", "", "HTTP/1.1"
     timeout = 20  # seconds for a request to come
-    place, station = "", None
+    place, look, station = "", Look("", []), None
 
     def do_GET(self) -> None:
-        """Answer with the page, or its style."""
+        """Answer with the page, its style or its script."""
         path, _, query = self.path.partition("?")
         if path == "/style.css":
             self.answer(HTTPStatus.OK, CSS, STYLE)
+        elif path == "/page.js":
+            self.answer(HTTPStatus.OK, SCRIPTS, SCRIPT)
         elif path == "/":
             self.answer(*self.page(dict(urllib.parse.parse_qsl(query, keep_blank_values=True))))
         elif self.station and path in (station_page.PAGE, station_page.STATE, station_page.CSS_PATH):
             self.answer(*self.station_part(path), policy=station_page.POLICY)
         else:
-            self.answer(HTTPStatus.NOT_FOUND, HTML, document("", "<h1>There is no such page</h1>"))
+            self.answer(HTTPStatus.NOT_FOUND, HTML, document("<h1>There is no such page</h1>"))
 
     do_HEAD = do_GET
 
     def page(self, query: dict) -> tuple[HTTPStatus, str, str]:
         """Give the page, or why there is none."""
-        return self.from_store(lambda database: page_of(database, query))
+        return self.from_store(lambda database: page_of(database, query, self.look))
 
     def from_store(self, make: Callable[[Database], str]) -> tuple[HTTPStatus, str, str]:
         """Give what is made of the store, or why it can't be."""
@@ -61,7 +64,7 @@ class Handler(BaseHTTPRequestHandler):
                 database.close()
         except (Failed, Refused) as fault:
             body = f"<h1>The store can't be used</h1><p>{escape(str(fault))}</p>"
-            return HTTPStatus.SERVICE_UNAVAILABLE, HTML, document("", body)
+            return HTTPStatus.SERVICE_UNAVAILABLE, HTML, document(body)
 
     def station_part(self, path: str) -> tuple[HTTPStatus, str, str]:
         """Give a part of the station's page."""
@@ -130,9 +133,9 @@ def is_of_this_computer(host: str) -> bool:
     return all(ipaddress.ip_address(place[0].partition("%")[0]).is_loopback for *_, place in found)
 
 
-def serve(place: str, host: str, port: int, station: Optional[str], tell: Callable[[str], None]) -> None:
+def serve(place: str, look: Look, host: str, port: int, station: Optional[str], tell: Callable[[str], None]) -> None:
     """Serve the page at a host and a port, with that of a station, and tell its address once it can be reached."""
-    handler = type("Handler", (Handler,), {"place": place, "station": station})
+    handler = type("Handler", (Handler,), {"place": place, "look": look, "station": station})
     kind = type("Server", (Server,), {"address_family": socket.AF_INET6 if ":" in host else socket.AF_INET})
     with kind((host, port), handler) as server:
         name = f"[{host}]" if ":" in host else host

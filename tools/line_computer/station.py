@@ -25,7 +25,7 @@ from .work import SHORT, BusState
 
 # Words that a person types in place of a scan, in capitals or not.
 AGAIN, GIVE_UP = "AGAIN", "GONE"
-SEEN = 2  # seconds between two tellings that the station is there
+SEEN = 10  # seconds between two tellings that the station is there
 FRAME = 0.041  # seconds that a frame takes with its answer, as a rule
 SHORTER = 0.45  # the part of its frames that an order takes by the short plan, as a rule
 SCANNING, ADDRESSING, VERIFYING = 30, 120, 40  # frames, as a rule

@@ -14,9 +14,10 @@ from typing import Optional
 
 from . import stations
 from .database import Database
-from .orders import now
+from .moments import moment
+from .schema import number_of_bus
 from .screen import FAIL, OFF, PASS, SCAN, WORK, with_time
-from .stations import SILENT, Shown
+from .stations import Shown
 
 PAGE, STATE, CSS_PATH = "/station", "/station/state", "/station.css"
 FIELD = "scan"
@@ -50,9 +51,8 @@ def standing(database: Database, bus: str) -> Shown:
     if found is None:
         return Shown(OFF, (f"No station was started at the bus {bus}.",))
     shown, _, seen = found
-    if shown.word != OFF and now() - seen > SILENT:
-        when = time.strftime("%H:%M:%S", time.localtime(seen))
-        return Shown(OFF, (f"The station hasn't run since {when}.", "Leave the luminaire in, and start it again."))
+    if shown.word != OFF and not database.locked({bus: number_of_bus(database, bus)}):
+        return Shown(OFF, (f"It hasn't run since {moment(seen)}.", "Leave the luminaire in, and start the station again."))
     return shown
 
 
@@ -101,9 +101,10 @@ def bring(database: Database, bus: str, scan: str) -> tuple[HTTPStatus, str]:
     """Bring a scan to the station; give the status, and why it isn't taken, where it isn't."""
     if not scan:
         return HTTPStatus.CONFLICT, "The field was empty. Scan again."
+    if standing(database, bus).word == OFF:
+        return HTTPStatus.CONFLICT, "The station isn't running."
     if not stations.post(database, bus, scan):
-        is_off = standing(database, bus).word == OFF
-        return HTTPStatus.CONFLICT, "The station isn't running." if is_off else stations.NOT_TAKEN
+        return HTTPStatus.CONFLICT, stations.NOT_TAKEN
     last = time.monotonic() + PATIENCE
     while time.monotonic() < last:
         answer = stations.answer(database, bus)

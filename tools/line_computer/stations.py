@@ -18,8 +18,6 @@ WRITTEN = "state = 'ended' and code = 0 and told = 'kept 0 Done' and found is nu
 SCANS = "bench_scans join bench_orders on bench_orders.number = bench_scans.number"
 NOT_TAKEN = "The scan wasn't taken: the station was at work. Scan again once it asks for it."
 TAKEN = "taken"
-# A station that hasn't said so long that it is there has no process.
-SILENT = 40
 
 
 class AtHand(NamedTuple):
@@ -147,7 +145,7 @@ def take_posted(database: Database, bus: str) -> Optional[str]:
 def post(database: Database, bus: str, scan: str) -> bool:
     """Have a scan of the page for a station, if it waits for one; tell whether it does."""
     return bool(database.change("update bench_stations set scan = ?, answer = null where bus = ? and waits = 1 and scan"
-                                " is null and seen > ?", scan, bus, now() - SILENT))
+                                " is null", scan, bus))
 
 
 def answer(database: Database, bus: str) -> Optional[str]:

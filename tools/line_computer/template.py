@@ -8,7 +8,8 @@ from typing import NamedTuple, Optional
 
 from . import incoming
 from .faults import Refused, why
-from .orders import LENGTH_OF_GTIN, Item
+from .identities import LENGTH_OF_GTIN
+from .orders import Item
 from .program import Program
 from .scans import Scan, gtin_of, identification_of
 

@@ -6,6 +6,7 @@ from dataclasses import dataclass
 from typing import Optional
 
 from .database import Database
+from .identities import identification_of
 from .orders import Order, now
 from .schema import LIVE, OF_NO_SCAN, SENT
 from .told import REUSED, Ready, Reported, Told, Unaccepted
@@ -26,6 +27,7 @@ class BusState:
     frames: Optional[int] = None  # how many frames of it were answered
     trouble: Optional[str] = None
     since: Optional[int] = None
+    spoke: Optional[int] = None  # when the drive last spoke, or was last spoken to
 
     def is_in(self, trouble: str) -> None:
         """Have the bus in trouble: since now, or as long as it is."""
@@ -65,8 +67,9 @@ class Work:
         with self.database.transaction():
             is_sent = self.database.change(
                 "update bench_orders set state = case state when 'added' then 'sent' else state end, sends = sends + 1,"
-                " sent = coalesce(sent, ?), plan = coalesce(plan, ?), expected = coalesce(?, expected)"
-                f" where number = ? and {LIVE}", now(), self.plan, expected, order.number)
+                " sent = coalesce(sent, ?), plan = coalesce(plan, ?), expected = coalesce(?, expected),"
+                f" identification = coalesce(identification, ?) where number = ? and {LIVE}", now(), self.plan,
+                expected, identification_of(order.fields), order.number)
             moment = self.database.rows("select sent from bench_orders where number = ?", order.number)[0][0]
         return order._replace(state="sent", sent=moment) if is_sent else None
 
@@ -131,8 +134,8 @@ class Work:
     def _say(self, state: BusState) -> None:
         """Keep what the bus says of itself, within a transaction."""
         self.database.change("update bench_states set state = ?, number = ?, frames = ?, trouble = ?, since = ?,"
-                             " seen = ? where bus = ?", state.state, state.number, state.frames, state.trouble,
-                             state.since, now(), self.bus)
+                             " spoke = ?, seen = ? where bus = ?", state.state, state.number, state.frames,
+                             state.trouble, state.since, state.spoke, now(), self.bus)
 
     def is_asked_to_retire(self) -> bool:
         """Tell whether the journal is asked to be retired."""

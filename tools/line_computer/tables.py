@@ -164,11 +164,14 @@ def order_part(database: Database, number: int) -> str:
     if not found:
         return ""
     order, cells = found[0], row_of(found[0])[1]
-    fields, report = database.rows("select fields, report from bench_orders where number = ?", number)[0]
+    fields, report, plan, repeats, repeated = database.rows(
+        "select fields, report, plan, repeats, repeated_reference from bench_orders where number = ?", number)[0]
     labels = database.rows("select taken, printed from bench_labels where number = ?", number)
     told = "" if order["told"] in (None, order["state"]) or order["told"] in cells["end"] else escape(order["told"])
     shown = {NAMES[key]: cells.get(key) for key in ("reference", "bus", "unit")}
-    shown = {**rows_of_fields(fields), **shown}
+    if repeats is not None:
+        shown |= {NAMES["reference"]: escape(repeated or ""), "Repeats": link_to(repeats)}
+    shown = {**rows_of_fields(fields), **shown, "Plan": escape(plan or "")}
     shown |= {NAMES["end"]: cells["end"], "What was told": told, NAMES["advice"]: cells["advice"]}
     shown |= {NAMES[key]: cells.get(key) for key in ("added", "sent", "ended", "sends")}
     shown |= {"Label": escape(label_of(*labels[0]) if labels else "none"), "Report": report_of(report)}

@@ -81,8 +81,8 @@ def document(kind: str, head: str, body: str) -> str:
 
 def why_foreign(client: str, headers, port: int) -> Optional[str]:
     """Tell why a request isn't from a browser on this computer that shows this page, where it isn't."""
-    host = headers.get("Host", "")
-    if not ipaddress.ip_address(client.partition("%")[0]).is_loopback or any(map(headers.get, FORWARDED)):
+    host, address = headers.get("Host", ""), ipaddress.ip_address(client.partition("%")[0])
+    if not (getattr(address, "ipv4_mapped", None) or address).is_loopback or any(map(headers.get, FORWARDED)):
         return "A scan is taken from this computer alone."
     if host not in (f"127.0.0.1:{port}", f"localhost:{port}", f"[::1]:{port}"):
         return f"A scan is taken at 127.0.0.1:{port} and localhost:{port} alone."

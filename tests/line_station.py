@@ -121,7 +121,7 @@ class Person:
                 self.span = time.monotonic() - self.scanned_at
             if not self.here.is_labelled:
                 self.with_label()
-            if self.left > 0 and self.chance.random() < 0.15:
+            if self.left > 0 and self.chance.random() < 0.25:
                 self.forget()
             elif self.left > 0:
                 self.next_one()
@@ -141,7 +141,10 @@ class Person:
     def forget(self):
         """Forget to exchange the luminaire, and scan the next one's number."""
         self.counts["forgotten"] += 1
-        self.scan(serial_of(len(self.luminaires)))
+        if self.chance.random() < 0.5:
+            self.station.scan(serial_of(len(self.luminaires)))
+        else:
+            self.scan(serial_of(len(self.luminaires)))
 
     def see_to(self, serial):
         """See to the luminaire of an order that was broken off: scan it, or another one, or give it up."""

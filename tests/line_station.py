@@ -104,7 +104,12 @@ class Person:
             said = self.asked()
             if said is not None:
                 self.do(said)
-        want(self.station.end(), 0)
+        status = self.station.end()
+        if status == -signal.SIGKILL:  # after the last label
+            self.start()
+            self.asked()
+            status = self.station.end()
+        want(status, 0)
 
     def do(self, said):
         """Do what the station says."""

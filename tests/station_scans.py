@@ -117,7 +117,8 @@ NO_TEMPLATES = {
                                    " number from 0 to 99, or null",
     '{"unit": 64, "year": "now"}': "the template is refused: FILE: item 1: unit: the number 64, and a short address is"
                                    " 0 to 63",
-    '{"unit": 5}': "the template is refused: FILE: item 1: it has no field that could be written",
+    '{"unit": 5}': "the template is refused: FILE: item 1: no field is given, and an order has one at least, as gtin or"
+                   " year",
 }
 
 

@@ -388,6 +388,28 @@ class PlacesTest(BenchTest):
         self.assertEqual((numbers, bench.does("labels")), ([1, 2], []))
         self.assertEqual(station.end(), 0)
 
+    def test_the_short_plan_and_a_label_of_its_own(self):
+        bench = StationBench(self.folder)
+        bench.seat()
+        (self.folder / "label.txt").write_text("{gtin} {identification} {gs1}\n")
+        station = bench.station("bus1", "--short-plan", "--label-command", "sh -c 'cat >>labels'", "--label",
+                                "label.txt")
+        station.asked()
+        self.assertEqual(station.serves(SCAN_1), f"PASS: {NAME_1}. The label of order 1 is out: put it on. {NEXT}")
+        self.assertEqual((self.folder / "labels").read_text(),
+                         f"4006381333931 {NUMBER_1} 010400638133393121{NUMBER_1}\n")
+        self.assertEqual(bench.rows("select plan, frames = expected from bench_orders"), [("short", 1)])
+        self.assertEqual(station.end(), 0)
+        # An order that stands for a scan is repeated by a scan alone: so its number gets one label.
+        ended = bench.give("again", "1")
+        self.assertEqual((ended.status, ended.told),
+                         (1, "error: order 1 stands for a scan of a station: scan its luminaire again there\n"))
+        for words, why in ((("--label", "label.txt"), "--label spells what --to or --label-command gets: name one of"
+                            " them"), (("--to", "x"), "--to takes HOST:PORT, as 192.0.2.7:9100, and not x")):
+            ended = subprocess.run(bench.station_words("bus1", *words), cwd=self.folder, capture_output=True, text=True,
+                                   stdin=subprocess.DEVNULL, check=False)
+            self.assertEqual((ended.returncode, ended.stderr), (1, f"error: {why}\n"))
+
     def test_labels_go_to_a_printer(self):
         bench = StationBench(self.folder)
         bench.seat()

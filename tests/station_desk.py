@@ -12,6 +12,7 @@ import subprocess
 import threading
 import time
 import urllib.parse
+from functools import partialmethod
 
 from base import BenchTest, settings, want
 from line_bench import ADAPTER, SHORT_BANK, Server, wait_for
@@ -281,10 +282,10 @@ class StopTest(BenchTest):
         self.assertEqual(station.end(), 0)
         self.assertEqual((bench.seated(), bench.labels_left()), (bank_with(NUMBER_1), [NUMBER_1]))
 
-    def test_a_stop_at_each_commit(self):
+    def a_stop_at_each_commit(self, part, count):
         """Each time the person scans once more; the luminaire has its numbers and one label, whatever comes."""
         bench = self.bench()
-        bench.pace, number, stops = 0, 1, 0
+        bench.pace, number, stops = 0, 1 + part, 0
         while True:
             for when in ("before", "behind"):
                 serial = f"{2 * number + (when == 'behind'):016X}"
@@ -294,13 +295,17 @@ class StopTest(BenchTest):
                 said = station.asked() if asked and station.scan(serial) else None
                 is_passed = said is not None and said.startswith("PASS")
                 if is_passed and station.end() == 0:
-                    assert stops > 20, stops
+                    assert stops > 20 / count, stops
                     print(f"stops of a station at a commit: {stops}", flush=True)
                     return
                 self.assertEqual((number, when, said if not is_passed else None), (number, when, None))
                 stops += 1
                 self.ends_well(bench, serial)
-            number += 1
+            number += count
+
+    test_a_stop_at_each_commit_part_1 = partialmethod(a_stop_at_each_commit, 0, 3)
+    test_a_stop_at_each_commit_part_2 = partialmethod(a_stop_at_each_commit, 1, 3)
+    test_a_stop_at_each_commit_part_3 = partialmethod(a_stop_at_each_commit, 2, 3)
 
     def ends_well(self, bench, serial):
         """Have a person bring a luminaire to its end after a stop."""

@@ -90,7 +90,7 @@ def open_interface(options):
         want_device(path)
     # By the device itself, whatever link names it: such a name has at most some hundred bytes.
     name = os.path.realpath(path) if os.path.exists(path) else path
-    claim(f"python_dali_link {hashlib.sha256(name.encode()).hexdigest()}", f"another adapter has {options.device}")
+    claim(f"python_dali_link {hashlib.sha256(os.fsencode(name)).hexdigest()}", f"another adapter has {options.device}")
     loop = asyncio.new_event_loop()
     atexit.register(end, loop)
     opening = connected(kind, form.format(options.device))

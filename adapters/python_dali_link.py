@@ -16,9 +16,11 @@ import asyncio
 import atexit
 import contextlib
 import functools
+import hashlib
 import importlib
 import inspect
 import os
+import re
 import sys
 import time
 
@@ -32,6 +34,8 @@ DRIVERS = {
     "hasseb": ("dali.driver.hid:hasseb", "{}"),
     "luba232": ("dali.driver.serial:DriverLubaRs232", "luba232:{}"),
 }
+# What stands before a device's path where a class of the library takes that so.
+URI = re.compile("^[a-z0-9]+:(?=/)")
 # The devices over HID, by maker and product.
 KNOWN = {"17b5:0020": "tridonic", "04cc:0802": "hasseb"}
 HELP = """\
@@ -81,9 +85,12 @@ def open_interface(options):
     """Have the library open the device, for this adapter alone, and pass over the time in which a frame may go out."""
     kind, form = driver_of(options.driver)
     commands = commands_of_library()
-    if options.driver in DRIVERS or options.device.startswith("/"):
-        want_device(options.device)
-    claim(f"python_dali_link {os.path.realpath(options.device)}", f"another adapter has {options.device}")
+    path = URI.sub("", options.device)
+    if options.driver in DRIVERS or path.startswith("/"):
+        want_device(path)
+    # By the device itself, whatever link names it: such a name has at most some hundred bytes.
+    name = os.path.realpath(path) if os.path.exists(path) else path
+    claim(f"python_dali_link {hashlib.sha256(os.fsencode(name)).hexdigest()}", f"another adapter has {options.device}")
     loop = asyncio.new_event_loop()
     atexit.register(end, loop)
     opening = connected(kind, form.format(options.device))

@@ -209,6 +209,11 @@ def test_python_dali_has_one_adapter_at_a_time(folder):
         time.sleep(0.05)
     status, answers, _, told = interface.run(["A303"])
     want((status, answers, told), (2, None, f"error: another adapter has {interface.device}\n"))
+    # Another class of the library names it by a URI.
+    uri = f"other:{interface.device}"
+    interface.device, device = uri, interface.device
+    want(interface.run(["A303"], driver="dali.driver.serial:DriverOther")[3], f"error: another adapter has {uri}\n")
+    interface.device = device
     held.send_signal(signal.SIGKILL)
     want(held.wait(), -signal.SIGKILL)
     want(interface.run(["0B9C"])[:3], (7, ["--"], ["C301", "0B9C"]))

@@ -319,7 +319,7 @@ class BusProcess:
         if self.link.write(order.line()):
             self.sent, self.is_taken, self.sent_at = order.number, False, time.monotonic()
             if self.state.number != order.number:
-                self.state.number, self.state.frames, self.state.spoke = order.number, 0, now()
+                self.state.number, self.state.frames, self.state.spoke = order.number, None, now()
         else:
             self.order_waits.begin()
 

@@ -276,7 +276,8 @@ class Station:
             self.luminaire.address(unit)
         except Refused as fault:
             raise Fault(f"The luminaire got no short address: {fault}.", "See that just one luminaire is in, and to its"
-                        " power and its wire, then scan it again.") from fault
+                        " power and its wire, then scan it again. If it has another short address already, `dali_bench"
+                        f" address --all {unit}` gives it this one.") from fault
         self.given_at = time.monotonic()
 
     # Orders

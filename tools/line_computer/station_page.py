@@ -15,6 +15,7 @@ from typing import Optional
 from . import stations
 from .database import Database
 from .moments import moment
+from .orders import now
 from .schema import number_of_bus
 from .screen import FAIL, OFF, PASS, SCAN, WORK, with_time
 from .stations import Shown
@@ -22,6 +23,7 @@ from .stations import Shown
 PAGE, STATE, CSS_PATH = "/station", "/station/state", "/station.css"
 FIELD = "scan"
 MOST = 4096  # bytes of what the field sends
+SILENT = 60  # seconds after which a station that hasn't said that it is there isn't
 PATIENCE, POLL = 3, 0.1  # seconds for the station to take a scan, and between two looks
 # A browser may put the frame into the page, and neither of both into another one's.
 POLICY = ("default-src 'none'; style-src 'self'; form-action 'self'; base-uri 'none'; frame-src 'self';"
@@ -51,8 +53,11 @@ def standing(database: Database, bus: str) -> Shown:
     if found is None:
         return Shown(OFF, (f"No station was started at the bus {bus}.",))
     shown, _, seen = found
-    if shown.word != OFF and not database.locked({bus: number_of_bus(database, bus)}):
-        return Shown(OFF, (f"It hasn't run since {moment(seen)}.", "Leave the luminaire in, and start the station again."))
+    # Another process may have the bus's lock since then.
+    is_there = database.locked({bus: number_of_bus(database, bus)}) and now() - seen <= SILENT
+    if shown.word != OFF and not is_there:
+        return Shown(OFF, (f"It hasn't run since {moment(seen)}.",
+                           "Leave the luminaire in, and start the station again."))
     return shown
 
 

@@ -488,9 +488,10 @@ class PlacesTest(BenchTest):
         station = bench.station("bus1", "--address", adapter=[*new[:-1], "2"])
         station.asked()
         said = station.serves("1A2E")
-        assert re.fullmatch("FAIL: The luminaire got no short address: unit .*; given 2 missing 0 shared 0. See that"
-                            " just one luminaire is in, and to its power and its wire, then scan it again. If it has"
-                            " another short address already, `dali_bench address --all 5` gives it this one.", said), said
+        remedy = ("See that just one luminaire is in, and to its power and its wire, then scan it again. If it has"
+                  " another short address already, `dali_bench address --all 5` gives it this one.")
+        assert re.fullmatch("FAIL: The luminaire got no short address: unit 5 random [0-9A-F]{6}; given 2 missing 0"
+                            f" shared 0. {remedy}", said), said
         self.assertEqual(bench.states().get(4), None)
         self.assertEqual(station.end(), 0)
 

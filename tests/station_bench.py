@@ -20,6 +20,21 @@ NOT_TAKEN = "The scan wasn't taken: the station was at work. Scan again once it 
 LOOKING = "WORK: Looking at what is there. Don't scan."
 FIRST = "SCAN: Put a luminaire in, then scan it."
 NEXT = "Take the luminaire out. Put the next luminaire in, then scan it."
+SCAN_1, SCAN_2 = f"(01){GTIN}(21)1A2B", f"(01){GTIN}(21)1A2C"
+NUMBER_1, NUMBER_2 = "0000000000001A2B", "0000000000001A2C"
+NAME_1, NAME_2 = "1A2B", "1A2C"
+STAYS = ("Leave its luminaire in, or put it back: {name}. Then scan it once more. If it is gone for good, take out what"
+         " stands there, and type the word GONE.")
+
+
+def passed(name, order):
+    """Give what a station says of a luminaire that gets its label."""
+    return f"PASS: {name}. The label of order {order} is in the store: `labels --take` prints it. {NEXT}"
+
+
+def stopped(name, order):
+    """Give what a station says first after a stop amid an order."""
+    return f"FAIL: The station was stopped amid order {order}. {STAYS.format(name=name)}"
 
 
 def serial_of(number):

@@ -5,8 +5,11 @@ frame: it takes the frame's four hexadecimal digits, and returns the answer as t
 tell what became of the frame it raises `Broken` or OSError. Then nothing more is sent.
 """
 
+import argparse
+import errno
 import os
 import re
+import socket
 import subprocess
 import sys
 
@@ -19,6 +22,7 @@ NO_ANSWER, YES = b"--", b"FF"
 COMPARE, ASK_MISSING, ASK_PRESENT = 0xA900, 0xFF96, 0x91
 # A name by which a command opens a descriptor that it was started with.
 OF_A_DESCRIPTOR = re.compile("/(?:dev|proc/self)/fd/([0-9]+)")
+LONGEST_LIMIT = 60  # seconds
 
 
 class Broken(Exception):
@@ -69,6 +73,36 @@ def only_yes_answers(word):
 def damaged(frame):
     """Give the answer to a frame, of four digits, to which what came is no valid backward frame (docs/LINK.md)."""
     return YES if only_yes_answers(int(frame, 16)) else NO_ANSWER
+
+
+def claim(name, words):
+    """Hold a name on this computer until this program ends; raise with these words where another program holds it."""
+    holder = socket.socket(socket.AF_UNIX)
+    try:
+        holder.bind(f"\0{name}")
+    except OSError as fault:
+        if fault.errno != errno.EADDRINUSE:
+            raise
+        raise OSError(words) from fault
+    holder.detach()
+
+
+def seconds_of(text):
+    """Read a time limit."""
+    try:
+        seconds = float(text)
+    except ValueError:
+        seconds = 0
+    if not 0 < seconds <= LONGEST_LIMIT:
+        raise argparse.ArgumentTypeError(f"{text!r} is no number of seconds over 0, up to {LONGEST_LIMIT}")
+    return seconds
+
+
+def add_time_limit(parser, who):
+    """Add the option of the longest time in which a frame is sent and answered by what carries it."""
+    parser.add_argument("--time-limit", metavar="S", type=seconds_of, default="0.5",
+                        help=f"seconds within which the {who} sends a frame and answers, or never; the first frame"
+                             " waits as long (default: %(default)s)")
 
 
 def words_of(fault):

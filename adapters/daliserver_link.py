@@ -13,20 +13,19 @@ What the server answers where several units answered at once isn't known, so no 
 """
 
 import argparse
-import errno
 import functools
 import select
 import socket
 import sys
 import time
 
-from adapter import NO_ANSWER, Broken, main
+from adapter import NO_ANSWER, Broken, add_time_limit, claim, main
+from devices import add_list
 
 VERSION, SEND = 2, 0
 ANSWER_LENGTH = 4
 # What the server's status says.
 NONE, ANSWERED, ERROR = 0, 1, 255
-LONGEST_LIMIT = 60
 
 
 def open_server(options):
@@ -39,21 +38,11 @@ def open_server(options):
         raise OSError(f"{where} can't be reached: {fault.strerror or fault}: is daliserver running there?") from fault
     if our_end == its_end:
         raise OSError(f"{where} can't be reached: the connection leads back to itself")
-    claim(*its_end[:2])
+    address, port = its_end[:2]
+    claim(f"daliserver_link {address} {port}",
+          f"another adapter is connected to the server at {address}, port {port}")
     want_quiet(server, options.time_limit)
     return functools.partial(carry, server, options.time_limit)
-
-
-def claim(address, port):
-    """Hold a name on this computer until this program ends, so that no second adapter to this server runs beside it."""
-    name = socket.socket(socket.AF_UNIX)
-    try:
-        name.bind(f"\0daliserver_link {address} {port}")
-    except OSError as fault:
-        if fault.errno != errno.EADDRINUSE:
-            raise
-        raise OSError(f"another adapter is connected to the server at {address}, port {port}") from fault
-    name.detach()
 
 
 def has_come(server, seconds):
@@ -113,17 +102,6 @@ def port_number(text):
     return int(text)
 
 
-def seconds_of(text):
-    """Read a time limit."""
-    try:
-        seconds = float(text)
-    except ValueError:
-        seconds = 0
-    if not 0 < seconds <= LONGEST_LIMIT:
-        raise argparse.ArgumentTypeError(f"{text!r} is no number of seconds over 0, up to {LONGEST_LIMIT}")
-    return seconds
-
-
 def parser():
     """Make the reader of the options."""
     made = argparse.ArgumentParser(usage="%(prog)s [options] -- COMMAND WORDS..", allow_abbrev=False,
@@ -133,9 +111,8 @@ def parser():
                       help="where the server runs (default: %(default)s)")
     made.add_argument("--port", metavar="P", type=port_number, default="55825",
                       help="its port (default: %(default)s)")
-    made.add_argument("--time-limit", metavar="S", type=seconds_of, default="0.5",
-                      help="seconds within which the server sends a frame and answers, or never; the first frame waits "
-                           "as long (default: %(default)s)")
+    add_time_limit(made, "server")
+    add_list(made, list, "a daliserver isn't looked for: --host and --port name it")
     return made
 
 

@@ -24,6 +24,7 @@ import termios
 import time
 
 from adapter import NO_ANSWER, Broken, damaged, main, shown
+from devices import add_list, serial_lines
 
 TIME_OUT = 0.5  # seconds; within these the interface sends a frame and replies, or never
 # What ends a line, and the replies that it ends.
@@ -134,6 +135,7 @@ def parser():
                       help="the baud rate (default: %(default)s)")
     made.add_argument("--line-feed", action="store_true",
                       help="lines end with a line feed, and not with a carriage return")
+    add_list(made, serial_lines, "there is no serial line: is the interface plugged in?")
     return made
 
 

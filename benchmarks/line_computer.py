@@ -10,7 +10,8 @@ Orders of a GTIN (112 frames) go to links that answer at once (null_link.c).
 2. The same 10 buses over PostgreSQL, over a link that takes 2 ms a frame, with
    the whole server killed and started again amid them: how long no order comes
    to its end, beside how long that is without a kill.
-3. A store of 100000 orders: the page, a search, and the next step of an order.
+3. A store of 100000 orders of two days, and one of a million of a year: the page, a search, and the next step of an
+   order.
 
 Status 0: every order was done. Status 1: one wasn't. Status 2: a program couldn't
 be built or run. Status 3: an aim isn't held. PostgreSQL and psycopg2 are wanted.
@@ -128,16 +129,16 @@ def measure_kill(place):
                   f" {longest_gap(seen):.1f} s{server_seconds}", flush=True)
 
 
-def measure_many(place, aims):
-    """Measure and print the page and a step over many orders."""
+def measure_many(place, aims, count, days):
+    """Measure and print the page and a step over so many orders of so many days."""
     with tempfile.TemporaryDirectory(dir=place) as folder:
         bench = Bench(pathlib.Path(folder), buses=("bus1", "bus2"))
-        fill(bench, MANY, ("bus1", "bus2"))
+        fill(bench, count, ("bus1", "bus2"), days)
         size = os.path.getsize(bench.store) / 2**20
         with Page(bench) as page:
             pages = page_seconds(page)
         step = step_seconds(bench)
-    print(f"{MANY} orders, {size:.0f} MiB: the page {1000 * pages['']:.0f} ms, the slowest search"
+    print(f"{count} orders of {days} days, {size:.0f} MiB: the page {1000 * pages['']:.0f} ms, the slowest search"
           f" {1000 * max(pages.values()):.0f} ms, an order's steps in the store {1000 * step:.1f} ms", flush=True)
     aims.want(max(pages.values()) < MOST_PAGE, f"a page takes under {1000 * MOST_PAGE:.0f} ms")
     aims.want(step < MOST_STEP, f"an order's steps take under {1000 * MOST_STEP:.0f} ms")
@@ -151,7 +152,8 @@ def measure_all(bench):
     try:
         measure_rates(bench.folder, link)
         measure_kill(bench.folder)
-        measure_many(bench.folder, bench.aims)
+        measure_many(bench.folder, bench.aims, MANY, 2)
+        measure_many(bench.folder, bench.aims, 10 * MANY, 365)
     except unittest.SkipTest as fault:
         raise OSError(str(fault)) from fault
 

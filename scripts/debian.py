@@ -14,6 +14,7 @@ UNPACKED, HOME = b"/opt/dali-bench", "usr/lib/dali-bench"
 MANUAL, COMPLETIONS, SUMS = "dali_bench.1", "completions.bash", "SHA256SUMS"
 COMMANDS = {"dali_bench": "dali_bench", "line_computer": "line_computer", "orders_from_csv": "tools/orders_from_csv",
             "dali_serial_link": "adapters/serial_link.py", "dali_daliserver_link": "adapters/daliserver_link.py",
+            "dali_python_dali_link": "adapters/python_dali_link.py",
             "dali_simulated_link": "adapters/simulated_link.py"}
 COMPLETED = "usr/share/bash-completion/completions"
 CONTROL = """\
@@ -73,6 +74,8 @@ def placed(files):
             data = data.replace(UNPACKED, b"/" + HOME.encode())
             if name.endswith(".service"):
                 found[f"usr/lib/systemd/system/{pathlib.Path(name).name}"] = data, False
+            if name.endswith(".rules"):
+                found[f"usr/lib/udev/rules.d/{pathlib.Path(name).name}"] = data, False
         if name not in (MANUAL, COMPLETIONS, SUMS):
             found[f"{HOME}/{name}"] = data, is_run
     found[f"usr/share/man/man1/{MANUAL}.gz"] = gzip.compress(files[MANUAL][0], mtime=0), False

@@ -68,10 +68,10 @@ def player(words):
     return [sys.executable, "-S", "-E", "-c", PLAYER, *words]
 
 
-def run(script, options, words):
+def run(script, options, words, **more):
     """Run a script with a stand-in command; return its status, the answers and all of standard error."""
     command = [sys.executable, script, *map(str, options), "--", *player(words)]
-    ended = subprocess.run(command, stdin=subprocess.DEVNULL, capture_output=True, text=True, timeout=20)
+    ended = subprocess.run(command, stdin=subprocess.DEVNULL, capture_output=True, text=True, timeout=20, **more)
     assert ended.stdout == "", ended.stdout
     answers = re.search("^answers (.*)$", ended.stderr, re.MULTILINE)
     return ended.returncode, answers[1].split() if answers else None, ended.stderr

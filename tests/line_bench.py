@@ -36,6 +36,15 @@ LOST = (SILENT, DOUBT, DOUBT_OPEN)
 BY_HAND = "kept 4 Doubt, by hand"
 SHORT_BANK = bytes([0x12] + 16 * [0xFF] + [0x00, 0x03])
 LOSSES = "3,40,41,90,150,151,152,300,420,421,555,700,901,1100,1300,1301"
+# What takes back the third version of a store.
+TO_VERSION_2 = (
+    *(f"drop table bench_{name}" for name in ("scans", "stations")),
+    *(f"drop index bench_orders_{name}" for name in ("repeats", "repeated_reference")),
+    *(f"alter table bench_orders drop column {name}" for name in ("plan", "repeats", "repeated_reference")),
+    *(f"drop index bench_orders_{name}" for name in ("identification", "reference", "quarter", "not_done")),
+    "alter table bench_orders drop column identification", "alter table bench_states drop column spoke",
+    "create index bench_orders_hour on bench_orders ((ended / 3600), state, code)",
+    "update bench_store set version = 2")
 LIVE = ("added", "sent", "taken", "blocked", "full")
 COLUMNS = "number, bus, unit, fields, state, code, sent, told, report"
 
@@ -96,7 +105,8 @@ class Bench:
     def words(self, command, *words, crash=()):
         """Give the words of a command; with `crash` it is killed there, as tests/line_crash.py says."""
         starter = [CRASHING, *crash] if crash else [PROGRAM]
-        program = ["--program", settings["program"]] if command in ("add", "cancel", "run", "retire") else []
+        is_asking = command in ("add", "again", "cancel", "run", "retire", "station")
+        program = ["--program", settings["program"]] if is_asking else []
         return [self.python, *starter, command, "--store", self.store, *program, *words]
 
     def give(self, command, *words, given=b"", crash=(), **options):

@@ -1,4 +1,5 @@
-"""A storm of kills in which orders are cancelled, journals retired and given up, labels taken by a printer that jams.
+"""A storm of kills in which orders are cancelled and repeated, journals retired and given up, labels taken by a printer
+that jams.
 
     line_day_storm.py [KILLS [SEED]]
 
@@ -36,6 +37,8 @@ class DayStorm(Storm):
         super().__init__(bench, chance, kills, server)
         bench.is_lossy, bench.pace = True, PACE
         self.seen, self.cancelled, self.killed_takers = [], set(), 0
+        self.template = bench.folder / "label.json"
+        self.template.write_text('{"order": {order}}\n')
 
     def keep_alive(self):
         """Start what has ended, now and then over a bus that loses a row of frames, so that units are left."""
@@ -49,7 +52,8 @@ class DayStorm(Storm):
 
     def kill(self):
         """Do what a person does, and then kill one of the victims."""
-        self.chance.choice((self.cancel, self.cancel, self.retire, self.give_up, self.print, self.print))()
+        self.chance.choice((self.cancel, self.cancel, self.repeat, self.repeat, self.retire, self.give_up, self.print,
+                            self.print))()
         super().kill()
 
     def ended(self, command, *words, seconds=None):
@@ -92,6 +96,18 @@ class DayStorm(Storm):
         is_told = re.search("is at work|has ended|can't be cancelled now", told)
         assert status == 0 or is_told or seconds is not None or self.server, (status, told)
 
+    def repeat(self):
+        """Repeat an order that came to no good end, or was cancelled, and break that off now and then."""
+        found = self.bench.rows("select number from bench_orders where state in ('ended', 'cancelled') and"
+                                " (code is null or code <> 0)")
+        if not found:
+            return
+        number = str(self.chance.choice(found)[0])
+        seconds = self.chance.choice((None, self.chance.uniform(0, 0.3)))
+        status, output, told = self.ended("again", number, seconds=seconds)
+        self.counts["repeated"] += f" repeats {number}" in output
+        assert status == 0 or "was repeated by order" in told or seconds is not None or self.server, (status, told)
+
     def retire(self):
         """Retire a journal beside the work of its bus, and withdraw that now and then."""
         seconds = self.chance.choice((1, self.chance.uniform(0, 0.5)))
@@ -111,7 +127,8 @@ class DayStorm(Storm):
     def print(self):
         """Take labels by a printer that takes some and then jams: it goes, or hangs until somebody ends it."""
         reads, writes = os.pipe()
-        taker = subprocess.Popen(self.bench.words("labels", "--take"), cwd=self.bench.folder, stdout=writes,
+        spelled = self.chance.choice(((), ("--template", self.template)))
+        taker = subprocess.Popen(self.bench.words("labels", "--take", *spelled), cwd=self.bench.folder, stdout=writes,
                                  stderr=subprocess.DEVNULL)
         os.close(writes)
         got = b""
@@ -141,6 +158,9 @@ class DayStorm(Storm):
         states = self.bench.states()
         want({number: states[number] for number in self.cancelled}, dict.fromkeys(self.cancelled, "cancelled"))
         labels = [number for number, in self.bench.rows("select number from bench_labels order by number")]
+        want(self.bench.rows("select count(*) from bench_orders anew join bench_orders tried on tried.number ="
+                             " anew.repeats where anew.bus <> tried.bus or anew.unit <> tried.unit or anew.fields <>"
+                             " tried.fields or tried.code = 0"), [(0,)])
         self.seen += [json.loads(line)["order"] for line in self.labels]
         want(sorted(set(self.seen)), labels)
         assert len(self.seen) - len(labels) <= self.killed_takers + (self.counts["server"] + self.counts["backend"]), (
@@ -173,6 +193,7 @@ class DayStormTest(BenchTest):
     def test_a_storm_over_a_day(self):
         counts = storm(Bench(self.folder, buses=BUSES), SHORT_KILLS, SEED)
         assert counts["jams"] > 2 and counts["given up"] > 0 and counts["cancelled, added"] > 0, counts
+        assert counts["repeated"] > 0, counts
 
 
 def main(arguments):

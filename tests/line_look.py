@@ -20,7 +20,8 @@ from driven import ROOT
 from line_bench import ABSENT, Bench, Server, wait_for
 
 MANY = 100000
-MOST_PAGE, MOST_STEP = 0.2, 0.005
+# Seconds for a page, over the last 24 hours of a store, and for the steps of an order.
+MOST_PAGE, MOST_STEP = 0.25, 0.005
 NASTY = "<script>alert('\"&')</script>"
 CODES = (0,) * 60 + (1, 2, 3, 3, 4, 5)
 NAMES = ("Done", "Short", "Format", "Silent", "Doubt", "DoubtOpen")
@@ -53,25 +54,27 @@ def text_of(page):
     return re.sub(r"\s+", " ", html.unescape(re.sub("<[^>]*>", " ", page)))
 
 
-def fill(bench, count, buses):
-    """Put orders of the last two days into a store of SQLite, as they stand behind their ends; the last are to do."""
+def fill(bench, count, buses, days=2):
+    """Put orders of some days into a store of SQLite, as they stand behind their ends; the last are to do."""
     chance, now = random.Random(7), int(time.time())
     rows, labels = [], []
     for number in range(1, count + 1):
         is_left = number > count - 20
         code = None if is_left else chance.choice(CODES)
-        ended = None if is_left else now - (count - number) * 172800 // count
+        ended = None if is_left else now - (count - number) * 86400 * days // count
         bus = chance.choice(buses)
         misses = int(chance.expovariate(1 / (1 + 30 * number / count if bus == buses[-1] else 1)))
-        rows.append((number, bus, number % 64, json.dumps({"gtin": f"{number:013}"}), f"{number:014}", 112,
-                     "added" if is_left else "ended", code, now - 172800, ended and ended - 5, ended,
+        serial = f"{7919 * number:016X}"
+        fields = json.dumps({"gtin": f"{number:013}", "identification": serial})
+        rows.append((number, bus, str(70000000 + number), number % 64, fields, f"{number:014}", serial, 112,
+                     "added" if is_left else "ended", code, now - 86400 * days, ended and ended - 5, ended,
                      0 if is_left else 1, None if is_left else f"kept {code} {NAMES[code]}",
                      None if is_left else 112 + 7 * misses, None if is_left else misses))
         labels += [(number, ended)] if code == 0 else []
     with sqlite3.connect(bench.store) as connection:
         connection.executemany(
-            "insert into bench_orders (number, bus, unit, fields, gtin, expected, state, code, added, sent, ended,"
-            f" sends, told, frames, misses) values ({', '.join('?' * 15)})", rows)
+            "insert into bench_orders (number, bus, reference, unit, fields, gtin, identification, expected, state,"
+            f" code, added, sent, ended, sends, told, frames, misses) values ({', '.join('?' * 17)})", rows)
         connection.executemany("insert into bench_labels (number, made) values (?, ?)", labels)
         connection.execute("update bench_store set following = ?", (count + 1,))
     connection.close()
@@ -107,7 +110,8 @@ print(min(times))
 def page_seconds(page):
     """Measure the page and searches; give the least seconds of each."""
     found = {}
-    for query in ("", "?unit=5", "?gtin=77777", "?number=500", "?number=99999&unit=31"):
+    for query in ("", "?unit=5", "?gtin=77777", "?number=500", "?number=99999&unit=31", "?reference=70000500",
+                  "?identification=3C6AC4", "?identification=0&unit=5"):
         times = []
         for _ in range(5):
             began = time.perf_counter()
@@ -142,7 +146,7 @@ class PageTest(BenchTest):
         bench.add([(5, 25, 1)], "bus2")
         with Page(bench) as page:
             text = text_of(page.get())
-            for words in ("bus1 not running since", "1 to do", "1 done in 24 hours", "1 not done in these",
+            for words in ("bus1 not running since", "1 to do", "1 done in the last 24 hours", "1 not done in it",
                           "1 labels left", "kept 0 Done", "kept 3 Silent", "Orders by hour and end",
                           "Frames that missed, by order"):
                 assert words in text, (words, text)
@@ -157,14 +161,16 @@ class PageTest(BenchTest):
             for query, wanted in {"?unit=5": {1, 3}, "?unit=9": {2}, "?gtin=4006381333931": {1}, "?gtin=96385074": {2},
                                   "?gtin=00000096385074": {2}, "?number=3": {3}, "?unit=5&number=1": {1},
                                   "?unit=63": set(), "?number=99999999999999999999": set(),
-                                  "?unit=%27%20or%201=1": set(), "?number=x&unit=5": {1, 3}, "": set()}.items():
+                                  "?unit=%27%20or%201=1": set(), "?number=x&unit=5": {1, 3},
+                                  "": {1, 2, 3}}.items():
                 found = set(map(int, re.findall(r'<a href="/\?number=([0-9]+)">', page.get(query))))
                 self.assertEqual((query, found), (query, wanted))
             detail = page.get("?number=3")
-            assert html.escape(NASTY) in detail and "<script" not in detail, detail
-            assert "reference 7" in text_of(page.get("?number=2"))
+            assert html.escape(NASTY) in detail and NASTY not in detail, detail
+            assert "Reference 7" in text_of(page.get("?number=2"))
             nasty = urllib.request.quote(NASTY)
-            assert "<script" not in page.get(f"?number={nasty}"), "a search isn't escaped"
+            for key in ("number", "reference", "identification", "back", "day"):
+                assert NASTY not in page.get(f"?{key}={nasty}"), f"{key} isn't escaped"
 
     def test_the_page_changes_nothing(self):
         bench = Bench(self.folder)
@@ -172,8 +178,8 @@ class PageTest(BenchTest):
         before = bench.rows("select * from bench_orders"), bench.rows("select * from bench_states")
         with Page(bench) as page:
             host = page.url.split("/")[2]
-            statuses = {"GET /": 200, "HEAD /": 200, "GET /style.css": 200, "GET /other": 404, "GET /../orders.db": 404,
-                        "POST /": 501, "PUT /": 501, "DELETE /": 501}
+            statuses = {"GET /": 200, "HEAD /": 200, "GET /style.css": 200, "GET /page.js": 200, "GET /other": 404,
+                        "GET /../orders.db": 404, "POST /": 501, "PUT /": 501, "DELETE /": 501}
             for request, status in statuses.items():
                 connection = http.client.HTTPConnection(host, timeout=20)
                 connection.request(*request.split(), body=b"" if request[0] in "PD" else None)
@@ -181,12 +187,15 @@ class PageTest(BenchTest):
                 self.assertEqual((request, answer.status), (request, status))
                 if status == 200:
                     policy = answer.getheader("Content-Security-Policy")
-                    assert "default-src 'none'" in policy and "script" not in policy, policy
+                    # Its own script alone, and no other place is asked.
+                    self.assertEqual(policy, "default-src 'none'; style-src 'self'; script-src 'self';"
+                                     " connect-src 'self'; form-action 'self'; base-uri 'none'; frame-ancestors 'none'")
                     assert answer.getheader("X-Content-Type-Options") == "nosniff"
                 self.assertEqual((request, answer.read() == b""), (request, request.startswith("HEAD")))
                 connection.close()
             text = page.get()
-            self.assertEqual(re.findall("<script|javascript:|https?://| on[a-z]+=", text), [])
+            self.assertEqual(re.findall("<script[^>]*>|javascript:|https?://| on[a-z]+=", text),
+                             ['<script src="/page.js" defer>'])
             # Nobody but this computer reaches it.
             port = int(host.rsplit(":", 1)[1])
             listening = subprocess.run(["ss", "-Hltn"], capture_output=True, text=True, check=False).stdout

@@ -113,8 +113,8 @@ class OrdersTest(BenchTest):
             connection.execute("delete from bench_orders")
         connection.close()
         self.assertEqual(bench.does("add", "-", given=b'[{"unit":5,"year":24}]')[0], "item 1 order 181")
-        self.assertEqual(bench.does("init", "--first", "7"), ["store of version 2"])
-        self.assertEqual(bench.does("init", "--first", "1000"), ["store of version 2"])
+        self.assertEqual(bench.does("init", "--first", "7"), ["store of version 3"])
+        self.assertEqual(bench.does("init", "--first", "1000"), ["store of version 3"])
         self.assertEqual(bench.does("add", "-", given=b'[{"unit":5,"year":24}]')[0], "item 1 order 1000")
         bench.does("init", "--first", str(2**53 - 2))
         self.assertEqual(bench.give("add", "-", given=b'[{"unit":5,"year":24},{"unit":5,"year":24}]').status, 1)
@@ -153,11 +153,11 @@ def mistakes(folder):
         (("add", "--program", "/none", "-"), 2, "error: dali_bench can't be started: /none: No such file or directory"),
         (("add", "--program", "/bin/false", "-"), 2, "error: dali_bench check ended with status 1: "),
         (("run", "--bus", "bus9", *adapter), 1, "error: there is no bus bus9: `init --bus bus9` makes it"),
-        (("run", "--bus", "bus1"), 1, "error: `run` takes the adapter and its words behind --"),
+        (("run", "--bus", "bus1"), 1, "error: `run` and `station` take the adapter and its words behind --"),
         (("run", *adapter), 1, "error: the following arguments are required: --bus"),
         (("run", "--bus", "bus1", "--longest-wait", "-3", *adapter), 1, "error: argument --longest-wait: "),
         (("run", "--bus", "bus1", "--folder", "/proc/none", *adapter), 2, "error: /proc/none: "),
-        (("status", "--", "true"), 1, "error: `run` takes the adapter and its words behind --"),
+        (("status", "--", "true"), 1, "error: `run` and `station` take the adapter and its words behind --"),
         (("status", "--store", missing), 2, f"error: there is no store: {missing}: `init` makes one; --store, or"),
         (("status", "--store", "missing.db"), 2, f"error: there is no store: {missing}: `init` makes one; --store"),
         (("status", "--store", "text"), 2, f"error: the store can't be used: file is not a database: {folder / 'text'}:"
@@ -171,8 +171,8 @@ def mistakes(folder):
          f"error: the adapter may not be run: `chmod +x` lets it: {folder / 'text'}"),
         (("cancel",), 1, "error: the following arguments are required: N"),
         (("labels", "--take", "--again", "1"), 1, "error: argument --again: not allowed with argument --take"),
-        (("labels", "--printer", "127.0.0.1:9100"), 1, "error: a command behind --, or --printer, stands beside"),
-        (("labels", "--take", "--printer", "9100"), 1, "error: --printer takes HOST:PORT, as 127.0.0.1:8080, and not"),
+        (("labels", "--printer", "127.0.0.1:9100"), 1, "error: a command behind --, or --to, stands beside"),
+        (("labels", "--take", "--printer", "9100"), 1, "error: --to takes HOST:PORT, as 192.0.2.7:9100, and not 9100"),
         (("status", "--store", str(folder / "empty")), 2, "error: there is no store in this database: `init` makes"),
         (("status", "--store", "mysql://host/db"), 1, "error: a store is a file, or postgresql://..., and not mysql"),
         (("init", "--store", "/none/orders.db"), 2, "error: the store can't be used: /none/orders.db: No such file or"),
@@ -214,13 +214,13 @@ class MistakesTest(BenchTest):
     def test_a_store_of_another_version_is_told(self):
         bench = Bench(self.folder)
         bench.does("add", "-", given=b'[{"unit":5,"year":24}]')
-        for version, what in ((3, "use the line computer that made it"), (0, "")):
+        for version, what in ((4, "use the line computer that made it"), (0, "")):
             with sqlite3.connect(bench.store) as connection:
                 connection.execute("update bench_store set version = ?", (version,))
             connection.close()
             for command in (("status",), ("add", "-"), ("labels",), ("cancel", "1")):
                 ended = bench.give(*command, given=b'[{"unit":5,"year":24}]')
-                wanted = f"error: the store has version {version}, and this line computer has 2: {what}"
+                wanted = f"error: the store has version {version}, and this line computer has 3: {what}"
                 if version:
                     self.assertEqual((command, ended.status, ended.told), (command, 1, wanted + "\n"))
                 else:
@@ -248,7 +248,7 @@ def judge_migration(bench):
                                cwd=bench.folder, capture_output=True, text=True, check=False)
         return ended.returncode, ended.stdout, ended.stderr
 
-    older = "error: the store has version 2, and this line computer has 3: `init` brings it up\n"
+    older = "error: the store has version 3, and this line computer has 4: `init` brings it up\n"
     want(later("status"), (1, "", older))
     process = bench.start()
     while bench.rows("select state from bench_states where bus = 'bus1'")[0][0] != "ready":
@@ -256,13 +256,13 @@ def judge_migration(bench):
     want(later("init"), (1, "", "error: the bus bus1 is at work: end its `run` first\n"))
     process.terminate()
     process.wait()
-    want(later("init"), (0, "store of version 3\n", ""))
-    want(later("init"), (0, "store of version 3\n", ""))
+    want(later("init"), (0, "store of version 4\n", ""))
+    want(later("init"), (0, "store of version 4\n", ""))
     want(later("orders"), (0, "order 1 bus bus1 unit 5 ended: kept 0 Done\n", ""))
     want(bench.rows("select count(*), count(remark) from bench_orders"), [(1, 0)])
-    want(bench.give("status")[::2], (1, "error: the store has version 3, and this line computer has 2: use the line"
+    want(bench.give("status")[::2], (1, "error: the store has version 4, and this line computer has 3: use the line"
                                      " computer that made it\n"))
-    want(bench.give("init")[::2], (1, "error: the store has version 3, and this line computer has 2\n"))
+    want(bench.give("init")[::2], (1, "error: the store has version 4, and this line computer has 3\n"))
 
 
 class StoreTest(BenchTest):
@@ -343,7 +343,7 @@ class OutputsTest(BenchTest):
         judge(bench)
 
     def test_help_of_each_command(self):
-        commands = ("init", "add", "run", "status", "orders", "cancel", "labels", "retire", "page")
+        commands = ("init", "add", "run", "status", "orders", "again", "cancel", "labels", "retire", "page")
         ended = subprocess.run([PROGRAM, "--help"], capture_output=True, text=True, check=False)
         self.assertEqual((ended.returncode, ended.stderr), (0, ""))
         for command in commands:

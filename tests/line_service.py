@@ -68,6 +68,7 @@ class ServiceTest(BenchTest):
     def test_two_buses_of_the_service_are_killed(self):
         chance = random.Random(20261129)
         services = [Service(self.folder, name) for name in ("bus1", "bus2")]
+        services[1].variables["OPTIONS"] += " --short-plan"
         for service in services:
             service.start()
         store = self.folder / "states" / "dali-bench" / "orders.db"
@@ -87,6 +88,8 @@ class ServiceTest(BenchTest):
             self.assertEqual(service.end(getattr(signal, service.keys["KillSignal"][0])), 0)
             self.assertEqual(processes_of(service.main.pid), {})
         judge(bench, ("bus1", "bus2"))
+        self.assertEqual(bench.rows("select distinct bus, plan from bench_orders order by bus"),
+                         [("bus1", "checked"), ("bus2", "short")])
         # The group may add orders and take labels, and others may do nothing.
         for path in (store, store.parent, store.parent / "bus1" / "bench.journal"):
             mode = path.stat().st_mode

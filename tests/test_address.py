@@ -14,7 +14,7 @@ sys.dont_write_bytecode = True
 
 import beside  # noqa: E402
 
-MODULES = ("address_units", "address_streams")
+MODULES = ("address_units", "address_streams", "address_library")
 
 if __name__ == "__main__":
     sys.exit(beside.main(__doc__, MODULES, sys.argv[1:]))

@@ -15,7 +15,9 @@ sys.dont_write_bytecode = True
 
 import beside  # noqa: E402
 
-MODULES = ("line_storm", "line_day_storm", "line_process", "line_look", "line_day", "line_orders", "line_service")
+MODULES = ("line_storm", "line_day_storm", "line_process", "line_look", "line_shift", "line_day", "line_orders",
+           "line_labels", "line_listing", "line_service", "line_station", "station_desk", "station_places",
+           "station_scans")
 
 if __name__ == "__main__":
     sys.exit(beside.main(__doc__, MODULES, sys.argv[1:]))

@@ -84,7 +84,7 @@ class PackageTest(BenchTest):
         root = package(self.folder)[1]
         self.assertEqual((root / HOME / "program/dali_bench").read_bytes() == settings["program"].read_bytes(), True)
         self.assertEqual(run([root / "usr/bin/dali_bench", "frame", "a303"]), (0, "A303 DTR0 03\n", ""))
-        for command in ("serial_link", "daliserver_link", "simulated_link"):
+        for command in ("serial_link", "daliserver_link", "python_dali_link", "simulated_link"):
             assert run([root / f"usr/bin/dali_{command}", "--help"])[1].startswith(f"usage: dali_{command} "), command
         (self.folder / "bench").mkdir()
         for path in (root / HOME).iterdir():
@@ -118,6 +118,9 @@ class PackageTest(BenchTest):
         named = set(re.findall(r"/(usr/[\w./@-]+\w)", text))
         self.assertEqual((len(named) > 6, [it for it in named if not (root / it).exists()]), (True, []))
         assert "/opt/" not in "".join(it.read_text() for it in units)
+        # Who may open an interface over HID, and how it is called.
+        rules = (root / "usr/lib/udev/rules.d/60-dali-bench.rules").read_text()
+        self.assertEqual(re.findall('GROUP="([^"]*)", MODE="([^"]*)"', rules), [("dali-bench", "0660")] * 2)
 
     def test_package_says_what_it_is(self):
         path = package(self.folder)[0]
@@ -164,7 +167,7 @@ class PackageTest(BenchTest):
             status, shown, told = within(root, "sh", "-c", f"cd /root && {drive}")
             self.assertEqual((status, told, "gtin 04006381333931\n" in shown), (0, DONE, True))
             words = ["line_computer", "init", "--store", "/root/orders.db", "--bus", "b"]
-            self.assertEqual(within(root, *words), (0, "store of version 2\nbus b\n", ""))
+            self.assertEqual(within(root, *words), (0, "store of version 3\nbus b\n", ""))
             user = within(root, "getent", "passwd", "dali-bench")[1].strip().split(":")
             self.assertEqual(user[5:], ["/var/lib/dali-bench", "/usr/sbin/nologin"])
             self.assertEqual(within(root, "dpkg", "--verify", "dali-bench"), (0, "", ""))

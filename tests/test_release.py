@@ -233,7 +233,7 @@ class ArchiveTest(BenchTest):
         # Cases of examples/ are named without their folder and their ending.
         words |= {f"examples/{word}.{ending}" for word in words for ending in ("json", "cases")}
         named = {word for word in words if (ROOT / word).is_file() and ".." not in word and not word.startswith("/")}
-        adapters = {"adapters/serial_link.py", "adapters/daliserver_link.py", "adapters/simulated_link.py"}
+        adapters = {f"adapters/{it}_link.py" for it in ("serial", "daliserver", "python_dali", "simulated")}
         assert {"docs/LINK.md", "examples/run_left.json", *adapters} <= named, named
         self.assertEqual([name for name in named if not (top / name).is_file()], [])
         links = set(re.findall(r"\]\(([^)#]+)\)", text))
@@ -290,12 +290,13 @@ class ArchiveTest(BenchTest):
     def test_archive_has_the_line_computer(self):
         top = unpacked(self.folder)
         words = [top / "line_computer", "init", "--store", self.folder / "orders.db", "--bus", "bus1"]
-        self.assertEqual(run(words), (0, "store of version 2\nbus bus1\n", ""))
+        self.assertEqual(run(words), (0, "store of version 3\nbus bus1\n", ""))
         orders = self.folder / "orders.csv"
         orders.write_text("unit,year\n5,24\n")
         added = (0, "item 1 order 1\nadded 1 known 0\n", "")
         self.assertEqual(run([top / "line_computer", "add", "--store", self.folder / "orders.db", orders], cwd="/"),
                          added)
+        self.assertEqual((top / "examples" / "label.zpl").read_bytes(), (ROOT / "examples" / "label.zpl").read_bytes())
 
     def test_archive_tells_a_limit_on_the_length_of_files(self):
         top = unpacked(self.folder)

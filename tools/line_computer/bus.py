@@ -21,7 +21,7 @@ from .link import Link
 from .orders import Order, now
 from .program import NOT_BEGUN, Program
 from .told import Ready, Replied, Reported, Taken, Told, Trouble, Unaccepted, told_by
-from .work import BusState, Work
+from .work import CHECKED, SHORT, BusState, Work
 
 POLL = 0.05  # seconds between two looks at what is told
 IDLE = 0.2  # and at the store, where there is no order
@@ -67,7 +67,7 @@ class BusProcess:
         self.link: Optional[Link] = None
         self.state = BusState()
         self.start_waits, self.store_waits, self.order_waits = (Waits(longest_wait) for _ in range(3))
-        self.is_wanted, self.is_until_empty = True, False
+        self.is_wanted, self.is_until_empty, self.plan = True, False, CHECKED
         self.asked_at = 0.0  # when to look whether an order is to be cancelled
         self._forget()
 
@@ -93,7 +93,8 @@ class BusProcess:
             if time.monotonic() > last:
                 raise Refused(f"the bus {self.bus} has another process: only one `run` of a bus may be at work")
             time.sleep(POLL)
-        self.work = Work(self.database, self.bus)
+        self.work = Work(self.database, self.bus, self.plan)
+        self.work.say(self.state)
         try:
             self.mark = journals.claim(self.database, self.bus, self.folder)
             journals.recover(self.database, self.bus, self.folder)
@@ -110,7 +111,7 @@ class BusProcess:
             if not database.lock(self.bus, schema.number_of_bus(database, self.bus)):
                 self._end_link()
                 raise StoreLost(f"the bus {self.bus} is locked by another process, or still by an earlier connection")
-        self.database, self.work = database, Work(database, self.bus)
+        self.database, self.work = database, Work(database, self.bus, self.plan)
 
     def _lose_store(self, fault: Exception) -> None:
         """Close the store, and wait before it is opened again."""
@@ -173,13 +174,14 @@ class BusProcess:
         try:
             journals.recover(self.database, self.bus, self.folder)
             older = journals.older(self.database, self.bus)
-            self.link = Link(self.folder, self.adapter, [self.program.path, "drive"], older)
+            drive = [self.program.path, "drive", *(["--short-plan"] if self.plan == SHORT else [])]
+            self.link = Link(self.folder, self.adapter, drive, older)
         except StoreLost:
             raise
         except (Refused, Failed, OSError) as fault:
             self._wait_to_start(why(fault))
             return
-        self.state.state, self.state.number, self.state.frames = "starting", None, None
+        self.state.state, self.state.number, self.state.frames, self.state.spoke = "starting", None, None, now()
         self._say()
 
     def _listen(self, lines: list[str]) -> None:
@@ -198,10 +200,13 @@ class BusProcess:
 
     def _show(self, it: Told) -> None:
         """Show what was told in what the bus says of itself. It may be shown again, where the store was lost."""
+        self.state.spoke = now()
         if isinstance(it, Ready):
             self.state.state = "ready"
         elif isinstance(it, Taken):
             self.state.number = it.number
+        elif isinstance(it, Unaccepted):
+            self.state.number = self.state.frames = None
         elif isinstance(it, Reported):
             self.state.number = self.state.frames = None
             if it.code is None:
@@ -279,7 +284,7 @@ class BusProcess:
         if self.sent is not None:
             self.tell(f"order {self.sent} is sent again: nothing was told of it in {RESEND} s")
             self.sent = None
-        order = self.work.next_order()
+        order = self._next_order()
         is_asked = (order is None or order.state == "added") and self.work.is_asked_to_retire()
         if is_asked or order is not None and order.state == "full":
             self._retire()
@@ -288,11 +293,17 @@ class BusProcess:
         else:
             self._rest()
 
+    def _next_order(self) -> Optional[Order]:
+        """Give the order that the drive is to be at work on, if there is one."""
+        return self.work.next_order()
+
     def _bring(self, order: Order) -> None:
         """Send an order, the first time once `check` accepts it."""
+        expected = None
         if order.state == "added":
             try:
-                self.program.check([order.object()])
+                checked = self.program.check([order.object()])[0]
+                expected = checked.short_frames if self.plan == SHORT else checked.frames
             except Refused as fault:
                 self.work.refuse(order.number, plain(str(fault)))
                 return
@@ -300,13 +311,15 @@ class BusProcess:
                 self.tell(str(fault))
                 self.order_waits.begin()
                 return
-        order = self.work.send(order)
+        order = self.work.send(order, expected)
         if order is None:
             return
         self.order, self.unbegun_at = order, None
         self.unanswered[order.number] += 1
         if self.link.write(order.line()):
             self.sent, self.is_taken, self.sent_at = order.number, False, time.monotonic()
+            if self.state.number != order.number:
+                self.state.number, self.state.frames, self.state.spoke = order.number, None, now()
         else:
             self.order_waits.begin()
 
@@ -348,7 +361,9 @@ class BusProcess:
     def _say_how_far(self) -> None:
         """Say now and then how many frames of the order were answered."""
         if time.monotonic() - self.said_at > SAY:
-            self.state.frames = self.link.frames()
+            frames = self.link.frames()
+            if frames != self.state.frames:
+                self.state.frames, self.state.spoke = frames, now()
             self._say()
 
     def _rest(self) -> None:

@@ -7,21 +7,28 @@ import contextlib
 import errno
 import os
 import pathlib
+import platform
 import re
+import shlex
 import shutil
 import signal
 import sys
 import time
 from typing import Callable
 
-from . import cancelling, incoming, journals, labels, orders, outputs, page, schema, server
+from . import (cancelling, incoming, journals, label_template, labels, listing, moments, orders, outputs, repeating,
+               scans, schema, server, spans, standing, template)
+from .arguments import number_of, place_of, read_by, seconds_of
 from .bus import BusProcess
 from .database import STORE, Database, StoreLost
 from .faults import Failed, Refused, plain, why
-from .outputs import write
+from .outputs import write, write_text
+from .page import Look
 from .program import Program
-from .schema import MIGRATIONS, MOST_NUMBER, STATES
-from .work import Work
+from .schema import MIGRATIONS, STATES
+from .station import Choices, Station
+from .station_bus import StationBus
+from .work import SHORT, Work
 
 ROOT = pathlib.Path(__file__).resolve().parent.parent.parent
 LONGEST_WAIT = 30.0
@@ -80,10 +87,36 @@ def on_run(options) -> None:
     process = BusProcess(options.store, options.bus, folder, options.words, Program(options.program),
                          options.longest_wait)
     process.is_until_empty = options.until_empty
+    process.plan = SHORT if options.short_plan else process.plan
     for number in (signal.SIGTERM, signal.SIGINT):
         signal.signal(number, lambda *_: setattr(process, "is_wanted", False))
     process.open()
     process.run()
+
+
+def on_station(options) -> None:
+    """Be a station until standard input ends, SIGTERM, or an interrupt from the keyboard."""
+    want_adapter(options.words[0])
+    program = Program(options.program)
+    bus = StationBus(options.store, options.bus, pathlib.Path(options.folder or options.bus), options.words, program,
+                     options.longest_wait)
+    bus.plan = SHORT if options.short_plan else bus.plan
+    choices = Choices(template.read(options.template, options.serial, program), options.address, options.again,
+                      put_of_station(options))
+    for number in (signal.SIGTERM, signal.SIGINT, signal.SIGHUP):
+        signal.signal(number, lambda *_: bus.end())
+    bus.open()
+    Station(bus, choices).run()
+
+
+def put_of_station(options) -> Callable[[labels.Label], None] | None:
+    """Give what puts a label of a station out, if it isn't left in the store."""
+    if options.label and not (options.to or options.label_command):
+        raise Refused("--label spells what --to or --label-command gets: name one of them")
+    spelled = label_template.read(options.label).of if options.label else labels.lined
+    if options.to:
+        return outputs.to_printer(*place_of("--to", options.to, "192.0.2.7:9100"), spelled)
+    return outputs.to_command(shlex.split(options.label_command), spelled) if options.label_command else None
 
 
 def want_adapter(name: str) -> None:
@@ -97,7 +130,7 @@ def want_adapter(name: str) -> None:
 def on_status(options) -> None:
     """Tell how the buses stand, and how many orders and labels there are."""
     database = schema.open_store(options.store)
-    lines = [f"bus {bus} {page.standing(*rest)}" for bus, *rest in page.bus_rows(database)]
+    lines = [f"bus {it.bus} {it.words()}" for it in standing.buses(database)]
     counts = dict(database.rows("select state, count(*) from bench_orders group by state"))
     done = database.rows("select count(*) from bench_orders where state = 'ended' and code = 0")[0][0]
     left = database.rows("select count(*) from bench_labels where taken is null")[0][0]
@@ -106,8 +139,25 @@ def on_status(options) -> None:
 
 
 def on_orders(options) -> None:
-    """List the orders."""
-    write(orders.listed(schema.open_store(options.store), options.state))
+    """List the orders, or those that are chosen."""
+    database = schema.open_store(options.store)
+    if options.bus is not None:
+        schema.number_of_bus(database, options.bus)
+    if None not in (options.since, options.until) and options.since >= options.until:
+        raise Refused("--since isn't before --until, so no order is between them")
+    chosen = listing.Chosen(options.bus, options.reference, options.state, tuple(options.end or ()), options.since,
+                            options.until)
+    if options.csv:
+        write_text(listing.table(database, chosen))
+    else:
+        write(listing.lines(database, chosen))
+
+
+def on_again(options) -> None:
+    """Add orders anew that came to no good end."""
+    database = schema.open_store(options.store)
+    given = repeating.again(database, options.numbers, Program(options.program), options.same_luminaire)
+    write(f"order {repeat} repeats {number}" + ("" if is_new else " known") for number, repeat, is_new in given)
 
 
 def on_cancel(options) -> None:
@@ -123,25 +173,46 @@ def on_cancel(options) -> None:
 
 def on_labels(options) -> None:
     """Put labels out: to standard output, a command or a printer."""
+    want_way_out(options)
     database = schema.open_store(options.store)
-    put = put_of(options)
-    if options.take:
-        labels.take(database, put)
-    elif options.again:
-        labels.again(database, options.again, put)
+    if options.bus is not None:
+        schema.number_of_bus(database, options.bus)
+    template = label_template.read(options.template) if options.template else None
+    numbers, is_again = options.again or options.numbers, bool(options.again)
+    if numbers:
+        found = labels.wanted(database, numbers, is_again)
     else:
-        write(outputs.lines_of((labels.all_of if options.all else labels.left)(database), options.csv))
+        found = (labels.all_of if options.all else labels.left)(database, options.bus)
+    # What can't be put out is refused before anything is.
+    texts = [template.of(label) for label in found] if template else []
+    if options.take or is_again:
+        act = labels.again if is_again else labels.take
+        act(database, found, put_of(options, template.of if template else labels.lined))
+    elif template:
+        write_text("".join(texts))
+    else:
+        write(outputs.lines_of(found, options.csv))
 
 
-def put_of(options) -> Callable[[labels.Label], None]:
-    """Give what puts a label out as the options say."""
+def want_way_out(options) -> None:
+    """Refuse options that don't go together."""
     is_out = options.take or options.again
-    if (options.words or options.printer) and (not is_out or options.csv or options.words and options.printer):
-        raise Refused("a command behind --, or --printer, stands beside --take or --again, and --csv beside neither")
+    if (options.words or options.to) and (not is_out or options.csv or options.words and options.to):
+        raise Refused("a command behind --, or --to, stands beside --take or --again, and --csv beside neither")
+    if options.template and options.csv:
+        raise Refused("--template and --csv are two ways to spell a label: take one")
+    if options.numbers and not options.take:
+        raise Refused("N.. stands beside --take, or behind --again")
+    if options.bus and (options.numbers or options.again):
+        raise Refused("--bus chooses among all labels, and N.. names them: take one")
+
+
+def put_of(options, spelled: Callable[[labels.Label], str]) -> Callable[[labels.Label], None]:
+    """Give what puts a label out as the options say."""
     if options.words:
-        return outputs.to_command(options.words)
-    return outputs.to_printer(*place_of("--printer", options.printer)) if options.printer else \
-        outputs.to_output(options.csv)
+        return outputs.to_command(options.words, spelled)
+    return outputs.to_printer(*place_of("--to", options.to, "192.0.2.7:9100"), spelled) if options.to else \
+        outputs.to_output(options.csv, spelled)
 
 
 def on_retire(options) -> None:
@@ -201,40 +272,22 @@ def retire_here(database: Database, options, name: str | None) -> str:
 
 def on_page(options) -> None:
     """Serve the page until an interrupt."""
-    host, port = place_of("--listen", options.listen)
+    host, port = place_of("--listen", options.listen, "127.0.0.1:8080")
     if not options.anyone_may_read and not server.is_of_this_computer(host):
         raise Refused(f"--listen {options.listen} is open to other computers, and the page asks for no password: leave"
                       " it at 127.0.0.1, behind a server with a password, or let them by --anyone-may-read")
-    schema.open_store(options.store).close()
+    look = Look(options.name, spans.clock_times(options.shift) if options.shift else [])
+    database = schema.open_store(options.store)
+    if options.station:
+        schema.number_of_bus(database, options.station)
+    database.close()
     for number in (signal.SIGTERM, signal.SIGINT):
         signal.signal(number, lambda *_: sys.exit(0))
     try:
-        server.serve(options.store, host, port, lambda url: write([url]))
+        server.serve(options.store, look, host, port, options.station, lambda url: write([url]))
     except OSError as fault:
         more = f": --listen {host}:{port + 1} takes another port" if fault.errno == errno.EADDRINUSE else ""
         raise Failed(f"{options.listen}: {fault.strerror or fault}{more}") from fault
-
-
-def place_of(option: str, text: str) -> tuple[str, int]:
-    """Read the host and the port of an option."""
-    host, _, port = text.rpartition(":")
-    if not host or not re.fullmatch("[0-9]{1,5}", port) or int(port) > 65535:
-        raise Refused(f"{option} takes HOST:PORT, as 127.0.0.1:8080, and not {text}")
-    return host.strip("[]"), int(port)
-
-
-def number_of(text: str) -> int:
-    """Read a number of an order."""
-    if not re.fullmatch("[0-9]{1,16}", text) or int(text) > MOST_NUMBER:
-        raise argparse.ArgumentTypeError(f"{text!r} is no whole number up to {MOST_NUMBER}")
-    return int(text)
-
-
-def seconds_of(text: str) -> float:
-    """Read a number of seconds."""
-    if not re.fullmatch(r"[0-9]{1,6}(\.[0-9]+)?", text):
-        raise argparse.ArgumentTypeError(f"{text!r} is no number of seconds")
-    return float(text)
 
 
 def command(commands, act, about: str, bus: dict | None = None, has_program: bool = False) -> Parser:
@@ -266,15 +319,40 @@ def make_order_commands(commands) -> None:
     made.add_argument("--same-luminaire", action="store_true",
                       help="take orders that give another GTIN or identification number to a unit than one that waits")
     made.add_argument("file", metavar="FILE")
-    made = command(commands, on_orders, "List the orders: a line each, by their numbers.")
-    made.add_argument("--state", choices=STATES, metavar="S", help=f"those alone that are {', '.join(STATES)}")
+    make_listing(commands)
+    made = command(commands, on_again, "Add orders anew that came to no good end: each gets a new number, and is the"
+                   " repeat of the one that is named. All of them or none.", has_program=True)
+    made.add_argument("--same-luminaire", action="store_true", help="as of `add`")
+    made.add_argument("numbers", metavar="N", type=number_of, nargs="+")
     made = command(commands, on_cancel, "Cancel orders that weren't begun: one that was sent too, if the journal of its"
                    " bus never had it. The bus's drive is stopped for that if it has to be.", has_program=True)
     made.add_argument("numbers", metavar="N", type=number_of, nargs="+")
+    make_labels(commands)
+
+
+def make_listing(commands) -> None:
+    """Make the command that lists orders."""
+    made = command(commands, on_orders, "List the orders: a line each, by their numbers.",
+                   {"help": "those of this bus alone"})
+    made.add_argument("--state", choices=STATES, metavar="S", help=f"those alone that are {', '.join(STATES)}")
+    made.add_argument("--end", action="append", metavar="E", type=read_by(listing.end_of),
+                      help=f"those that ended so: {', '.join(listing.CODES)}, 0 to 5, or a state; may be given again")
+    for name, is_end, what in (("--since", False, "from this moment, or date, on"),
+                               ("--until", True, "before this moment, or to the end of this date")):
+        made.add_argument(name, metavar="MOMENT", type=read_by(lambda text, is_end=is_end: moments.read(text, is_end)),
+                          help=f"those that ended {what}, as 2026-11-30 or '2026-11-30 14:00'; one without an end"
+                               " counts as ending now")
+    made.add_argument("--reference", metavar="R", help="the one that has this number where it comes from, and its"
+                                                       " repeats")
+    made.add_argument("--csv", action="store_true", help="as a table (RFC 4180), with all that is known of each")
+
+
+def make_labels(commands) -> None:
+    """Make the command that puts labels out."""
     made = command(commands, on_labels, "Print the labels that nobody has taken: a line of JSON each, with the order's"
                    " fields. With --take or --again a COMMAND behind -- is started for each, with its line as standard"
-                   " input.")
-    made.usage = "line_computer labels [options] [-- COMMAND [WORDS..]]"
+                   " input.", {"help": "those of this bus alone"})
+    made.usage = "line_computer labels [options] [N ...] [-- COMMAND [WORDS..]]"
     which = made.add_mutually_exclusive_group()
     which.add_argument("--take", action="store_true",
                        help="have each taken once it is out, so that it isn't printed again: once it was read, of a"
@@ -283,7 +361,14 @@ def make_order_commands(commands) -> None:
                        help="print those of these orders once more, which were taken, with how often they were printed")
     which.add_argument("--all", action="store_true", help="print those that were taken too")
     made.add_argument("--csv", action="store_true", help="as a table, in place of lines of JSON")
-    made.add_argument("--printer", metavar="HOST:PORT", help="send each over a connection of its own")
+    made.add_argument("--template", metavar="FILE",
+                      help=f"the text of FILE ({', '.join(label_template.KINDS)}) in place of a line of JSON, filled"
+                           " with each label's {gtin}, {identification}, {gs1} ..")
+    way = made.add_mutually_exclusive_group()
+    way.add_argument("--to", metavar="HOST:PORT", help="send each to a printer, over a connection of its own")
+    way.add_argument("--printer", dest="to", metavar="HOST:PORT", help="the same as --to")
+    made.add_argument("numbers", metavar="N", type=number_of, nargs="*",
+                      help="with --take: those of these orders alone")
 
 
 def make_bus_commands(commands) -> None:
@@ -294,8 +379,11 @@ def make_bus_commands(commands) -> None:
     made.usage = "line_computer run [options] --bus B -- ADAPTER [WORDS..]"
     made.add_argument("--folder", metavar="F", help="where the journal of the bus stands (default: B, in this folder)")
     made.add_argument("--until-empty", action="store_true", help="end once no order of the bus is left")
+    made.add_argument("--short-plan", action="store_true",
+                      help="have the drive go by the short plan, which takes fewer frames")
     made.add_argument("--longest-wait", metavar="SECONDS", type=seconds_of, default=LONGEST_WAIT,
                       help="the longest time before what failed is tried again (default: 30)")
+    make_station(commands, bus)
     command(commands, on_status, "Tell how the buses stand, and how many orders and labels there are.")
     made = command(commands, on_retire, "Retire the journal of a bus: it is moved, and named with --older from then on."
                    " Where the bus is at work this waits for the end of its order.", bus, True)
@@ -308,8 +396,36 @@ def make_bus_commands(commands) -> None:
     made = command(commands, on_page, "Show all of it as a page for browsers, which changes nothing.")
     made.add_argument("--listen", metavar="HOST:PORT", default="127.0.0.1:8080",
                       help="where the page is (default: 127.0.0.1:8080)")
+    made.add_argument("--station", metavar="B", help="show the station of this bus too, at /station, which takes a scan"
+                      " from this computer")
     made.add_argument("--anyone-may-read", action="store_true",
                       help="let other computers read it, which asks for no password")
+    made.add_argument("--name", metavar="NAME", default=platform.node(),
+                      help="what the bench is called in its title (default: as this computer)")
+    made.add_argument("--shift", metavar="TIMES",
+                      help="count by shifts, which begin at these clock times, as 06:00,14:00,22:00")
+
+
+def make_station(commands, bus: dict) -> None:
+    """Make the command that is a station."""
+    made = command(commands, on_station, "Write a luminaire for each scan that a scanner types: verify it, and make its"
+                   " label.", bus, True)
+    made.usage = "line_computer station [options] --bus B --template FILE -- ADAPTER [WORDS..]"
+    made.add_argument("--template", metavar="FILE", required=True, help="keys of an order, with `scan` and `now` where"
+                      " the scan and the clock fill them")
+    made.add_argument("--serial", choices=sorted(scans.SERIALS), default="hex",
+                      help="how a scan spells an identification number (default: hex)")
+    made.add_argument("--address", action="store_true", help="give a new luminaire the template's short address first")
+    made.add_argument("--again", action="store_true", help="take scans that were used before, as of a GTIN alone")
+    made.add_argument("--short-plan", action="store_true", help="as of `run`")
+    way = made.add_mutually_exclusive_group()
+    way.add_argument("--to", metavar="HOST:PORT", help="send each label to a printer; else it stays in the store")
+    way.add_argument("--label-command", metavar="WORDS", help="start this for each label, which is its standard input")
+    made.add_argument("--label", metavar="FILE", help="the text of FILE in place of a line of JSON, as `labels"
+                      " --template` fills it")
+    made.add_argument("--folder", metavar="F", help="where the journal of the bus stands (default: B, in this folder)")
+    made.add_argument("--longest-wait", metavar="SECONDS", type=seconds_of, default=LONGEST_WAIT,
+                      help="the longest time before what failed is tried again (default: 30)")
 
 
 def parser() -> Parser:
@@ -328,11 +444,13 @@ def main(arguments: list[str]) -> int:
     words = parser()
     options, unknown = words.parse_known_args(arguments[:end])
     if unknown:
-        more = ": put -- before the adapter" if options.act is on_run else ""
+        more = ": put -- before the adapter" if options.act in (on_run, on_station) else ""
         words.error(f"unrecognized arguments: {' '.join(unknown)}{more}")
     options.words = arguments[end + 1:]
-    if options.act is on_run and not options.words or options.words and options.act not in (on_run, on_labels):
-        words.error("`run` takes the adapter and its words behind --, and `labels` a command; no other one does")
+    if options.act in (on_run, on_station) and not options.words or \
+            options.words and options.act not in (on_run, on_station, on_labels):
+        words.error("`run` and `station` take the adapter and its words behind --, and `labels` a command; no other one"
+                    " does")
     try:
         options.act(options)
     except StoreLost as fault:

@@ -10,6 +10,7 @@ import fcntl
 import os
 import re
 import sqlite3
+import struct
 import sys
 import urllib.parse
 
@@ -23,6 +24,9 @@ URL = re.compile("([a-z0-9+]+)://", re.IGNORECASE)
 # label's lock has one number, its order's with this before it: order's numbers have 53 bits.
 LOCKS = 0x44424C43
 LABELS = 0x15B << 53
+# A lock of a whole file, as the system has it (`struct flock`).
+FLOCK = "hhqqi4x"
+WHOLE_FILE = struct.pack(FLOCK, fcntl.F_WRLCK, os.SEEK_SET, 0, 0, 0)
 
 
 class StoreLost(Failed):
@@ -148,13 +152,29 @@ class SqliteDatabase(Database):
         """Lock a bus until this is closed or its process ends; tell whether that could be."""
         with self.telling_of_lock():
             file = open(f"{self.path}.{bus}.lock", "ab")
-        try:
-            fcntl.flock(file, fcntl.LOCK_EX | fcntl.LOCK_NB)
-        except BlockingIOError:
-            file.close()
-            return False
+            try:
+                fcntl.flock(file, fcntl.LOCK_EX | fcntl.LOCK_NB)
+                # A lock of this kind besides, since who looks at it needs none of its own.
+                fcntl.fcntl(file, fcntl.F_OFD_SETLK, WHOLE_FILE)
+            except BlockingIOError:
+                file.close()
+                return False
         self.locks.append(file)
         return True
+
+    def locked(self, buses: dict[str, int]) -> set[str]:
+        """Give those of these buses that somebody has locked, without a lock of one's own."""
+        return {bus for bus in buses if self._is_locked(bus)}
+
+    def _is_locked(self, bus: str) -> bool:
+        """Tell whether somebody has locked a bus. Where this user may not look, it counts as locked."""
+        try:
+            with open(f"{self.path}.{bus}.lock", "rb") as file:
+                return struct.unpack(FLOCK, fcntl.fcntl(file, fcntl.F_OFD_GETLK, WHOLE_FILE))[0] != fcntl.F_UNLCK
+        except FileNotFoundError:
+            return False
+        except OSError:
+            return True
 
     def lock_label(self, number: int) -> bool:
         """Lock the label of an order, by one byte of a file; tell whether that could be."""
@@ -232,6 +252,13 @@ class PostgresDatabase(Database):
     def lock(self, _: str, number: int) -> bool:
         """Lock a bus until this is closed or its process ends; tell whether that could be."""
         return self.rows("select pg_try_advisory_lock(?, ?)", LOCKS, number)[0][0]
+
+    def locked(self, buses: dict[str, int]) -> set[str]:
+        """Give those of these buses that somebody has locked, without a lock of one's own."""
+        held = {number for number, in self.rows(
+            "select objid from pg_locks where locktype = 'advisory' and classid = ? and objsubid = 2 and granted"
+            " and database = (select oid from pg_database where datname = current_database())", LOCKS)}
+        return {bus for bus, number in buses.items() if number in held}
 
     def lock_label(self, number: int) -> bool:
         """Lock the label of an order; tell whether that could be."""

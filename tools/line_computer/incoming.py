@@ -10,7 +10,8 @@ import re
 import sys
 
 from .faults import Failed, Refused, why
-from .orders import LENGTH_OF_GTIN, Item, spelled
+from .identities import LENGTH_OF_GTIN
+from .orders import Item, spelled
 from .program import Program
 
 # It stands beside this package, and is a program by itself.
@@ -93,7 +94,7 @@ def items_of(data: bytes, is_latin_1: bool, program: Program) -> list[Item]:
     except Refused as fault:
         raise Refused(without_numbers(str(fault), orders), fault.lines) from fault
     items = []
-    for order, (unit, frames) in zip(orders, accepted):
+    for order, (unit, frames, _) in zip(orders, accepted):
         fields = {key: value for key, value in order.items() if key not in ("order", "unit")}
         gtin = fields.get("gtin")
         items.append(Item(str(order["order"]) if "order" in order else None, unit, spelled(fields),

@@ -8,18 +8,18 @@ from __future__ import annotations
 import csv
 import io
 import json
-from typing import Callable, Iterator, NamedTuple, Optional
+from typing import Callable, NamedTuple, Optional
 
 from .database import Database
 from .faults import Refused
 from .orders import now
 
 LABELS = """
-select label.number, bus, unit, reference, fields, ended, printed
+select label.number, bus, unit, coalesce(reference, repeated_reference), fields, ended, printed
 from bench_labels label join bench_orders on bench_orders.number = label.number
 """
-LEFT = f"{LABELS} where taken is null order by label.number"
-ALL = f"{LABELS} order by label.number"
+ALL = f"{LABELS} where bus = coalesce(?, bus) order by label.number"
+LEFT = f"{LABELS} where taken is null and bus = coalesce(?, bus) order by label.number"
 ONE = f"{LABELS} where label.number = ?"
 # The columns of a table of labels: what stands in each, and the fields as they lie in the memory bank.
 FIELDS = ("gtin", "identification", "year", "week", "input_power", "min_dim_power", "min_voltage", "max_voltage",
@@ -58,37 +58,52 @@ class Label(NamedTuple):
 def row_of(cells) -> str:
     """Spell a row of a table (CSV)."""
     text = io.StringIO()
-    csv.writer(text, lineterminator="").writerow(cells)
-    return text.getvalue()
+    csv.writer(text, lineterminator="\n").writerow(cells)
+    return text.getvalue()[:-1]
 
 
-def left(database: Database) -> list[Label]:
-    """Give the labels that nobody has taken."""
-    return [Label(*row) for row in database.rows(LEFT)]
+def lined(label: Label) -> str:
+    """Spell a label as a line of JSON, with its end."""
+    return f"{label.line()}\n"
 
 
-def all_of(database: Database) -> list[Label]:
-    """Give all labels."""
-    return [Label(*row) for row in database.rows(ALL)]
+def label_of(database: Database, number: int) -> Label:
+    """Give the label of an order that has one."""
+    return Label(*database.rows(ONE, number)[0])
 
 
-def take(database: Database, put: Callable[[Label], None]) -> None:
-    """Put out the labels that nobody has taken, each once; each is taken once `put` has ended well.
+def left(database: Database, bus: Optional[str] = None) -> list[Label]:
+    """Give the labels that nobody has taken: all, or those of a bus."""
+    return [Label(*row) for row in database.rows(LEFT, bus)]
+
+
+def all_of(database: Database, bus: Optional[str] = None) -> list[Label]:
+    """Give all labels, or those of a bus."""
+    return [Label(*row) for row in database.rows(ALL, bus)]
+
+
+def take(database: Database, found: list[Label], put: Callable[[Label], None]) -> None:
+    """Put out labels, each once, of which none was taken; each is taken once `put` has ended well.
 
     Whoever takes locks a label before: two who take at once get each once. Behind a kill between its being out and its
     being taken it comes again, with the same number.
     """
-    for label in left(database):
-        with database.holding_label(label.number) as is_held:
-            if is_held and database.rows("select 1 from bench_labels where number = ? and taken is null", label.number):
-                put(label)
-                database.change("update bench_labels set taken = ?, printed = printed + 1 where number = ?", now(),
-                                label.number)
+    for label in found:
+        take_one(database, label, put)
 
 
-def again(database: Database, numbers: list[int], put: Callable[[Label], None]) -> None:
-    """Put out labels of these orders again, which were taken before, and count that."""
-    for label in list(wanted(database, numbers)):
+def take_one(database: Database, label: Label, put: Callable[[Label], None]) -> None:
+    """Put out a label, where nobody has taken it or is just taking it."""
+    with database.holding_label(label.number) as is_held:
+        if is_held and database.rows("select 1 from bench_labels where number = ? and taken is null", label.number):
+            put(label)
+            database.change("update bench_labels set taken = ?, printed = printed + 1 where number = ?", now(),
+                            label.number)
+
+
+def again(database: Database, found: list[Label], put: Callable[[Label], None]) -> None:
+    """Put out labels again, which were taken before, and count that."""
+    for label in found:
         with database.holding_label(label.number) as is_held:
             if not is_held:
                 raise Refused(f"the label of order {label.number} is just being printed")
@@ -96,14 +111,21 @@ def again(database: Database, numbers: list[int], put: Callable[[Label], None]) 
             database.change("update bench_labels set printed = printed + 1 where number = ?", label.number)
 
 
-def wanted(database: Database, numbers: list[int]) -> Iterator[Label]:
-    """Give the labels of these orders. All have to be there, and to have been taken."""
-    for number in dict.fromkeys(numbers):
-        found = database.rows(ONE, number)
-        if not found:
-            states = database.rows("select state, told from bench_orders where number = ?", number)
-            raise Refused(f"order {number} has no label: it stands {states[0][1] or states[0][0]}" if states else
-                          f"there is no order {number}")
-        if not found[0][-1]:
-            raise Refused(f"the label of order {number} wasn't taken yet: `labels --take` prints it")
-        yield Label(*found[0])
+def wanted(database: Database, numbers: list[int], is_again: bool) -> list[Label]:
+    """Give the labels of these orders. All have to be there, and to have been taken before, or none of them."""
+    return [one(database, number, is_again) for number in dict.fromkeys(numbers)]
+
+
+def one(database: Database, number: int, is_again: bool) -> Label:
+    """Give the label of an order."""
+    found = database.rows(ONE, number)
+    if not found:
+        states = database.rows("select state, told from bench_orders where number = ?", number)
+        raise Refused(f"order {number} has no label: it stands {states[0][1] or states[0][0]}" if states else
+                      f"there is no order {number}")
+    label = Label(*found[0])
+    if is_again and not label.printed:
+        raise Refused(f"the label of order {number} wasn't taken yet: `labels --take` prints it")
+    if label.printed and not is_again:
+        raise Refused(f"the label of order {number} was taken: `labels --again {number}` prints it once more")
+    return label

@@ -1,16 +1,16 @@
-"""Orders: how they are added and listed. Each has a number of the store's own, which is never used again."""
+"""Orders: how they are added. Each has a number of the store's own, which is never used again."""
 
 from __future__ import annotations
 
 import json
 import time
-from typing import NamedTuple, Optional
+from typing import Callable, NamedTuple, Optional
 
 from .database import Database
 from .faults import Refused
+from .identities import fill_identifications, identity
 from .schema import LIVE, MOST_NUMBER
 
-LENGTH_OF_GTIN = 14
 # So many rows a statement: an older SQLite takes at most 999 values.
 ROWS = 90
 COLUMNS = ("number", "bus", "reference", "unit", "fields", "gtin", "expected", "state", "added")
@@ -61,25 +61,23 @@ def now() -> int:
     return int(time.time())
 
 
-def add(database: Database, bus: str, items: list[Item], is_same_luminaire: bool = False) -> list[tuple[int, bool]]:
+def add(database: Database, bus: str, items: list[Item], is_same_luminaire: bool = False,
+        also: Optional[Callable[[list], None]] = None) -> list[tuple[int, bool]]:
     """Add all of these orders, or none; give the number of each, and whether it is new.
 
-    One whose reference the bus knows with the same contents is that order, and isn't added again.
+    One whose reference the bus knows with the same contents is that order, and isn't added again. What is to be done
+    in the same transaction is called with what is given.
     """
     with database.transaction():
-        # Whoever adds waits here for whoever adds: what was added before is seen by what follows.
-        database.change("update bench_store set following = following + ?", len(items))
-        following, = database.rows("select following from bench_store")[0]
-        if following > MOST_NUMBER:
-            raise Refused(f"the numbers of this store are used up, at {MOST_NUMBER}")
+        first = take_numbers(database, len(items))
         known = known_references(database, bus, [item.reference for item in items if item.reference])
         luminaires = None if is_same_luminaire else Luminaires(database, bus)
         given, rows = [], []
-        for number, item in enumerate(items, following - len(items)):
+        for number, item in enumerate(items, first):
             before = known.get(item.reference)
             if before is None:
                 if luminaires:
-                    luminaires.want_same(item, len(given) + 1)
+                    luminaires.want_same(item.unit, item.fields, f"item {len(given) + 1}")
                 rows += (number, bus, item.reference, item.unit, item.fields, item.gtin, item.expected, "added", now())
             elif before[1:] != (item.unit, item.fields):
                 raise Refused(f"item {len(given) + 1} order {item.reference}: the number of order {before[0]} of this"
@@ -88,7 +86,22 @@ def add(database: Database, bus: str, items: list[Item], is_same_luminaire: bool
             known.setdefault(item.reference, (number, item.unit, item.fields))
             known.pop(None, None)
         insert(database, rows)
+        fill_identifications(database, first)
+        if also:
+            also(given)
     return given
+
+
+def take_numbers(database: Database, count: int) -> int:
+    """Take so many numbers of the store, within a transaction; give the first.
+
+    Whoever adds waits here for whoever adds: what was added before is seen by what follows.
+    """
+    database.change("update bench_store set following = following + ?", count)
+    following, = database.rows("select following from bench_store")[0]
+    if following > MOST_NUMBER:
+        raise Refused(f"the numbers of this store are used up, at {MOST_NUMBER}")
+    return following - count
 
 
 class Luminaires:
@@ -105,26 +118,14 @@ class Luminaires:
             for key, value in identity(fields):
                 self.known.setdefault((unit, key), (value, f"order {number}, which waits for it"))
 
-    def want_same(self, item: Item, at: int) -> None:
-        """Refuse an item, counted from 1, that says otherwise; else take what it says."""
-        for key, value in identity(item.fields):
-            before, who = self.known.setdefault((item.unit, key), (value, f"item {at}"))
+    def want_same(self, unit: int, fields: str, name: str) -> None:
+        """Refuse an order of this name that says otherwise; else take what it says."""
+        for key, value in identity(fields):
+            before, who = self.known.setdefault((unit, key), (value, name))
             if before != value:
-                raise Refused(f"item {at}: unit {item.unit} would get {key} {value}, and {who}, {before}: where both"
-                              " are for one luminaire, --same-luminaire says so; else add this once that one has ended"
-                              " and the next luminaire is there")
-
-
-def identity(fields: str) -> list[tuple[str, str]]:
-    """Give what the fields of an order say of which luminaire it is for, spelled so that the same has the same text."""
-    try:
-        found = json.loads(fields)
-    except ValueError:
-        found = None
-    if not isinstance(found, dict):
-        return []  # another program has put it into the store: `check` refuses it before it is sent
-    return [(key, "unknown" if found[key] is None else str(found[key]).upper().zfill(length))
-            for key, length in (("gtin", LENGTH_OF_GTIN), ("identification", 0)) if key in found]
+                raise Refused(f"{name}: unit {unit} would get {key} {value}, and {who}, {before}: where both are for"
+                              " one luminaire, --same-luminaire says so; else add this once that one has ended and the"
+                              " next luminaire is there")
 
 
 def known_references(database: Database, bus: str, references: list[str]) -> dict:
@@ -139,19 +140,10 @@ def known_references(database: Database, bus: str, references: list[str]) -> dic
     return found
 
 
-def insert(database: Database, values: list) -> None:
-    """Insert rows of orders, whose values stand one row behind the other."""
-    row = f"({', '.join('?' * len(COLUMNS))})"
-    for at in range(0, len(values), ROWS * len(COLUMNS)):
-        some = values[at:at + ROWS * len(COLUMNS)]
-        rows = ", ".join([row] * (len(some) // len(COLUMNS)))
-        database.change(f"insert into bench_orders ({', '.join(COLUMNS)}) values {rows}", *some)
-
-
-def listed(database: Database, state: str | None) -> list[str]:
-    """Give a line for each order, or for each of a state."""
-    where, values = ("where state = ?", [state]) if state else ("", [])
-    rows = database.rows(f"select number, bus, unit, state, told, reference from bench_orders {where} order by number",
-                         *values)
-    return [f"order {number} bus {bus} unit {unit} {state}" + (f": {told}" if told else "") +
-            (f" (was {reference})" if reference else "") for number, bus, unit, state, told, reference in rows]
+def insert(database: Database, values: list, columns: tuple = COLUMNS) -> None:
+    """Insert rows of orders, whose values in these columns stand one row behind the other."""
+    row = f"({', '.join('?' * len(columns))})"
+    for at in range(0, len(values), ROWS * len(columns)):
+        some = values[at:at + ROWS * len(columns)]
+        rows = ", ".join([row] * (len(some) // len(columns)))
+        database.change(f"insert into bench_orders ({', '.join(columns)}) values {rows}", *some)

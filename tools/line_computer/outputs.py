@@ -15,7 +15,7 @@ import time
 from typing import Callable, Iterable
 
 from .faults import Failed, why
-from .labels import COLUMNS, Label, row_of
+from .labels import COLUMNS, Label, lined, row_of
 
 POLL = 0.002  # seconds between two looks whether what was written was read
 PATIENCE = 30  # seconds for a printer to take a label
@@ -24,7 +24,12 @@ INT = struct.Struct("i")
 
 def write(lines: Iterable[str]) -> None:
     """Write lines to standard output, all of them before this returns."""
-    remaining = memoryview("".join(f"{line}\n" for line in lines).encode())
+    write_text("".join(f"{line}\n" for line in lines))
+
+
+def write_text(text: str) -> None:
+    """Write a text to standard output, all of it before this returns."""
+    remaining = memoryview(text.encode("utf-8", "replace"))
     try:
         while remaining:
             remaining = remaining[os.write(1, remaining):]
@@ -42,12 +47,15 @@ def lines_of(labels: list[Label], is_csv: bool) -> list[str]:
     return [row_of(COLUMNS), *(label.row() for label in labels)] if is_csv else [label.line() for label in labels]
 
 
-def to_output(is_csv: bool) -> Callable[[Label], None]:
+def to_output(is_csv: bool, spelled: Callable[[Label], str] = lined) -> Callable[[Label], None]:
     """Give what writes a label to standard output; it is out once its reader has it, or the disk."""
     head = [row_of(COLUMNS)] if is_csv else []
 
     def put(label: Label) -> None:
-        write([*head, label.row() if is_csv else label.line()])
+        if is_csv:
+            write([*head, label.row()])
+        else:
+            write_text(spelled(label))
         head.clear()
         try:
             settle()
@@ -76,12 +84,12 @@ def unread() -> int:
     return INT.unpack(fcntl.ioctl(1, termios.FIONREAD, INT.pack(0)))[0]
 
 
-def to_command(words: list[str]) -> Callable[[Label], None]:
+def to_command(words: list[str], spelled: Callable[[Label], str] = lined) -> Callable[[Label], None]:
     """Give what starts a command for a label, which has it as its standard input; it is out if that ends well."""
 
     def put(label: Label) -> None:
         try:
-            status = subprocess.run(words, input=f"{label.line()}\n".encode(), check=False).returncode
+            status = subprocess.run(words, input=spelled(label).encode("utf-8", "replace"), check=False).returncode
         except OSError as fault:
             raise Failed(f"the command can't be started: {why(fault)}") from fault
         if status:
@@ -90,13 +98,13 @@ def to_command(words: list[str]) -> Callable[[Label], None]:
     return put
 
 
-def to_printer(host: str, port: int) -> Callable[[Label], None]:
+def to_printer(host: str, port: int, spelled: Callable[[Label], str] = lined) -> Callable[[Label], None]:
     """Give what sends a label to a printer, over a connection of its own; it is out once the printer has taken it."""
 
     def put(label: Label) -> None:
         try:
             with contextlib.closing(socket.create_connection((host, port), PATIENCE)) as printer:
-                printer.sendall(f"{label.line()}\n".encode())
+                printer.sendall(spelled(label).encode("utf-8", "replace"))
                 printer.shutdown(socket.SHUT_WR)
                 want_taken(printer)
         except OSError as fault:

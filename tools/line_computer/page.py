@@ -1,127 +1,215 @@
-"""The page: how buses and orders stand, read from the store for each request. It changes nothing, and has no script."""
+"""The page: how buses and orders stand, read from the store for each request. It changes nothing.
+
+A script brings it up to date each few seconds, so that what is typed into the search stays; without scripts the browser
+loads it anew.
+"""
 
 from __future__ import annotations
 
-import json
-import re
-import time
+import datetime
 from html import escape
-from typing import Optional
+from typing import NamedTuple
+from urllib.parse import urlencode
 
-from .charts import ENDS, HOURS, LAST_ORDERS, Hour, hours_picture, means_of, misses_picture
+from . import standing, tables
+from .charts import ENDS, LAST_ORDERS, hours_picture, means_of, misses_picture
 from .database import Database
-from .orders import LENGTH_OF_GTIN, now
-from .schema import LIVE, MOST_NUMBER
+from .moments import moment
+from .orders import now
+from .schema import AT_WORK, LIVE, QUARTER
+from .spans import HOUR, Span, day, quarters, shift
+from .standing import Bus
 
-# A bus that said nothing for so long has no process.
-SILENT = 60
-SHOWN = 50
-SEARCHED = {"number": "Order", "unit": "Unit", "gtin": "GTIN"}
-ORDER_COLUMNS = "number, bus, unit, gtin, state, code, told, sent, ended, frames, expected, misses, sends"
+TITLE = "Line computer"
+# What the page may be asked for besides orders: how many shifts back, or a whole day in place of a shift.
+BACK, DAY = "back", "day"
+MOST_BACK = 99
+WRONG_SEARCH = "A search wants digits; a serial number takes hexadecimal ones, a reference any characters."
+BUS_NAMES = {"bus": "Bus", "words": "How it stands", "waiting": "Waiting", "work": "At work", "done": "Done",
+             "failed": "Not done"}
 STYLE = """
 :root { color-scheme: light dark; --text: #1c2126; --soft: #59636e; --line: #d5dae0; --back: #fff; --panel: #f5f7f9;
-  --done: #3567a8; --short: #e8c26a; --format: #d69e2e; --silent: #a9730b; --doubt: #cf5044; --open: #8f1d18;
-  --refused: #8b949e; --reused: #b9c0c7; }
+  --alarm: #a63d00; --done: #0072b2; --short: #f0e442; --format: #e69f00; --silent: #56b4e9; --doubt: #d55e00;
+  --open: #cc79a7; --refused: #8b949e; --reused: #c4cad0; --over: #1c2126; }
 @media (prefers-color-scheme: dark) {
-  :root { --text: #e4e8ec; --soft: #9aa4ae; --line: #353c44; --back: #14181c; --panel: #1c2228; --done: #6ba0dd;
-    --short: #f2d58b; --format: #dfae48; --silent: #b98422; --doubt: #ea7266; --open: #b8453d; --refused: #7a838c;
-    --reused: #525a62; } }
+  :root { --text: #e4e8ec; --soft: #9aa4ae; --line: #353c44; --back: #14181c; --panel: #1c2228; --alarm: #ff9d5c;
+    --done: #1f7fc0; } }
 body { font: 15px/1.45 system-ui, sans-serif; color: var(--text); background: var(--back); margin: 0 auto;
-  max-width: 1080px; padding: 16px 20px 40px; }
+  max-width: 1240px; padding: 16px 20px 40px; }
 h1 { font-size: 20px; margin: 0; } h2 { font-size: 15px; margin: 28px 0 8px; } a { color: inherit; }
 header { display: flex; flex-wrap: wrap; gap: 4px 16px; align-items: baseline; justify-content: space-between; }
 header p, .soft { color: var(--soft); margin: 0; }
+#old { background: var(--alarm); color: var(--back); font-weight: 600; padding: 8px 12px; border-radius: 6px; }
 .counts { display: flex; flex-wrap: wrap; gap: 8px; list-style: none; padding: 0; margin: 12px 0 0; }
 .counts li { background: var(--panel); border-radius: 6px; padding: 6px 12px; } .counts b { font-size: 18px; }
-.scroll { overflow-x: auto; } table { border-collapse: collapse; width: 100%; }
+.spans { display: flex; flex-wrap: wrap; gap: 4px 16px; margin: 12px 0 0; }
+.scroll { overflow-x: auto; } table { border-collapse: collapse; width: 100%; } table.pairs { width: auto; }
 th, td { text-align: left; padding: 4px 12px 4px 0; border-bottom: 1px solid var(--line); vertical-align: top; }
+td { overflow-wrap: anywhere; min-width: 3em; } .pairs .pairs td { border: 0; padding: 0 12px 0 0; }
+.pairs .pairs th { border: 0; padding: 0 12px 0 0; }
 th { color: var(--soft); font-weight: 500; } td.n, th.n { text-align: right; font-variant-numeric: tabular-nums; }
-tr.trouble td { color: var(--doubt); } progress { width: 120px; accent-color: var(--done); vertical-align: middle; }
+tr.trouble td:first-child, tr.trouble .end { color: var(--alarm); }
+tr.trouble td:first-child::before { content: "! "; font-weight: 700; } td.w { white-space: nowrap; }
+td.a { min-width: 20em; }
+progress { width: 120px; accent-color: var(--done); vertical-align: middle; }
 form { display: flex; flex-wrap: wrap; gap: 8px; align-items: end; } label { color: var(--soft); font-size: 13px; }
 input, button { display: block; font: inherit; padding: 4px 8px; color: var(--text); background: var(--panel);
-  border: 1px solid var(--line); border-radius: 6px; width: 11em; } button { width: auto; }
+  border: 1px solid var(--line); border-radius: 6px; width: 10em; } button { width: auto; }
 svg { display: block; width: 100%; height: auto; } svg text { fill: var(--soft); font: 11px system-ui, sans-serif; }
+svg text.count { fill: var(--alarm); font-weight: 700; } .over { stroke: var(--over); stroke-width: 1; fill: none; }
 .grid { stroke: var(--line); } .misses { fill: var(--doubt); }
 .legend { display: flex; flex-wrap: wrap; gap: 4px 16px; list-style: none; padding: 0; margin: 6px 0 0; }
-.legend svg { display: inline; width: 10px; } .few { display: grid; gap: 16px 24px;
+.legend svg { display: inline; width: 14px; vertical-align: -2px; } .few { display: grid; gap: 16px 24px;
   grid-template-columns: repeat(auto-fill, minmax(240px, 1fr)); } .few h3 { font-size: 13px; margin: 0; }
+@media (max-width: 700px) {
+  .cards, .cards tbody { display: block; } .cards tr:first-child { display: none; }
+  .cards tr { display: block; border-bottom: 2px solid var(--line); padding: 6px 0; }
+  .cards td, .cards td.n { display: flex; gap: 8px; border: 0; padding: 1px 0; text-align: left; }
+  .cards td:empty { display: none; } td.a { min-width: 0; }
+  .cards tr.trouble td:first-child::before { content: "! " attr(data-name); }
+  .cards td::before, .cards tr.trouble td:first-child::before { flex: 0 0 8.5em; color: var(--soft); font-weight: 500; }
+  .cards td::before { content: attr(data-name); } .cards tr.trouble td:first-child::before { color: var(--alarm); } }
 """ + "".join(f".{kind} {{ fill: var(--{kind}); }}\n" for kind in ENDS.values())
+# What is marked stays, and so does a field that is typed in: it stands in no part that is brought up to date.
+SCRIPT = """
+"use strict";
+const parts = ["moment", "above", "below"];
+function tell(words) {
+  const old = document.getElementById("old");
+  old.textContent = words;
+  old.hidden = words === "";
+}
+async function refresh() {
+  try {
+    if (!getSelection().isCollapsed && document.activeElement.tagName !== "INPUT") return;
+    const answer = await fetch(location.href, {cache: "no-store"});
+    const page = new DOMParser().parseFromString(await answer.text(), "text/html");
+    if (!answer.ok) {
+      tell("This page is old. " + page.body.textContent);
+    } else if (parts.some(part => !document.getElementById(part))) {
+      location.reload();
+    } else {
+      for (const part of parts) document.getElementById(part).replaceWith(page.getElementById(part));
+      tell("");
+    }
+  } catch (fault) {
+    tell("This page is old: the line computer's page gives no answer. It is asked again.");
+  } finally {
+    setTimeout(refresh, 3000);
+  }
+}
+setTimeout(refresh, 3000);
+"""
+HEAD = """<script src="/page.js" defer></script><noscript><meta http-equiv="refresh" content="5"></noscript>"""
 
 
-def moment(seconds: Optional[int]) -> str:
-    """Spell a moment by the computer's clock."""
-    return "" if seconds is None else time.strftime("%Y-%m-%d %H:%M:%S", time.localtime(seconds))
+class Look(NamedTuple):
+    """What the page is called, and at which clock times shifts begin, if there are shifts."""
+
+    name: str
+    shifts: list[datetime.time]
+
+    def span(self, query: dict) -> Span:
+        """Give the time that a request counts in: this shift, one before it, or the last day."""
+        if not self.shifts or DAY in query:
+            return day(now())
+        return shift(self.shifts, now(), back_of(query))
+
+
+def back_of(query: dict) -> int:
+    """Read how many shifts a request goes back."""
+    text = query.get(BACK, "")
+    return min(int(text), MOST_BACK) if text.isascii() and text.isdigit() and len(text) < 4 else 0
 
 
 # Buses
 
 
-def bus_rows(database: Database) -> list:
-    """Give what each bus says of itself: its name, and what `standing` takes."""
-    return database.rows(
-        "select bench_states.bus, bench_states.state, bench_states.number, bench_states.frames, expected, trouble,"
-        " since, seen from bench_states join bench_buses on bench_buses.bus = bench_states.bus left join bench_orders"
-        " on bench_orders.number = bench_states.number order by bench_buses.number")
+def ends_of(database: Database, span: Span) -> list[tuple[int, str, str, int]]:
+    """Count the ends of orders in a span: its hour, from 0, the bus, the end, and how many."""
+    first, behind = quarters(span)
+    rows = database.rows(
+        f"select ended / {QUARTER}, bus, state, code, count(*) from bench_orders where ended / {QUARTER} >= ? and"
+        f" ended / {QUARTER} < ? group by ended / {QUARTER}, bus, state, code", first, behind)
+    return [((quarter - first) // (HOUR // QUARTER), bus, state if code is None else tuple(ENDS)[code], count)
+            for quarter, bus, state, code, count in rows if state != "cancelled"]
 
 
-def standing(state, number, frames, expected, trouble, since, seen) -> str:
-    """Tell in words how a bus stands."""
-    if trouble is not None and state == "stopped":
-        return f"stopped, in trouble since {moment(since)}: {trouble}"
-    if state == "stopped" or now() - seen > SILENT:
-        return "not running" if not seen else f"not running since {moment(seen)}"
-    if trouble is not None:
-        return f"in trouble since {moment(since)}: {trouble}"
-    if number is None:
-        return state
-    return f"at work on order {number}" + ("" if frames is None else f", {frames} of {expected or '?'} frames")
-
-
-def buses_part(database: Database) -> str:
-    """Show the buses."""
-    rows = []
-    for bus, *rest in bus_rows(database):
-        words, (frames, expected) = standing(*rest), rest[2:4]
-        is_at_work = words.startswith("at work") and frames is not None and expected
-        bar = f'<progress max="{expected}" value="{min(frames, expected)}"></progress>' if is_at_work else ""
-        kind = ' class="trouble"' if "in trouble" in words else ""
-        rows.append(f"<tr{kind}><td>{escape(bus)}</td><td>{escape(words)} {bar}</td></tr>")
-    return f"<h2>Buses</h2><table><tr><th>Bus</th><th>How it stands</th></tr>{''.join(rows)}</table>"
-
-
-def hours_of(database: Database, last: int) -> list[Hour]:
-    """Count the ends of the orders in each hour up to the last."""
+def live_of(database: Database) -> dict[str, dict]:
+    """Count the orders that have no end, by bus and by whether they wait or are at work."""
     found: dict = {}
-    for hour, state, code, count in database.rows(
-            "select ended / 3600, state, code, count(*) from bench_orders where ended / 3600 > ? and ended / 3600 <= ?"
-            " group by ended / 3600, state, code", last - HOURS, last):
-        if state != "cancelled":
-            found.setdefault(hour, {})[state if code is None else tuple(ENDS)[code]] = count
-    return [Hour(hour, counts) for hour, counts in found.items()]
+    for bus, state, count in database.rows(f"select bus, state, count(*) from bench_orders where {LIVE}"
+                                           " group by bus, state"):
+        its, kind = found.setdefault(bus, {}), "work" if state in AT_WORK else "waiting"
+        its[kind] = its.get(kind, 0) + count
+    return found
 
 
-def counts_part(database: Database, hours: list[Hour]) -> str:
-    """Count what is to be done, and what was done in the hours that are drawn."""
-    waiting = database.rows(f"select count(*) from bench_orders where {LIVE}")[0][0]
+def bus_counts(buses: list[Bus], live: dict, ends: list) -> dict[str, dict]:
+    """Count by bus what waits, is at work, is done and isn't."""
+    found = {it.bus: {"waiting": 0, "work": 0, "done": 0, "failed": 0, **live.get(it.bus, {})} for it in buses}
+    for _, bus, end, count in ends:
+        if bus in found:  # one that was made just now isn't shown yet
+            found[bus]["done" if end == "Done" else "failed"] += count
+    return found
+
+
+def buses_part(buses: list[Bus], counts: dict[str, dict]) -> str:
+    """Show the buses, and what stands below them all."""
+    rows = []
+    for it in buses:
+        bar = f' <progress max="{it.expected}" value="{min(it.frames, it.expected)}"></progress>' if it.is_at_work() \
+            else ""
+        numbers = {key: str(count) for key, count in counts[it.bus].items()}
+        words = f'<span class="end">{escape(it.words())}</span>{bar}'
+        rows.append((not it.is_well(), {"bus": escape(it.bus), "words": words, **numbers}))
+    if len(buses) > 1:
+        sums = {key: str(sum(it[key] for it in counts.values())) for key in ("waiting", "work", "done", "failed")}
+        rows.append((False, {"bus": "all", **sums}))
+    return f"<h2>Buses</h2>{tables.table(BUS_NAMES, rows, ('waiting', 'work', 'done', 'failed'))}"
+
+
+def counts_part(database: Database, counts: dict[str, dict], span: Span) -> str:
+    """Count what is to be done, and what was done in a span."""
     left = database.rows("select count(*) from bench_labels where taken is null")[0][0]
-    done = sum(it.counts.get("Done", 0) for it in hours)
-    ended = sum(sum(it.counts.values()) for it in hours)
-    counts = {"to do": waiting, f"done in {HOURS} hours": done, "not done in these": ended - done, "labels left": left}
-    items = "".join(f"<li><b>{count}</b> {name}</li>" for name, count in counts.items())
+    sums = {key: sum(it[key] for it in counts.values()) for key in ("waiting", "work", "done", "failed")}
+    shown = {"to do": sums["waiting"] + sums["work"], f"done in {span.name}": sums["done"],
+             "not done in it": sums["failed"], "labels left": left}
+    items = "".join(f"<li><b>{count}</b> {escape(name)}</li>" for name, count in shown.items())
     return f'<ul class="counts">{items}</ul>'
+
+
+def spans_part(look: Look, query: dict) -> str:
+    """Lead to the shifts and the day; what is searched for goes along."""
+    if not look.shifts:
+        return ""
+    back, kept = back_of(query), {key: query[key] for key in tables.SEARCHED if query.get(key)}
+    spans = {"this shift": {}, "the shift before": {BACK: "1"}, "one earlier": {BACK: str(min(back + 1, MOST_BACK))},
+             "24 hours": {DAY: ""}}
+    links = "".join(f'<a href="/?{escape(urlencode({**kept, **more}))}">{name}</a>' for name, more in spans.items())
+    return f'<p class="spans">{links}</p>'
 
 
 # Pictures
 
 
-def misses_part(database: Database) -> str:
+def hours_part(ends: list, span: Span) -> str:
+    """Draw the orders by hour and end."""
+    counts: dict = {}
+    for hour, _, end, count in ends:
+        its = counts.setdefault(hour, {})
+        its[end] = its.get(end, 0) + count
+    return f"<h2>Orders by hour and end</h2>{hours_picture(counts, span)}"
+
+
+def misses_part(database: Database, buses: list[Bus]) -> str:
     """Draw the misses by order of each bus, over the last orders: a bus that gets worse is seen before it fails."""
     found = {}
-    for bus, in database.rows("select bus from bench_buses order by number"):
+    for it in buses:
         rows = database.rows("select misses, ended from bench_orders where bus = ? and misses is not null"
-                             " order by number desc limit ?", bus, LAST_ORDERS)
+                             " order by number desc limit ?", it.bus, LAST_ORDERS)
         if rows:
-            found[bus] = [misses for misses, _ in reversed(rows)], rows[-1][1]
+            found[it.bus] = [misses for misses, _ in reversed(rows)], rows[-1][1]
     if not found:
         return ""
     most = max(max(means_of(misses)) for misses, _ in found.values())
@@ -131,91 +219,32 @@ def misses_part(database: Database) -> str:
     return f'<h2>Frames that missed, by order (a full bar: {most:.1f})</h2><div class="few">{"".join(few)}</div>'
 
 
-# Orders
+# The page
 
 
-def searched(query: dict) -> dict:
-    """Give what is searched for: digits alone, up to what a number may be."""
-    found = {}
-    for key in SEARCHED:
-        text = query.get(key, "").strip()
-        if re.fullmatch("[0-9]{1,16}", text) and int(text) <= MOST_NUMBER:
-            found[key] = text.zfill(LENGTH_OF_GTIN) if key == "gtin" else int(text)
-    return found
-
-
-def orders_part(database: Database, wanted: dict) -> str:
-    """Show the last orders that were begun or ended, or the last of those that are searched for."""
-    where = " and ".join(f"{key} = ?" for key in wanted) or "state <> 'added'"
-    rows = database.rows(f"select {ORDER_COLUMNS} from bench_orders where {where} order by number desc limit ?",
-                         *wanted.values(), SHOWN)
-    head = "".join(f"<th{' class=n' if it[0] == '#' else ''}>{it.lstrip('#')}</th>" for it in (
-        "#Order", "Bus", "#Unit", "GTIN", "End", "Sent", "Ended", "#Frames", "#Misses", "#Sends"))
-    body = "".join(map(order_row, rows))
-    table = f'<div class="scroll"><table><tr>{head}</tr>{body}</table></div>' if rows else '<p class="soft">none</p>'
-    return f"<h2>{'Orders found' if wanted else 'Last orders'}</h2>{table}"
-
-
-def order_row(row) -> str:
-    """Show an order as a row."""
-    number, bus, unit, gtin, state, code, told, sent, ended, frames, expected, misses, sends = row
-    end = state if code is None else told
-    kind = ' class="trouble"' if code or state in ("refused", "reused", "blocked", "full") else ""
-    sums = "" if frames is None else f"{frames} of {expected or '?'}"
-    return (f'<tr{kind}><td class="n"><a href="/?number={number}">{number}</a></td><td>{escape(bus)}</td>'
-            f'<td class="n">{unit}</td><td>{escape(gtin or "")}</td><td>{escape(end)}</td><td>{moment(sent)}</td>'
-            f'<td>{moment(ended)}</td><td class="n">{sums}</td><td class="n">{"" if misses is None else misses}</td>'
-            f'<td class="n">{sends}</td></tr>')
-
-
-def order_part(database: Database, number: int) -> str:
-    """Show all that is known of one order."""
-    names = ("bus", "reference", "unit", "fields", "state", "told", "added", "sent", "ended", "sends", "report")
-    found = database.rows(f"select {', '.join(names)} from bench_orders where number = ?", number)
-    if not found:
-        return ""
-    known = dict(zip(names, found[0]))
-    fields = json.loads(known.pop("fields"))
-    for name in ("added", "sent", "ended"):
-        known[name] = moment(known[name])
-    labels = database.rows("select taken, printed from bench_labels where number = ?", number)
-    known["label"] = label_of(*labels[0]) if labels else "none"
-    rows = "".join(f"<tr><th>{escape(name)}</th><td>{escape(str(value))}</td></tr>"
-                   for name, value in {**fields, **known}.items() if value not in (None, "") or name in fields)
-    return f"<h2>Order {number}</h2><table>{rows}</table>"
-
-
-def label_of(taken: Optional[int], printed: int) -> str:
-    """Tell what became of a label."""
-    return f"taken {moment(taken)}, printed {printed} time{'s' * (printed != 1)}" if taken else "not taken yet"
-
-
-def form_part(query: dict) -> str:
-    """Show what may be searched for."""
-    inputs = "".join(f'<label>{name}<input name="{key}" inputmode="numeric" value="{escape(query.get(key, ""))}">'
-                     "</label>" for key, name in SEARCHED.items())
-    return f'<h2>Search</h2><form>{inputs}<button>Search</button> <a href="/">all</a></form>'
-
-
-def page_of(database: Database, query: dict) -> str:
+def page_of(database: Database, query: dict, look: Look) -> str:
     """Make the page that a request asks for."""
-    wanted = searched(query)
-    is_search = any(query.get(key, "").strip() for key in SEARCHED)
-    refresh = '<meta http-equiv="refresh" content="5">' if "refresh" in query else ""
-    hours = hours_of(database, last := now() // 3600)
-    parts = [buses_part(database), counts_part(database, hours)]
-    if is_search:
-        parts += [order_part(database, wanted["number"]) if "number" in wanted else "", form_part(query),
-                  orders_part(database, wanted) if wanted else '<p class="soft">A search wants digits.</p>']
+    span, buses, wanted = look.span(query), standing.buses(database), tables.searched(query)
+    ends, live = ends_of(database, span), live_of(database)
+    counts = bus_counts(buses, live, ends)
+    above = [buses_part(buses, counts), counts_part(database, counts, span), spans_part(look, query)]
+    if tables.is_search(query):
+        above.append(tables.order_part(database, wanted["number"]) if "number" in wanted else "")
+        below = tables.orders_part(database, wanted) if wanted else f'<p class="soft">{WRONG_SEARCH}</p>'
     else:
-        parts += [f"<h2>Orders by hour and end</h2>{hours_picture(hours, last)}", misses_part(database),
-                  form_part(query), orders_part(database, {})]
-    link = '<a href="/">stop refreshing</a>' if refresh else '<a href="/?refresh">refresh each 5 s</a>'
-    head = f"<h1>Line computer</h1><p>{moment(now())} · {link}</p>"
-    return document(refresh, f"<header>{head}</header>{''.join(parts)}")
+        waiting = sum(it["waiting"] for it in counts.values())
+        above += [hours_part(ends, span), tables.not_done_part(database, span), tables.waiting_part(database, waiting),
+                  misses_part(database, buses)]
+        below = tables.orders_part(database, {})
+    kept = {key: query[key] for key in (BACK, DAY) if key in query}
+    head = f'<header><h1>{TITLE} {escape(look.name)}</h1><p id="moment">{moment(now())}</p></header>'
+    return document(f'{head}<div id="above">{"".join(above)}</div>{tables.form_part(query, kept)}'
+                    f'<div id="below">{below}</div>', look.name)
 
 
-def document(head: str, body: str) -> str:
+def document(body: str, name: str = "") -> str:
     """Put a document together."""
+    title = f"{escape(name)} · {TITLE}" if name else TITLE
     return ('<!DOCTYPE html><html lang="en"><meta charset="utf-8"><meta name="viewport" content="width=device-width">'
-            f'{head}<title>Line computer</title><link rel="stylesheet" href="/style.css"><body>{body}</body></html>')
+            f'<title>{title}</title><link rel="stylesheet" href="/style.css">{HEAD}<body>'
+            f'<p id="old" hidden></p>{body}</body></html>')

@@ -18,15 +18,26 @@ BEGUN = re.compile("^B order ([0-9]+) ", re.MULTILINE)
 # What `check --journal` says of an order, and what of it tells that the order was never begun.
 SAID = re.compile("^(known .*|new|full)$", re.MULTILINE)
 NOT_BEGUN = ("new", "full")
-# From this location on an order needs the content format too.
-BEHIND_FORMAT = 0x13
+# From this location on an order needs the content format too; a unit is write-enabled by this one, next to which the
+# first field stands; by the short plan so many neighbours at most are read back as one row.
+BEHIND_FORMAT, LOCK, ROW = 0x13, 0x02, 16
 
 
 class Accepted(NamedTuple):
-    """An order that `check` accepts: its unit, and how many frames it takes where nothing is lost."""
+    """An order that `check` accepts: its unit, and how many frames it takes by each plan where nothing is lost."""
 
     unit: int
     frames: int
+    short_frames: int
+
+
+def accepted(unit: int, locations: list[int]) -> Accepted:
+    """Count the frames of an order that writes these locations, by the rules of docs/SESSIONS.md."""
+    count, has_format, read = len(locations), max(locations) >= BEHIND_FORMAT, sorted({LOCK, *locations})
+    starts = [at for at, location in enumerate(read) if at == 0 or read[at - 1] != location - 1]
+    rows = sum(-(-(end - start) // ROW) for start, end in zip(starts, [*starts[1:], len(read)]))
+    return Accepted(unit, 14 * count + (42 if has_format else 28),
+                    4 * count + 6 * rows + len(starts) + (26 if has_format else 18))
 
 
 class Program:
@@ -59,16 +70,14 @@ class Program:
         if ended.returncode:
             faults = tuple(line for line in lines if FAULT.fullmatch(line))
             raise Refused(ended.stderr.strip() or "; ".join(faults), faults)
-        accepted, at = [], 0
+        given, at = [], 0
         while found := ACCEPTED.fullmatch(lines[at]):
-            length = int(found[3])
-            last = int(lines[at + length].split()[0], 16)
-            frames = 14 * length + (42 if last >= BEHIND_FORMAT else 28)
-            accepted.append(Accepted(int(found[2]), frames))
-            at += 1 + length
-        if len(accepted) != count:
-            raise Failed(f"dali_bench check told of {len(accepted)} orders, and there are {count}")
-        return accepted
+            end = at + 1 + int(found[3])
+            given.append(accepted(int(found[2]), [int(line.split()[0], 16) for line in lines[at + 1:end]]))
+            at = end
+        if len(given) != count:
+            raise Failed(f"dali_bench check told of {len(given)} orders, and there are {count}")
+        return given
 
     def standing(self, journal: str) -> tuple[str, bool]:
         """Give how a journal stands, and whether all of its bytes count."""

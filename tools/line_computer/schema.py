@@ -7,6 +7,7 @@ import uuid
 
 from .database import Database, opened
 from .faults import Failed, Refused
+from .identities import fill_identifications
 
 BUS = re.compile("[A-Za-z0-9][A-Za-z0-9_-]{0,31}")
 # A number up to this one is read exactly by whatever reads JSON.
@@ -18,6 +19,12 @@ STATES = ("added", *AT_WORK, "ended", "refused", "reused", "cancelled")
 SENT = f"state in {AT_WORK}"
 # Of those that have no end yet there is an index, which a query uses that says so with these words.
 LIVE = f"state in {('added', *AT_WORK)}"
+# An order that stands for the scan of a station is carried out there alone.
+OF_NO_SCAN = "not exists (select 1 from bench_scans where bench_scans.number = bench_orders.number)"
+# And of those that came to an end, and aren't done.
+NOT_DONE = "(code > 0 or state in ('refused', 'reused'))"
+# Seconds of a quarter of an hour, at which time zones and shifts begin: by these the ends of orders are counted.
+QUARTER = 900
 
 FIRST = f"""
 create table bench_store (
@@ -100,8 +107,51 @@ update bench_orders set place = 1 + (
 ) where state = 'ended' and report is not null;
 update bench_orders set state = 'sent' where state = 'taken';
 """
+# By which plan an order was carried out: in a store of version 2 all that it sent itself went by the checked one. Which
+# order it repeats, at most one each, and the number that this had where it came from, which stays that one's alone.
+# Which luminaire the scan of a station was for, and what `verify` has found of it; what each station shows, and the
+# scan that the page has for it.
+# The identification number of an order's luminaire, by which it is searched for; when a drive last spoke, or was last
+# spoken to. What the page looks for has indexes.
+THIRD = f"""
+alter table bench_orders add column plan text;
+alter table bench_orders add column repeats bigint;
+alter table bench_orders add column repeated_reference text;
+create unique index bench_orders_repeats on bench_orders (repeats) where repeats is not null;
+create index bench_orders_repeated_reference on bench_orders (repeated_reference, number)
+    where repeated_reference is not null;
+update bench_orders set plan = 'checked'
+    where sent is not null and (told is null or told = replace(told, ', known before', ''));
+create table bench_scans (
+    number bigint primary key references bench_orders,
+    key    text not null,
+    name   text not null,
+    latest integer not null default 1,
+    found  text
+);
+create unique index bench_scans_key on bench_scans (key) where latest = 1;
+create index bench_scans_keys on bench_scans (key, number);
+create table bench_stations (
+    bus    text primary key references bench_buses,
+    word   text not null,
+    lines  text not null,
+    until  bigint,
+    waits  integer not null,
+    seen   bigint not null,
+    scan   text,
+    answer text
+);
+alter table bench_orders add column identification text;
+alter table bench_states add column spoke bigint;
+create index bench_orders_identification on bench_orders (identification, number) where identification is not null;
+create index bench_orders_reference on bench_orders (reference, number) where reference is not null;
+drop index bench_orders_hour;
+create index bench_orders_quarter on bench_orders ((ended / {QUARTER}), bus, state, code);
+create index bench_orders_not_done on bench_orders (ended) where {NOT_DONE};
+"""
 # The statements that bring a store up, each from the version that is its place here to the next one.
-MIGRATIONS = (FIRST, SECOND)
+MIGRATIONS = (FIRST, SECOND, THIRD)
+IDENTIFIED = 3  # the version from which on an order has its identification number by itself
 
 
 def version_of(database: Database) -> int:
@@ -152,6 +202,8 @@ def bring_up(database: Database) -> None:
         for statement in migration.split(";\n"):
             if statement.strip():
                 database.change(statement)
+    if 0 < version < IDENTIFIED:
+        fill_identifications(database)
     if version == 0:
         database.change("insert into bench_store (version, id, following) values (?, ?, 1)", len(MIGRATIONS),
                         str(uuid.uuid4()))

@@ -6,6 +6,8 @@ import json
 import re
 from typing import NamedTuple, Optional, Union
 
+# The ends of an order, by their codes.
+CODES = ("Done", "Short", "Format", "Silent", "Doubt", "DoubtOpen")
 ITEM = re.compile(r"item [0-9]+ (?:order ([0-9]+) )?fault ([0-9]+) [A-Za-z]+")
 TAKEN = re.compile("reply ([0-9]+) taken")
 LAST = re.compile("kept [0-5] [A-Za-z]+|reused|full|blocked [0-9]+")
@@ -13,8 +15,8 @@ REPLY = re.compile(f"reply ([0-9]+) (?:{LAST.pattern})")
 # The faults of an item that say nothing of the order, but of the line or of the memory that there was for it.
 FAULTS_OF_A_LINE = ("11", "12", "13", "20")
 REUSED = "the journal has its number for another order, and nothing was done: add it again"
-KINDS = {"code": (int, type(None)), "frames": int, "misses": int, "moment": (int, type(None)), "order": int,
-         "reply": str}
+KINDS = {"code": (int, type(None)), "ended": (str, type(None)), "frames": int, "misses": int,
+         "moment": (int, type(None)), "order": int, "reply": str}
 
 
 class Ready(NamedTuple):
@@ -43,7 +45,7 @@ class Reported(NamedTuple):
     frames: int
     misses: int
     line: str
-
+    is_now: bool = False  # whether this drive kept the order's end
 
     def words(self) -> str:
         """Tell a person what it means, of a reply that is no end."""
@@ -99,4 +101,4 @@ def reported(line: str) -> Optional[Told]:
     if not all(isinstance(found.get(key), kind) for key, kind in KINDS.items()) or not LAST.fullmatch(found["reply"]):
         return Trouble(line)
     return Reported(found["order"], found["reply"], found["code"], found["moment"], found["frames"], found["misses"],
-                    line)
+                    line, found.get("ended") == "now")

@@ -6,11 +6,14 @@ from dataclasses import dataclass
 from typing import Optional
 
 from .database import Database
+from .identities import identification_of
 from .orders import Order, now
-from .schema import LIVE, SENT
+from .schema import LIVE, OF_NO_SCAN, SENT
 from .told import REUSED, Ready, Reported, Told, Unaccepted
 
 
+# The plans of a drive.
+CHECKED, SHORT = "checked", "short"
 # The place that the journal in use gets among those of its bus, once it is retired.
 PLACE = "1 + (select count(*) from bench_journals where bus = ?)"
 
@@ -24,6 +27,7 @@ class BusState:
     frames: Optional[int] = None  # how many frames of it were answered
     trouble: Optional[str] = None
     since: Optional[int] = None
+    spoke: Optional[int] = None  # when the drive last spoke, or was last spoken to
 
     def is_in(self, trouble: str) -> None:
         """Have the bus in trouble: since now, or as long as it is."""
@@ -37,26 +41,35 @@ class BusState:
 class Work:
     """The orders of one bus, as its process has them."""
 
-    def __init__(self, database: Database, bus: str):
-        """Take the store and the bus, whose lock the process has."""
-        self.database, self.bus = database, bus
+    def __init__(self, database: Database, bus: str, plan: str = CHECKED):
+        """Take the store, the bus, whose lock the process has, and the plan of its drive."""
+        self.database, self.bus, self.plan = database, bus, plan
 
     def next_order(self) -> Optional[Order]:
-        """Give the first order that has no end yet."""
+        """Give the first order that has no end yet, without those of a station."""
         found = self.database.rows("select number, unit, fields, state, sent from bench_orders"
-                                   f" where bus = ? and {LIVE} order by number limit 1", self.bus)
+                                   f" where bus = ? and {LIVE} and {OF_NO_SCAN} order by number limit 1", self.bus)
         return Order(*found[0]) if found else None
 
-    def send(self, order: Order) -> Optional[Order]:
+    def order(self, number: int) -> Optional[Order]:
+        """Give this order, if it has no end yet."""
+        found = self.database.rows("select number, unit, fields, state, sent from bench_orders where number = ? and"
+                                   f" {LIVE}", number)
+        return Order(*found[0]) if found else None
+
+    def send(self, order: Order, expected: Optional[int] = None) -> Optional[Order]:
         """Keep that an order is about to be sent, before its line is written; None where it was cancelled just now.
 
         The moment of its first time is that of its submission for good: by it an end is told from that of an order
-        which a journal knew before.
+        which a journal knew before. Its plan is that of the first drive, until another one has kept its end; so many
+        frames are expected of it, where that is known anew.
         """
         with self.database.transaction():
             is_sent = self.database.change(
                 "update bench_orders set state = case state when 'added' then 'sent' else state end, sends = sends + 1,"
-                f" sent = coalesce(sent, ?) where number = ? and {LIVE}", now(), order.number)
+                " sent = coalesce(sent, ?), plan = coalesce(plan, ?), expected = coalesce(?, expected),"
+                f" identification = coalesce(identification, ?) where number = ? and {LIVE}", now(), self.plan,
+                expected, identification_of(order.fields), order.number)
             moment = self.database.rows("select sent from bench_orders where number = ?", order.number)[0][0]
         return order._replace(state="sent", sent=moment) if is_sent else None
 
@@ -89,8 +102,8 @@ class Work:
 
     def _keep_reply(self, it: Reported) -> None:
         """Keep the last reply to an order that was sent; one that wasn't is none of this store's."""
-        found = self.database.rows(f"select sent from bench_orders where number = ? and bus = ? and {SENT}", it.number,
-                                   self.bus)
+        found = self.database.rows(f"select sent, plan from bench_orders where number = ? and bus = ? and {SENT}",
+                                   it.number, self.bus)
         if not found:
             return
         what = it.reply.split()[0]
@@ -98,14 +111,20 @@ class Work:
             self.database.change("update bench_orders set state = ?, told = ? where number = ?", what, it.reply,
                                  it.number)
             return
-        is_known = it.code is not None and it.moment != found[0][0]
+        sent, plan = found[0]
+        is_known = it.code is not None and it.moment != sent
+        plan = None if is_known else self.plan if it.is_now else plan
         words = REUSED if it.code is None else f"{it.reply}, known before" if is_known else it.reply
         self.database.change(
             "update bench_orders set state = ?, code = ?, told = ?, ended = ?, report = ?, frames = ?, misses = ?,"
-            f" place = {PLACE} where number = ?", "reused" if it.code is None else "ended", it.code,
-            words, now(), it.line, it.frames, it.misses, self.bus, it.number)
-        if it.code == 0 and not is_known:
+            f" plan = ?, place = {PLACE} where number = ?", "reused" if it.code is None else "ended", it.code,
+            words, now(), it.line, it.frames, it.misses, plan, self.bus, it.number)
+        if it.code == 0 and not is_known and not self._is_of_station(it.number):
             self.database.change("insert into bench_labels (number, made) values (?, ?)", it.number, now())
+
+    def _is_of_station(self, number: int) -> bool:
+        """Tell whether an order stands for a scan: then its label is made once its luminaire is verified."""
+        return bool(self.database.rows("select 1 from bench_scans where number = ?", number))
 
     def say(self, state: BusState) -> None:
         """Keep what the bus says of itself."""
@@ -115,8 +134,8 @@ class Work:
     def _say(self, state: BusState) -> None:
         """Keep what the bus says of itself, within a transaction."""
         self.database.change("update bench_states set state = ?, number = ?, frames = ?, trouble = ?, since = ?,"
-                             " seen = ? where bus = ?", state.state, state.number, state.frames, state.trouble,
-                             state.since, now(), self.bus)
+                             " spoke = ?, seen = ? where bus = ?", state.state, state.number, state.frames,
+                             state.trouble, state.since, state.spoke, now(), self.bus)
 
     def is_asked_to_retire(self) -> bool:
         """Tell whether the journal is asked to be retired."""

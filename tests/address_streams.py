@@ -225,7 +225,7 @@ class ProgressTest(BenchTest):
             counted = [int(one[1]) for one in found]
             self.assertEqual((words, counted, max(counted)), (words, sorted(counted), count))
             assert not left or any(one[2] for one in found), (words, drawn)
-            assert lines[-2].startswith(f"found {count}, frames {bus.frames}, time "), (words, lines)
+            assert lines[-1].startswith(f"found {count}, frames {bus.frames}, time "), (words, lines)
 
     def test_refused(self):
         ended = Addressing(["--progress"]).give(b"", stdin=driven.subprocess.DEVNULL)

@@ -56,7 +56,7 @@ impl FoundUnits {
         let bit = 1 << (byte / 2 % 64);
         if byte < 0x80 && self.given & bit == 0 {
             self.given |= bit;
-            self.programmed += 1;
+            self.programmed = self.programmed.saturating_add(1);
         }
     }
 

@@ -85,7 +85,7 @@ impl Now {
         units: u64,
     ) -> fmt::Result {
         let to_ask = units.saturating_sub(asked);
-        self.write_left(f, self.state.frames.saturating_mul(to_ask) / asked)
+        self.write_left(f, self.state.frames.saturating_mul(to_ask) / asked.max(1))
     }
 
     fn write_found<W: fmt::Write>(&self, f: &mut fmt::Formatter<W>, units: u64) -> fmt::Result {

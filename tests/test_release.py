@@ -30,7 +30,7 @@ from test_bench import run_commands  # noqa: E402
 RELEASE = ROOT / "scripts" / "release"
 STAND_IN = '#!/bin/sh\nif [ "$*" = --version ]; then echo "stand-in 1.0"; else echo "ran $*"; fi\n'
 LAUNCHED = ("crates.txt", "HANDLES", "dali_bench", "scripts/built.sh", "scripts/start.sh", "scripts/build",
-            "scripts/crates.py", "scripts/progress.py", "scripts/sums.py")
+            "scripts/crates.py", "scripts/progress.py", "scripts/build_seconds.json", "scripts/sums.py")
 SEEN_BY_ALL = 0o755
 
 
@@ -249,7 +249,7 @@ class ArchiveTest(BenchTest):
         self.assertEqual(found, [])
         # All but how it is set up is as in the repository.
         ours = (ROOT / "README.md").read_text()
-        self.assertEqual(text[text.index("## Write to a unit"):], ours[ours.index("## Write to a unit"):])
+        self.assertEqual(text[text.index("## Connect a real"):], ours[ours.index("## Connect a real"):])
         self.assertEqual(text[:text.index("## Set up")], ours[:ours.index("## Set up")])
 
     def test_program_needs_the_c_library_that_is_said(self):

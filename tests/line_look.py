@@ -20,8 +20,7 @@ from driven import ROOT
 from line_bench import ABSENT, Bench, Server, wait_for
 
 MANY = 100000
-# Seconds for a page, over the last 24 hours of a store, and for the steps of an order.
-MOST_PAGE, MOST_STEP = 0.25, 0.005
+MOST_PAGE, MOST_STEP = 0.2, 0.005
 NASTY = "<script>alert('\"&')</script>"
 CODES = (0,) * 60 + (1, 2, 3, 3, 4, 5)
 NAMES = ("Done", "Short", "Format", "Silent", "Doubt", "DoubtOpen")

@@ -184,8 +184,8 @@ def spans_part(look: Look, query: dict) -> str:
     if not look.shifts:
         return ""
     back, kept = back_of(query), {key: query[key] for key in tables.SEARCHED if query.get(key)}
-    spans = {"this shift": {}, "the shift before": {BACK: "1"}, "one earlier": {BACK: str(min(back + 1, MOST_BACK))},
-             "24 hours": {DAY: ""}}
+    earlier = {"one earlier": {BACK: str(min(back + 1, MOST_BACK))}} if back else {}
+    spans = {"this shift": {}, "the shift before": {BACK: "1"}, **earlier, "24 hours": {DAY: ""}}
     links = "".join(f'<a href="/?{escape(urlencode({**kept, **more}))}">{name}</a>' for name, more in spans.items())
     return f'<p class="spans">{links}</p>'
 

@@ -30,6 +30,7 @@ WHOLE = ("number", "reference", "gtin", "identification", "added", "sent", "ende
 WHOSE = ("number", "reference", "bus", "unit", "gtin", "identification")
 COLUMNS = (*WHOSE, "state", "code", "told", "added", "sent", "ended", "frames", "expected", "misses", "sends")
 STUCK = ("blocked", "full")
+HOME = "more: docs/BENCH.md, What the last reply means"
 REPORT = {"reply": "reply", "ended": "by", "moment": "begun", "frames": "frames", "misses": "misses"}
 
 
@@ -96,10 +97,10 @@ def not_done_part(database: Database, span: Span) -> str:
     stuck = orders_of(database, f"where state in ({places}) order by number limit ?", *STUCK, SHOWN)
     ended = orders_of(database, f"where {NOT_DONE} and ended >= ? and ended < ? order by ended desc, number desc"
                       " limit ?", span.start, span.end, SHOWN)
-    more = f'<p class="soft">the last {SHOWN}</p>' if len(ended) == SHOWN else ""
+    more = f"the last {SHOWN}; " if len(ended) == SHOWN else ""
     rows = [settled_row(order, done_since(database, order)) for order in stuck + ended]
     found = orders_table(rows, *WHOSE, "end", "advice", "ended")
-    return f"<h2>Not done in {escape(span.name)}</h2>{found}{more}"
+    return f'<h2>Not done in {escape(span.name)}</h2>{found}<p class="soft">{more}{HOME if rows else ""}</p>'
 
 
 def done_since(database: Database, order: dict) -> Optional[int]:

@@ -1,5 +1,5 @@
 """A storm of kills in which orders are cancelled and repeated, journals retired and given up, labels taken by a printer
-that jams.
+that jams, and drives go by either plan.
 
     line_day_storm.py [KILLS [SEED]]
 
@@ -46,6 +46,10 @@ class DayStorm(Storm):
         lost = range(first, first + self.chance.choice((0, 0, 60, 120)))
         self.bench.losses = ",".join([LOSSES, *map(str, lost)])
         super().keep_alive()
+
+    def options(self):
+        """Have a drive go by either plan."""
+        return self.chance.choice(((), ("--short-plan",)))
 
     def cancel_or_take(self):
         """What is done beside the kills: this comes with one turn in ten."""
@@ -158,6 +162,8 @@ class DayStorm(Storm):
         states = self.bench.states()
         want({number: states[number] for number in self.cancelled}, dict.fromkeys(self.cancelled, "cancelled"))
         labels = [number for number, in self.bench.rows("select number from bench_labels order by number")]
+        plans = self.bench.rows("select distinct plan from bench_orders where code is not null order by plan")
+        want(plans, [("checked",), ("short",)])
         want(self.bench.rows("select count(*) from bench_orders anew join bench_orders tried on tried.number ="
                              " anew.repeats where anew.bus <> tried.bus or anew.unit <> tried.unit or anew.fields <>"
                              " tried.fields or tried.code = 0"), [(0,)])

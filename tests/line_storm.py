@@ -37,8 +37,12 @@ class Storm:
         for bus in BUSES:
             process = self.processes.get(bus)
             if process is None or process.poll() is not None:
-                self.processes[bus] = self.bench.start(bus)
+                self.processes[bus] = self.bench.start(bus, *self.options())
                 self.counts["starts"] += 1
+
+    def options(self):
+        """Give the options of the next process."""
+        return ()
 
     def go_on(self):
         """Go on until all kills are over."""

@@ -104,7 +104,8 @@ def on_station(options) -> None:
     choices = Choices(template.read(options.template, options.serial, program), options.address, options.again,
                       put_of_station(options))
     for number in (signal.SIGTERM, signal.SIGINT, signal.SIGHUP):
-        signal.signal(number, lambda *_: bus.end())
+        if signal.getsignal(number) != signal.SIG_IGN:
+            signal.signal(number, lambda *_: bus.end())
     bus.open()
     Station(bus, choices).run()
 

@@ -71,6 +71,17 @@ class PlacesTest(BenchTest):
                                    stdin=subprocess.DEVNULL, check=False)
             self.assertEqual((ended.returncode, ended.stderr), (1, f"error: {why}\n"))
 
+    def test_decimal_numbers(self):
+        bench = StationBench(self.folder)
+        bench.seat()
+        station = bench.station("bus1", "--serial", "decimal")
+        station.asked()
+        self.assertEqual(station.serves("1A2B"),
+                         "FAIL: The scan isn't taken: the number 1A2B isn't decimal digits. Scan again.")
+        self.assertEqual(station.serves("(21)6699"), passed("6699", 1))
+        self.assertEqual((bench.seated(), bench.labels_left()), (bank_with(NUMBER_1), [NUMBER_1]))
+        self.assertEqual(station.end(), 0)
+
     def test_labels_go_to_a_printer(self):
         bench = StationBench(self.folder)
         bench.seat()

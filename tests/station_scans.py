@@ -10,8 +10,8 @@ from base import BenchTest, settings
 from driven import ROOT
 
 sys.path.append(str(ROOT / "tools"))
-scans, template, program, faults = (importlib.import_module(f"line_computer.{it}") for it in (
-    "scans", "template", "program", "faults"))
+scans, template, program, faults, station_page = (importlib.import_module(f"line_computer.{it}") for it in (
+    "scans", "template", "program", "faults", "station_page"))
 
 FNC1 = "\x1d"
 # A scan, and its GTIN and serial number.
@@ -163,6 +163,17 @@ class ScanTest(unittest.TestCase):
             self.assertEqual((digits, scans.identification_of(digits, serial)), (digits, number))
         for (digits, serial), why in NO_NUMBERS.items():
             self.assertEqual((digits, refused(scans.identification_of, digits, serial)), (digits, why))
+
+
+    def test_whose_scans_the_page_takes(self):
+        given = {"Host": "localhost:8080", "Origin": "http://localhost:8080"}
+        for client in ("127.0.0.1", "127.0.0.2", "::1", "::ffff:127.0.0.1"):
+            self.assertEqual((client, station_page.why_foreign(client, given, 8080)), (client, None))
+        for client in ("192.0.2.7", "fe80::1%eth0", "::ffff:192.0.2.7", "2001:db8::1"):
+            self.assertEqual((client, station_page.why_foreign(client, given, 8080)),
+                             (client, "A scan is taken from this computer alone."))
+        self.assertEqual(station_page.scan_of(b"scan=%5Dd2010400638133393121A%1D10B+C"),
+                         "]d2010400638133393121A\x1d10B C")
 
 
 class TemplateTest(BenchTest):

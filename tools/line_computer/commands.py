@@ -414,8 +414,8 @@ def make_station(commands, bus: dict) -> None:
     made.usage = "line_computer station [options] --bus B --template FILE -- ADAPTER [WORDS..]"
     made.add_argument("--template", metavar="FILE", required=True, help="keys of an order, with `scan` and `now` where"
                       " the scan and the clock fill them")
-    made.add_argument("--serial", choices=sorted(scans.SERIALS), default="hex",
-                      help="how a scan spells an identification number (default: hex)")
+    made.add_argument("--serial", choices=sorted(scans.SERIALS), default="hex", metavar="KIND",
+                      help="how a scan spells an identification number: hex or decimal (default: hex)")
     made.add_argument("--address", action="store_true", help="give a new luminaire the template's short address first")
     made.add_argument("--again", action="store_true", help="take scans that were used before, as of a GTIN alone")
     made.add_argument("--short-plan", action="store_true", help="as of `run`")

@@ -44,14 +44,14 @@ fn units_are_told_apart() -> Result<(), Fail> {
     let mut none: [SimUnit; 0] = [];
     let (frames, end) = count(&mut none, 1, 99_999);
     expect_that(end == Some(CensusEnd::Apart(0)), "nobody is there")?;
-    expect_that(frames == 13, "the opening and a check")?;
+    expect_that(frames == 14, "the opening and a check")?;
     let mut two = [
         SimUnit::new(Some(7), [0x12, 0x34, 0x57]),
         SimUnit::new(Some(8), [0x12, 0x34, 0x56]),
     ];
     let (frames, end) = count(&mut two, 1, 99_999);
     expect_that(end == Some(CensusEnd::Apart(2)), "two are apart")?;
-    expect_that(frames == 133, "so many frames")
+    expect_that(frames == 134, "so many frames")
 }
 
 #[test]

@@ -33,7 +33,7 @@ COMPLETED = [
     (["dali_simulated_link", "--frames", "--", "./dali_bench", "jou"], ["journal"]),
     (["dali_simulated_link", "--", "other", "tab"], ["table.csv"]),
     (["dali_python_dali_link", "--t"], ["--time-limit"]), (["python_dali_link.py", "tridonic", "tab"], ["table.csv"]),
-    (["line_computer", "page", "--s"], ["--shift", "--store"]), (["line_computer", "page", "--name", "tab"], []),
+    (["line_computer", "page", "--s"], ["--shift", "--station", "--store"]), (["line_computer", "page", "--name", "tab"], []),
     (["line_computer", "re"], ["retire"]), (["line_computer", "run", "--un"], ["--until-empty"]),
     (["line_computer", "run", "--bus", "b", "--", "dali_simulated_link", "--se"], ["--seed"]),
     (["line_computer", "add", "--bus", "b", "tab"], ["table.csv"]), (["orders_from_csv", "--f"], ["--from"]),

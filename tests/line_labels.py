@@ -225,8 +225,13 @@ class WayTest(BenchTest):
     def test_options_that_do_not_go_together(self):
         bench = labelled(self.folder)
         for words, told in (
-                (("--to", "1.2.3.4:9100"), "a command behind --, or --to, stands beside --take or --again, and --csv"),
-                (("--take", "--to", "1.2.3.4:9100", "--", "cat"), "a command behind --, or --to, stands beside"),
+                (("--to", "1.2.3.4:9100"), "one command, or --to, stands beside --take or --again, and --csv"),
+                (("--take", "--to", "1.2.3.4:9100", "--", "cat"), "one command, or --to, stands beside"),
+                (("--command", "cat"), "one command, or --to, stands beside"),
+                (("--take", "--command", "cat", "--", "cat"), "one command, or --to, stands beside"),
+                (("--take", "--command", "cat", "--to", "a:1"), "argument --to: not allowed with argument --command"),
+                (("--take", "--command", " "), "argument --command: there is no command in it"),
+                (("--take", "--command", "cat '"), "argument --command: No closing quotation"),
                 (("--take", "--to", "a:1", "--printer", "b:1"), "argument --printer: not allowed with argument --to"),
                 (("--take", "--to", "9100"), "--to takes HOST:PORT, as 192.0.2.7:9100, and not 9100"),
                 (("--take", "--csv", "--template", "a.txt"), "--template and --csv are two ways to spell a label"),
@@ -251,6 +256,9 @@ class WayTest(BenchTest):
         self.assertEqual((ended.status, ended.output, ended.told),
                          (2, "", "error: the label of order 2 isn't taken: sh ended with status 3\n"))
         self.assertEqual(((bench.folder / "printed").read_text(), left(bench)), ("no. 1\n", [2, 3]))
+        ended = bench.give("labels", "--take", "--template", name, "--command", "sh -c 'exit 3'")
+        self.assertEqual((ended.status, ended.told, left(bench)),
+                         (2, "error: the label of order 2 isn't taken: sh ended with status 3\n", [2, 3]))
         with open("/dev/full", "wb") as full:
             words = bench.words("labels", "--take", "--template", name)
             ended = subprocess.run(words, stdout=full, stderr=subprocess.PIPE, check=False)

@@ -171,7 +171,7 @@ def mistakes(folder):
          f"error: the adapter may not be run: `chmod +x` lets it: {folder / 'text'}"),
         (("cancel",), 1, "error: the following arguments are required: N"),
         (("labels", "--take", "--again", "1"), 1, "error: argument --again: not allowed with argument --take"),
-        (("labels", "--printer", "127.0.0.1:9100"), 1, "error: a command behind --, or --to, stands beside"),
+        (("labels", "--printer", "127.0.0.1:9100"), 1, "error: one command, or --to, stands beside"),
         (("labels", "--take", "--printer", "9100"), 1, "error: --to takes HOST:PORT, as 192.0.2.7:9100, and not 9100"),
         (("status", "--store", str(folder / "empty")), 2, "error: there is no store in this database: `init` makes"),
         (("status", "--store", "mysql://host/db"), 1, "error: a store is a file, or postgresql://..., and not mysql"),

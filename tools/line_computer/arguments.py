@@ -4,6 +4,7 @@ from __future__ import annotations
 
 import argparse
 import re
+import shlex
 from typing import Callable
 
 from .faults import Refused
@@ -23,6 +24,14 @@ def number_of(text: str) -> int:
     if not re.fullmatch("[0-9]{1,16}", text) or int(text) > MOST_NUMBER:
         raise argparse.ArgumentTypeError(f"{text!r} is no whole number up to {MOST_NUMBER}")
     return int(text)
+
+
+def words_of(text: str) -> list[str]:
+    """Read a command and its words, as a shell parts them."""
+    words = shlex.split(text)
+    if not words:
+        raise ValueError("there is no command in it")
+    return words
 
 
 def seconds_of(text: str) -> float:

@@ -9,7 +9,6 @@ import os
 import pathlib
 import platform
 import re
-import shlex
 import shutil
 import signal
 import sys
@@ -18,7 +17,7 @@ from typing import Callable
 
 from . import (cancelling, incoming, journals, label_template, labels, listing, moments, orders, outputs, repeating,
                scans, schema, server, spans, standing, template)
-from .arguments import number_of, place_of, read_by, seconds_of
+from .arguments import number_of, place_of, read_by, seconds_of, words_of
 from .bus import BusProcess
 from .database import STORE, Database, StoreLost
 from .faults import Failed, Refused, plain, why
@@ -117,7 +116,7 @@ def put_of_station(options) -> Callable[[labels.Label], None] | None:
     spelled = label_template.read(options.label).of if options.label else labels.lined
     if options.to:
         return outputs.to_printer(*place_of("--to", options.to, "192.0.2.7:9100"), spelled)
-    return outputs.to_command(shlex.split(options.label_command), spelled) if options.label_command else None
+    return outputs.to_command(options.label_command, spelled) if options.label_command else None
 
 
 def want_adapter(name: str) -> None:
@@ -198,8 +197,9 @@ def on_labels(options) -> None:
 def want_way_out(options) -> None:
     """Refuse options that don't go together."""
     is_out = options.take or options.again
-    if (options.words or options.to) and (not is_out or options.csv or options.words and options.to):
-        raise Refused("a command behind --, or --to, stands beside --take or --again, and --csv beside neither")
+    ways = sum(map(bool, (options.words, options.command, options.to)))
+    if ways > 1 or ways and (not is_out or options.csv):
+        raise Refused("one command, or --to, stands beside --take or --again, and --csv beside neither")
     if options.template and options.csv:
         raise Refused("--template and --csv are two ways to spell a label: take one")
     if options.numbers and not options.take:
@@ -210,8 +210,9 @@ def want_way_out(options) -> None:
 
 def put_of(options, spelled: Callable[[labels.Label], str]) -> Callable[[labels.Label], None]:
     """Give what puts a label out as the options say."""
-    if options.words:
-        return outputs.to_command(options.words, spelled)
+    words = options.words or options.command
+    if words:
+        return outputs.to_command(words, spelled)
     return outputs.to_printer(*place_of("--to", options.to, "192.0.2.7:9100"), spelled) if options.to else \
         outputs.to_output(options.csv, spelled)
 
@@ -368,6 +369,8 @@ def make_labels(commands) -> None:
     way = made.add_mutually_exclusive_group()
     way.add_argument("--to", metavar="HOST:PORT", help="send each to a printer, over a connection of its own")
     way.add_argument("--printer", dest="to", metavar="HOST:PORT", help="the same as --to")
+    way.add_argument("--command", metavar="WORDS", type=read_by(words_of),
+                     help="start this for each, which is its standard input: the same as a COMMAND behind --")
     made.add_argument("numbers", metavar="N", type=number_of, nargs="*",
                       help="with --take: those of these orders alone")
 
@@ -421,7 +424,8 @@ def make_station(commands, bus: dict) -> None:
     made.add_argument("--short-plan", action="store_true", help="as of `run`")
     way = made.add_mutually_exclusive_group()
     way.add_argument("--to", metavar="HOST:PORT", help="send each label to a printer; else it stays in the store")
-    way.add_argument("--label-command", metavar="WORDS", help="start this for each label, which is its standard input")
+    way.add_argument("--label-command", metavar="WORDS", type=read_by(words_of),
+                     help="start this for each label, which is its standard input")
     made.add_argument("--label", metavar="FILE", help="the text of FILE in place of a line of JSON, as `labels"
                       " --template` fills it")
     made.add_argument("--folder", metavar="F", help="where the journal of the bus stands (default: B, in this folder)")

@@ -79,10 +79,17 @@ class Person:
 
     def start(self):
         """Start the station, as one does who finds it dark; what was at work at a kill has ended."""
-        wait_for(lambda: not processes_in(self.bench.folder / "bus1", self.bench.folder))
+        wait_for(self.is_dark)
         self.bench.seed = self.chance.randrange(1 << 30)
         self.station = self.bench.station("bus1", "--label-command", OUT)
         self.counts["starts"] += 1
+
+    def is_dark(self):
+        """Tell whether nothing is at work. A drive that hadn't opened its orders yet is let go, as the next start does."""
+        orders = self.bench.folder / "bus1" / "line_computer.orders"
+        if orders.is_fifo():
+            os.close(os.open(orders, os.O_RDWR | os.O_NONBLOCK))
+        return not processes_in(self.bench.folder / "bus1", self.bench.folder)
 
     def asked(self):
         """Give what the station says once it asks for something; None if it was killed before."""

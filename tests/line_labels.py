@@ -173,8 +173,8 @@ class TemplateTest(BenchTest):
                 connection.execute("update bench_labels set taken = null, printed = 0")
             connection.close()
         # Two digits of a year and a week, and what is unknown isn't there.
-        name = template(bench, "b.txt", "20{year}-W{week} ")
-        self.assertEqual(bench.does("labels", "--take", "1", "--template", name), ["2005-W09 "])
+        name = template(bench, "b.txt", "20{year} week {week} ")
+        self.assertEqual(bench.does("labels", "--take", "1", "--template", name), ["2005 week 09 "])
         self.assertEqual(bench.does("labels", "--again", "1", "--template", template(bench, "c.txt", "{printed}\n")),
                          ["1"])
         ended = bench.give("labels", "--take", "3", "--template", template(bench, "d.txt", "{luminaire}"))

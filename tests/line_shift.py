@@ -358,7 +358,7 @@ def judge_older_store(bench):
               1500: {"identification": "FFAB000000000000"}}
     texts = {number: json.dumps(it) for number, it in fields.items()} | {4: '"identification" no JSON', 5: "[1]"}
     bench.write(SECOND, *("insert into bench_orders (number, bus, unit, fields, state, added, reference) values"
-                          f" ({number}, 'bus1', 5, '{text}', 'added', 1, 'R{number}')"
+                          f" ({number}, 'bus1', 5, '{text}', 'added', 1, 'job-{number}')"
                           for number, text in texts.items()),
                 *(f"insert into bench_orders (number, bus, unit, fields, state, code, added, ended) values ({number},"
                   f" 'bus1', 6, '{{\"identification\":\"{number:016x}\"}}', 'ended', 0, 1, 2)"
@@ -372,7 +372,7 @@ def judge_older_store(bench):
     want(bench.rows("select count(*) from bench_orders where identification is not null"), [(1303,)])
     with Shown(bench) as page:
         for query, number in (("?identification=00ab000000000000", 1), ("?identification=3e8", 1000),
-                              ("?reference=R4", 4)):
+                              ("?reference=job-4", 4)):
             want((query, re.findall(r'<a href="/\?number=([0-9]+)">', page.get(query))), (query, [str(number)]))
     want(bench.does("init"), ["store of version 3"])
 

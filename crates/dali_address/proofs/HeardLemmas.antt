@@ -1,9 +1,11 @@
 -- A unit through a frame at which nothing was lost.
-use Rattle.std.proofs.Common.{◌≡◌, ◌≢◌, ℕ, ◌<◌, inl, inr, ◌⊎◌, Option, Some, None, IsSome, refl, sym, subst, ap, ◌∙◌}
+use Rattle.std.proofs.Common.{◌≡◌, ◌≢◌, ℕ, ◌<◌, inl, inr, ◌⊎◌, List, [], ◌∷◌, Option, Some, None, IsSome}
+use Rattle.std.proofs.Common.{refl, sym, subst, ap, ◌∙◌}
+use Rattle.dali_bus.specs.Chain.{IsChain, AtEachState}
 use Rattle.dali_address.specs.Units.{Three, Disabled, Enabled, Withdrawn, Member, Units}
 use Rattle.dali_address.specs.Obeys.{Does, MayBecome, Seeks}
-use Rattle.dali_address.specs.Steps.{Exchange, MayObey}
-use Rattle.dali_address.specs.Census.{KeepsOn, IsHeard, IsWhole, HasAddresses, NumbersDiffer}
+use Rattle.dali_address.specs.Steps.{Exchange, Step, MayObey}
+use Rattle.dali_address.specs.Census.{KeepsOn, IsHeard, IsWhole, WasHeard, HasAddresses, NumbersDiffer}
 use Rattle.dali_address.specs.Tallying.{IsQuiet, sought}
 use Rattle.dali_address.specs.declared.call.Call.{Call}
 use Rattle.dali_address.specs.declared.call.Call.TheVariants.{Terminate, InitialiseAll, InitialiseMissing, InitialiseAt}
@@ -250,3 +252,20 @@ sound_before call old new keeps sound =
           let also : Still other (new two) = still call old new keeps two other was_two in
           sound.numbers one two it.member also.member it.is also.is (it.random ∙ same ∙ sym also.random);
     }
+
+-- frames that each unit heard
+pub steps_of : (first : Units) (past : List Exchange) (last : Units) (states : List Units)
+    → IsChain IsWhole first past last states → IsChain Step first past last states
+steps_of first [] last [] whole = whole
+steps_of first [] last (state ∷ states) whole = absurd whole
+steps_of first (newest ∷ past) last [] whole = absurd whole
+steps_of first (newest ∷ past) last (state ∷ states) whole =
+    (whole.0.step, steps_of first past state states whole.1)
+
+pub heard_of : (first : Units) (past : List Exchange) (last : Units) (states : List Units)
+    → IsChain IsWhole first past last states → AtEachState WasHeard past last states
+heard_of first [] last [] whole = tt
+heard_of first [] last (state ∷ states) whole = absurd whole
+heard_of first (newest ∷ past) last [] whole = absurd whole
+heard_of first (newest ∷ past) last (state ∷ states) whole =
+    (inl whole.0, heard_of first past state states whole.1)

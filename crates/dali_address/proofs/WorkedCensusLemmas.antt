@@ -1,13 +1,14 @@
 -- Censuses that meet each premise of the law, and censuses that miss one of them and then say what isn't so.
 use Rattle.std.proofs.Common.{◌≡◌, ◌≢◌, ℕ, ◌<◌, false, inl, inr, List, [], ◌∷◌, Option, Some, None}
 use Rattle.std.proofs.Common.{zero, suc, refl, sym, subst, ◌∙◌, IsSome, arith, length}
-use Rattle.dali_bus.specs.Chain.{IsChain, AtEachMoment, AtEachState}
+use Rattle.dali_bus.specs.Chain.{IsChain, AtEachMoment}
 use Rattle.dali_bus.specs.WorkedFrames.{small}
 use Rattle.dali_address.specs.Units.{Three, Phase, Disabled, Enabled, Withdrawn, Member, Units, IsAt}
 use Rattle.dali_address.specs.Obeys.{Does, Passes, Obeys}
-use Rattle.dali_address.specs.Steps.{Exchange, Step, MayObey, ComesBack}
-use Rattle.dali_address.specs.Census.{KeepsOn, IsHeard, IsWhole, HasCounted, HasAddresses, NumbersDiffer, WasHeard, WasWhole}
+use Rattle.dali_address.specs.Steps.{Exchange, MayObey, ComesBack}
+use Rattle.dali_address.specs.Census.{KeepsOn, IsHeard, IsWhole, HasCounted, HasAddresses, NumbersDiffer, WasWhole}
 use Rattle.dali_address.specs.Census.{highest, IsListed, IsListedOnce, AreSoMany, IsShared, IsEndOf}
+use Rattle.dali_address.proofs.HeardLemmas.{heard_of, steps_of}
 use Rattle.dali_address.specs.declared.call.Call.TheVariants.{Terminate, InitialiseAll, Randomise, SearchHigh}
 use Rattle.dali_address.specs.declared.call.Call.TheVariants.{SearchMiddle, SearchLow, Compare, AskShort, Withdraw}
 use Rattle.dali_address.specs.declared.census.CensusEnd.TheVariants.{Apart}
@@ -374,23 +375,6 @@ one_differs : (member : Member) → NumbersDiffer (crowd 1 member)
 one_differs member zero zero it other is_one is_two same = refl
 one_differs member zero (suc two) it other is_one is_two same = absurd (none_there other is_two)
 one_differs member (suc one) two it other is_one is_two same = absurd (none_there it is_one)
-
--- frames that each unit heard
-steps_of : (first : Units) (past : List Exchange) (last : Units) (states : List Units)
-    → IsChain IsWhole first past last states → IsChain Step first past last states
-steps_of first [] last [] whole = whole
-steps_of first [] last (state ∷ states) whole = absurd whole
-steps_of first (newest ∷ past) last [] whole = absurd whole
-steps_of first (newest ∷ past) last (state ∷ states) whole =
-    (whole.0.step, steps_of first past state states whole.1)
-
-heard_of : (first : Units) (past : List Exchange) (last : Units) (states : List Units)
-    → IsChain IsWhole first past last states → AtEachState WasHeard past last states
-heard_of first [] last [] whole = tt
-heard_of first [] last (state ∷ states) whole = absurd whole
-heard_of first (newest ∷ past) last [] whole = absurd whole
-heard_of first (newest ∷ past) last (state ∷ states) whole =
-    (inl whole.0, heard_of first past state states whole.1)
 
 -- a census of one unit meets each premise
 pub one_is_counted : WasWhole (crowd 1 (seven Disabled highest highest)) counted_one

@@ -1,8 +1,9 @@
-"""What the adapters to an interface share: they start a command, carry its frames, and tell where the link broke.
+"""The common base of the adapters to an interface: they start a command, carry its frames, and say where the link
+broke.
 
-An adapter gives `main` a function that opens its interface as the options say. What that function returns carries one
-frame: it takes the frame's four hexadecimal digits, and returns the answer as the command reads it. Where it can't
-tell what became of the frame it raises `Broken` or OSError. Then nothing more is sent.
+An adapter gives `main` a function that opens its interface as the options say. That function returns one that carries a
+frame: it takes the frame's four hexadecimal digits, and returns the answer as the command reads it. If it can't tell
+what became of the frame it raises `Broken` or OSError. Then nothing more is sent.
 """
 
 import argparse
@@ -26,7 +27,7 @@ LONGEST_LIMIT = 60  # seconds
 
 
 class Broken(Exception):
-    """What became of a frame isn't known, or the link can't be trusted with the next one."""
+    """It isn't known what became of a frame, or the link can't be trusted with the next one."""
 
 
 def shown(data):
@@ -139,7 +140,7 @@ def serve(carry, words):
 
 
 def options_and_words(parser, arguments):
-    """Read a command line: the options, and behind -- the words of the command."""
+    """Read a command line: the options, and after -- the words of the command."""
     end = arguments.index("--") if "--" in arguments else len(arguments)
     options, unknown = parser.parse_known_args(arguments[:end])
     if unknown:

@@ -1,7 +1,7 @@
 """The addresses of a simulated unit: its short address, its random address, and how the first is given by the second.
 
-IEC 62386-102: special commands, initialisation state, random address search. docs/GEAR.md has the rules, and the list
-of those where the standard may be read in several ways. Nothing of memory access stands here.
+IEC 62386-102: special commands, initialisation state, random address search. docs/ADDRESS.md has the frames,
+docs/GEAR.md the rules that may be read in several ways. Nothing of memory access is here.
 """
 
 import re
@@ -17,7 +17,7 @@ INITIALISE, PROGRAM, VERIFY = 0xA5, 0xB7, 0xB9
 # of the byte.
 SEARCH = {0xB1: 16, 0xB3: 8, 0xB5: 0}
 ASK_RANDOM = {0xC2: 16, 0xC3: 8, 0xC4: 0}
-# What stands in a random or a search address before one is drawn or set; no unit draws it.
+# The random or search address before one is drawn or set; no unit draws it.
 UNDRAWN = 0xFFFFFF
 DISABLED, ENABLED, WITHDRAWN = range(3)
 # Seconds.
@@ -26,13 +26,13 @@ FRAME_TIME, ANSWERED_TIME = 0.029, 0.049
 
 
 class Clock:
-    """The time of a bus in seconds, which goes by its frames."""
+    """The time of a bus in seconds, as its frames take it."""
 
     def __init__(self):
         self.now = 0.0
 
     def pass_frame(self, is_answered):
-        """Let the time of a frame go by, and of what was answered."""
+        """Let the time of a frame pass, and of its answer."""
         self.now += ANSWERED_TIME if is_answered else FRAME_TIME
 
 

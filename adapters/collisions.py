@@ -1,4 +1,4 @@
-"""What comes back on a simulated bus where several units answer at once, and what reaches each unit by itself."""
+"""The answer on a simulated bus if several units answer at once, and what reaches each unit by itself."""
 
 import random
 

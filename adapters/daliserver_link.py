@@ -3,13 +3,13 @@
 
     daliserver_link.py [options] -- COMMAND WORDS..
 
-It starts the command, hands each of its frames to the server and each answer back, until the command closes its
-output, and ends with its status. docs/LINK.md explains it. It goes by daliserver's published protocol, and wasn't
-tried on hardware. Four bytes go each way: we send version 2, type 0, and the frame's address byte and second byte.
-The server answers version 2, a status, the backward frame and 0; the status is 0 for no answer, 1 for an answer and
-255 for an error. An error, any other answer, none within the time limit and a connection that ended leave it open what
-became of the frame: then nothing more is sent, and the command finds its input ended. It never connects anew.
-What the server answers where several units answered at once isn't known, so no answer is told as a damaged one here.
+It starts the command, hands each of its frames to the server and each answer back, until the command closes its output,
+and ends with its status. docs/LINK.md explains it. It follows daliserver's published protocol, and wasn't tried on
+hardware. Four bytes go each way: we send version 2, type 0, and the frame's address byte and second byte. The server
+answers version 2, a status, the backward frame and 0; the status is 0 for no answer, 1 for an answer and 255 for an
+error. An error, any other answer, none within the time limit and a connection that ended leave it open what became of
+the frame: then nothing more is sent, and the command finds its input ended. It never connects anew. It isn't known how
+the server answers if several units answered at once, so no answer is reported as damaged here.
 """
 
 import argparse
@@ -24,7 +24,7 @@ from devices import add_list
 
 VERSION, SEND = 2, 0
 ANSWER_LENGTH = 4
-# What the server's status says.
+# The meanings of the server's status.
 NONE, ANSWERED, ERROR = 0, 1, 255
 
 

@@ -12,13 +12,13 @@ import re
 
 # Serial lines that an interface may have; a computer has many ttyS that lead nowhere.
 SERIAL = ("ttyUSB*", "ttyACM*", "ttyAMA*")
-# What the system says of a device over HID: its bus, maker and product.
+# The system's words on a device over HID: its bus, maker and product.
 HID_ID = re.compile("^HID_ID=[0-9A-F]+:0*([0-9A-F]{4}):0*([0-9A-F]{4})$", re.MULTILINE)
 HID_NAME = re.compile("^HID_NAME=(.*)$", re.MULTILINE)
 
 
 def add_list(parser, find, none):
-    """Add the option, over what gives the lines; where there are none, these words are told."""
+    """Add the option, with the function that gives the lines; if there are none, these words are printed."""
 
     class Listing(argparse.Action):
         """Names the devices, and ends."""
@@ -53,7 +53,7 @@ def serial_lines(devices="/dev"):
 
 
 def hid_devices(known, devices="/dev", system="/sys"):
-    """Give the lines of the devices over HID whose maker and product are known, each behind the word for that."""
+    """Give the lines of the devices over HID whose maker and product are known, each after the word for that."""
     named, lines = names_in(f"{devices}/dali"), []
     for path in sorted(pathlib.Path(system, "class/hidraw").glob("hidraw*")):
         about = (path / "device/uevent").read_text(encoding="utf-8", errors="replace")

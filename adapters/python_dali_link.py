@@ -4,9 +4,9 @@
     python_dali_link.py [options] DRIVER DEVICE -- COMMAND WORDS..
 
 It starts the command, hands each of its frames to the library and each answer back, until the command closes its
-output, and ends with its status. docs/LINK.md explains it. It goes by the library's published interface, and was tried
+output, and ends with its status. docs/LINK.md explains it. It follows the library's published interface, and was tried
 neither with the library nor on hardware. A frame is a command of 16 bits that the library knows nothing of: sent once,
-with no other frame before it, and answered. What comes back is a backward frame, none, or a damaged one. A fault of the
+with no other frame before it, and answered. The result is a backward frame, none, or a damaged one. A fault of the
 library, or no answer of it within the time limit, leaves it open what became of the frame: then nothing more is sent,
 and the command finds its input ended.
 """
@@ -34,7 +34,7 @@ DRIVERS = {
     "hasseb": ("dali.driver.hid:hasseb", "{}"),
     "luba232": ("dali.driver.serial:DriverLubaRs232", "luba232:{}"),
 }
-# What stands before a device's path where a class of the library takes that so.
+# The prefix of a device's path, for a class of the library that takes one.
 URI = re.compile("^[a-z0-9]+:(?=/)")
 # The devices over HID, by maker and product.
 KNOWN = {"17b5:0020": "tridonic", "04cc:0802": "hasseb"}
@@ -131,7 +131,7 @@ async def sent(driver, command):
 
 
 def told_by(loop, doing, seconds, what):
-    """Give what the library does within so many seconds. Whatever it raises, it isn't known what became of it."""
+    """Give what the library does within this many seconds. If it raises, it isn't known what became of it."""
     try:
         return loop.run_until_complete(asyncio.wait_for(doing, seconds))
     except Broken:
@@ -166,7 +166,7 @@ def end(loop):
 
 
 def found():
-    """Give a line for each device that may be an interface, behind the driver that is for it."""
+    """Give a line for each device that may be an interface, after the driver that is for it."""
     return [*hid_devices(KNOWN), *(f"luba232 {line}" for line in serial_lines())]
 
 

@@ -27,7 +27,7 @@ from adapter import NO_ANSWER, Broken, damaged, main, shown
 from devices import add_list, serial_lines
 
 TIME_OUT = 0.5  # seconds; within these the interface sends a frame and replies, or never
-# What ends a line, and the replies that it ends.
+# The ends of a line, and the replies that each ends.
 CARRIAGE_RETURN, LINE_FEED = b"\r", b"\n"
 REPLY = rb"(?:J(?P<digits>[0-9A-Fa-f]{2})|N|(?P<damaged>X))"
 REPLIES = {CARRIAGE_RETURN: re.compile(REPLY + rb"\r"), LINE_FEED: re.compile(REPLY + rb"\r?\n")}
@@ -98,7 +98,7 @@ def words_of_silence(reply, request, end):
 
 
 def advice(reply, end):
-    """Tell what to look at behind a reply that is none."""
+    """Tell what to look at after a reply that is none."""
     if end == CARRIAGE_RETURN and REPLIES[LINE_FEED].fullmatch(reply):
         return "its lines end with a line feed, so give --line-feed"
     if end == LINE_FEED and REPLIES[CARRIAGE_RETURN].fullmatch(reply):

@@ -140,7 +140,7 @@ class AddressableUnit(Unit):
 
 
 class Altering:
-    """What a bus alters by chance: a bit of a frame, its answer to another byte. Which ones and how, says the seed."""
+    """The alterations of a bus by chance: a bit of a frame, its answer to another byte. A seed says which and how."""
 
     def __init__(self, frames=0, answers=0, seed=1):
         self.frames, self.answers = frames, answers
@@ -156,7 +156,7 @@ class Altering:
 
 
 class Bus:
-    """A bus with its units. What it loses and refuses is named by the numbers of frames, counted from 1."""
+    """A bus with its units. Its losses and refusals are given by the numbers of frames, counted from 1."""
 
     def __init__(self, units, lost_frames=(), lost_answers=(), refused=(), lost_power=(), loss=0, seed=1,
                  altering=None, collisions=None, clock=None):
@@ -326,8 +326,8 @@ def save_units(folder, units):
 def replace(path, lines):
     """Replace a file as a whole.
 
-    What is written first is always a new file: a kill may have left one, and in a folder that others may write a link
-    may stand there, which is never followed.
+    The lines first go to a file that is always new: a kill may have left one, and in a folder that others may write it
+    may be a link, which is never followed.
     """
     new = path.with_suffix(".new")
     new.unlink(missing_ok=True)
@@ -435,7 +435,7 @@ def number_of_units(text):
 
 
 def options_and_words(arguments):
-    """Read the command line: the options, and behind -- the words of the command."""
+    """Read the command line: the options, and after -- the words of the command."""
     parser = parser_of_options()
     options, words = adapter.options_and_words(parser, arguments)
     options.is_addressing = options.new is not None or bool(options.twin) or options.edition is not None

@@ -1,11 +1,12 @@
 #!/usr/bin/env python3
 """Print what `dali_bench check FILE` prints, by plain Python, to measure it against.
 
-It shares no code with the program, and isn't tuned. Python's `json` is looser in three places, which no order of
+It shares no code with the program but the table of fields, and isn't tuned. Python's `json` is looser in three places, which no order of
 check.py reaches: a key given twice keeps its last value, `-0` is 0, and a thousand levels are too deep.
 """
 
 import json
+import pathlib
 import re
 import sys
 
@@ -66,23 +67,11 @@ def text(value, size):
     return value.encode("ascii").ljust(size, b"\x00")
 
 
+FORMS = {"gtin": gtin, "identification": identification, "text": text}
+TABLE = pathlib.Path(__file__).resolve().parent.parent / "tools" / "fields.json"
 # Location, size and bytes of each field, in the order in which they are tested, which is that of their locations.
-FIELDS = {
-    "gtin": (0x03, 6, gtin),
-    "identification": (0x09, 8, identification),
-    "year": (0x13, 1, number(0, 99)),
-    "week": (0x14, 1, number(1, 53)),
-    "input_power": (0x15, 2, number(0, 65534)),
-    "min_dim_power": (0x17, 2, number(0, 65534)),
-    "min_voltage": (0x19, 2, number(0, 65534)),
-    "max_voltage": (0x1B, 2, number(0, 65534)),
-    "light_output": (0x1D, 3, number(0, 16777214)),
-    "cri": (0x20, 1, number(0, 100)),
-    "cct": (0x21, 2, number(0, 65533)),
-    "distribution": (0x23, 1, number(0, 254)),
-    "colour": (0x24, 24, text),
-    "luminaire": (0x3C, 60, text),
-}
+FIELDS = {it["key"]: (it["first"], it["bytes"], FORMS.get(it["form"]) or number(it["least"], it["most"]))
+          for it in json.loads(TABLE.read_text(encoding="utf-8"))}
 KEYS = frozenset(FIELDS) | {"order", "unit"}
 
 

@@ -2,12 +2,12 @@
 """Measure how long `dali_bench drive` takes, beyond its link.
 
 Orders of a GTIN (112 frames and three records each) for a few units are sent through pipes to a link that answers at
-once (null_link.c). What the pipes alone take is measured with a command that does nothing but send and read.
+once (null_link.c). The share of the pipes alone is measured with a command that does nothing but send and read.
 
 1. 10, 100 and 1000 orders, with the journal in memory and on disk: the program's own share of a frame, and its peak
    memory; and 1000 orders that the journal knows, which send no frame.
 2. The start alone: over a journal of 100000 orders with all fields, of version 2, and of version 1, which is written
-   anew; and behind 0 to 100 older journals (`--older`) of 100000 orders with a GTIN.
+   anew; and with 0 to 100 older journals (`--older`) of 100000 orders with a GTIN.
 3. `drive --follow`, 1000 orders through a named pipe: each written once the one before it has its kept reply, all
    written at once, and that of four buses beside each other; beside one `drive` an order.
 4. The peak memory of `drive --follow` by its lines.
@@ -34,8 +34,8 @@ ORDERS = 1000
 BUSES = 4
 # The program's own share of a frame, in seconds.
 MOST_SHARE = 20e-6
-# Of a start behind older journals: how the time may grow with ten times as many, the most seconds behind 50, and the
-# most memory by the length of the files.
+# Of a start with older journals: how the time may grow with ten times as many, the most seconds with 50, and the most
+# memory by the length of the files.
 MOST_GROWTH, MOST_START, MOST_OLDER_MEMORY = 12, 4, 2
 # Of `--follow`, from 1000 lines to 100000.
 MOST_MORE = 256 * KIBIBYTE
@@ -43,7 +43,7 @@ FEED = 'exec cat "$0" >"$1"'
 
 
 class Driven(NamedTuple):
-    """What a command under the link took, and what it told."""
+    """The measures of a command under the link, and its lines."""
 
     frames: int
     seconds: float
@@ -53,7 +53,7 @@ class Driven(NamedTuple):
 
 
 def driven_of(printed, told, new):
-    """Read what the link prints, and want status 0 and the frames of so many new orders."""
+    """Read what the link prints, and want status 0 and the frames of `new` new orders."""
     frames, nanoseconds, microseconds, memory, status = map(int, printed.split())
     if (status, frames) != (0, FRAMES_OF_ORDER * new):
         raise Wrong(f"status {status}, {frames} frames of {new} new orders: {told[:99]}")
@@ -61,7 +61,7 @@ def driven_of(printed, told, new):
 
 
 def done_of(printed, told, orders, new):
-    """Do the same, and want a kept reply to so many orders."""
+    """Do the same, and want kept replies to `orders` orders."""
     done = told.count(" kept 0 Done\n")
     if done != orders:
         raise Wrong(f"{done} orders of {orders} done: {told[:99]}")
@@ -96,7 +96,7 @@ class DriveBench(Bench):
         return done_of(ran.stdout, ran.stderr, orders, orders if new is None else new)
 
     def pipes(self, count):
-        """Measure what the pipes alone take for so many orders."""
+        """Measure the pipes alone, with the frames of `count` orders."""
         words = [self.link, self.link, "--ask", str(FRAMES_OF_ORDER * count)]
         runs = []
         for _ in range(self.runs):
@@ -105,20 +105,20 @@ class DriveBench(Bench):
         return least(runs)
 
     def orders(self, count):
-        """Write a file of so many orders."""
+        """Write a file of `count` orders."""
         path = self.folder / f"orders_{count}.json"
         path.write_text(json.dumps([order(number) for number in range(1, count + 1)]), encoding="ascii")
         return path
 
     def lines(self, count, numbers):
-        """Write a file of so many lines, of the orders of these numbers in turn."""
+        """Write a file of `count` lines, of the orders of these numbers in turn."""
         path = self.folder / f"lines_{count}_{numbers}"
         with open(path, "w", encoding="ascii") as file:
             file.writelines(json.dumps(order(1 + at % numbers)) + "\n" for at in range(count))
         return path
 
     def drive(self, count, place, is_sent_again=False):
-        """Measure a drive of so many orders with the journal at a place."""
+        """Measure a drive of `count` orders with the journal at a place."""
         runs = []
         with tempfile.TemporaryDirectory(dir=place) as folder:
             journal = pathlib.Path(folder, "bench.journal")
@@ -130,7 +130,7 @@ class DriveBench(Bench):
         return least(runs)
 
     def start(self, place, version=None, older=0):
-        """Measure the start of a drive over the longest journal of a version, or behind as many older journals."""
+        """Measure the start of a drive over the longest journal of a version, or with as many older journals."""
         runs = []
         with tempfile.TemporaryDirectory(dir=place) as folder:
             journal, words = pathlib.Path(folder, "bench.journal"), [self.program, "drive"]
@@ -162,7 +162,7 @@ class Bus:
         return subprocess.Popen(words, stdin=subprocess.DEVNULL, **how)
 
     def at_once(self, lines, count, new):
-        """Measure a drive over all lines of a file, so many of them new orders."""
+        """Measure a drive over all lines of a file, `new` of them new orders."""
         with subprocess.Popen(["sh", "-c", FEED, lines, self.pipe]):
             return done_of(*self.start().communicate(), count, new)
 

@@ -17,7 +17,7 @@ MOST_EVENTS = 20000
 UNITS = 63
 # So many pieces are written at a time.
 AT_ONCE = 10
-# A JSON text may nest so many levels in all; one of them is the list.
+# A JSON text may nest this many levels in all; one of them is the list.
 LEVELS = 126
 
 
@@ -131,7 +131,7 @@ class Scenario(NamedTuple):
 def worked_off(events, frames, records, order_of, is_single=False):
     """Give events of orders with the steps that each takes, singly or as one, and how many frames these send.
 
-    An order takes a step for each frame, each record and its reply. What is left are steps that do nothing.
+    An order takes a step for each frame, each record and its reply. The steps that are left do nothing.
     """
     steps = frames + records + 1
     count, rest = divmod(events, 1 + steps)

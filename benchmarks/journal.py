@@ -2,7 +2,7 @@
 """Measure `dali_bench journal` and the calls of a journal.
 
 1. `journal FILE` on 100000 orders with all fields, and with a GTIN, in both versions, beside a plain Python program
-   (journal_baseline.py), whose output has to be the same; and loading alone: the same file with a byte behind it that
+   (journal_baseline.py), whose output has to be the same; and loading alone: the same file with a byte after it that
    is no record, so that nothing but the fault is printed.
 2. With --calls: `load`, `kept` and a whole order of a writer (submit, two records, sixteen frames without an answer,
    the saying) over journals of 10, 1000 and 99000 orders, and over numbers chosen to fall together in the index

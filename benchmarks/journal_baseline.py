@@ -12,7 +12,7 @@ CODES = ["Done", "Short", "Format", "Silent", "Doubt", "DoubtOpen"]
 PLACES = [*range(0x03, 0x11), *range(0x13, 0x78)]
 ABOVE = {place: len(PLACES) - at for at, place in enumerate(PLACES)}
 HEADER = bytes.fromhex("44423102")
-# What stands between the letter of a Began and its updates, by version.
+# The form of the bytes between the letter of a Began and its updates, by version.
 HEADS = {1: struct.Struct(">QBB"), 2: struct.Struct(">QQBB")}
 
 

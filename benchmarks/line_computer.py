@@ -1,12 +1,11 @@
 #!/usr/bin/env python3
 """Measure the line computer: orders a second over one store, a kill of its database, and a store of many orders.
 
-Orders of a GTIN (112 frames) go to links that answer at once (null_link.c).
+Orders of a GTIN (49 frames by the short plan) go to links that answer at once (null_link.c).
 
-1. 1, 10 and 50 buses over one server of PostgreSQL, and 1 and 10 over a file
-   of SQLite, in a folder on disk, each bus with its own process, drive and
-   journal: how many orders a second come to their end over all of them, from
-   the moment at which all buses are ready and the first order is given.
+1. 1, 10 and 50 buses over one server of PostgreSQL, and over a file of SQLite, in a folder on disk, each bus with its
+   own process, drive and journal: how many orders a second come to their end over all of them, from the moment at which
+   all buses are ready and the first order is given.
 2. The same 10 buses over PostgreSQL, over a link that takes 2 ms a frame, with
    the whole server killed and started again amid them: how long no order comes
    to its end, beside how long that is without a kill.
@@ -31,7 +30,7 @@ sys.path.insert(0, str(REPOSITORY / "tests"))
 
 from base import settings  # noqa: E402
 from line_bench import Bench, Server, stop  # noqa: E402
-from line_look import MANY, MOST_PAGE, MOST_STEP, Page, fill, page_seconds, step_seconds  # noqa: E402
+from line_fixtures import MANY, MOST_PAGE, MOST_STEP, Page, fill, page_seconds, step_seconds  # noqa: E402
 
 GTIN = "4006381333931"
 ORDERS = {1: 200, 10: 100, 50: 40}
@@ -42,7 +41,7 @@ WORDS = 'shift; exec "$0" "$@"'
 
 
 class Line:
-    """A store with so many buses, each of which is given orders that are all done at the end."""
+    """A store with this many buses, each of which is given orders that are all done at the end."""
 
     def __init__(self, folder, store, buses, orders, adapter):
         self.buses = [f"bus{number}" for number in range(1, buses + 1)]
@@ -101,10 +100,9 @@ def measure_rates(place, link):
             with Server(folder) as server:
                 rate = Line(folder, server.url, buses, orders, adapter).rate()
             print(f"PostgreSQL, {buses} buses: {rate:.0f} orders a second", flush=True)
-        if buses < 50:
-            with tempfile.TemporaryDirectory(dir=place) as folder:
-                rate = Line(pathlib.Path(folder), None, buses, orders, adapter).rate()
-            print(f"SQLite, {buses} buses: {rate:.0f} orders a second", flush=True)
+        with tempfile.TemporaryDirectory(dir=place) as folder:
+            rate = Line(pathlib.Path(folder), None, buses, orders, adapter).rate()
+        print(f"SQLite, {buses} buses: {rate:.0f} orders a second", flush=True)
 
 
 def measure_kill(place):
@@ -130,7 +128,7 @@ def measure_kill(place):
 
 
 def measure_many(place, aims, count, days):
-    """Measure and print the page and a step over so many orders of so many days."""
+    """Measure and print the page and a step over `count` orders of `days` days."""
     with tempfile.TemporaryDirectory(dir=place) as folder:
         bench = Bench(pathlib.Path(folder), buses=("bus1", "bus2"))
         fill(bench, count, ("bus1", "bus2"), days)

@@ -1,4 +1,4 @@
-"""What the benchmarks share: runs of programs, peers, aims, the machine, arguments."""
+"""The common base of the benchmarks: runs of programs, peers, aims, the machine, arguments."""
 
 import argparse
 import atexit
@@ -34,7 +34,7 @@ class Wrong(Exception):
 
 
 class Run(NamedTuple):
-    """What one run of a program took, and its status."""
+    """The measures of one run of a program, and its status."""
 
     seconds: float
     # Of the process and of the kernel for it.
@@ -134,7 +134,7 @@ def argument_parser(description, runs):
 
 
 class Bench:
-    """What the measures of a benchmark share: the program, the command line, a folder, aims."""
+    """The base of a benchmark's measures: the program, the command line, a folder, aims."""
 
     def __init__(self, arguments, folder):
         self.arguments, self.runs = arguments, arguments.runs

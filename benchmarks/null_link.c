@@ -3,9 +3,9 @@
        null_link COMMAND WORDS..    starts the command and answers its frames, as blank units at all addresses would;
                                     then prints what it took: frames, nanoseconds, processor microseconds of the
                                     command, its peak memory in KiB, its status
-       null_link --ask COUNT        is a command that does nothing but send so many frames and read their answers
+       null_link --ask COUNT        is a command that does nothing but send COUNT frames and read their answers
 
-   The second under the first is what the pipes alone take. */
+   The second under the first measures the pipes alone. */
 #include <stdio.h>
 #include <stdlib.h>
 #include <string.h>

@@ -6,14 +6,14 @@ from crates import text_of
 from terms import Names, level_index, tokens_of
 
 USE = re.compile(r"use (?P<path>[^\s{};]+?)(?:\.\{(?P<names>[^}]*)\}| as (?P<alias>[^\s;]+))?;?$")
-# What stands before the name of an item, and the name.
+# The words before the name of an item, and the name.
 HEAD = re.compile(r"((?:(?:abbrev|unfoldable|pub|record|data|ruleset) )*)(\S+)( |$)")
 # The modules that the kit makes of code: its types, and the goals of its functions.
 DECLARED = "declared"
 
 
 class Imports:
-    """What a text brings in: names by theirs here, as modules and names there, and modules by their names here."""
+    """The imports of a text: names by theirs here, as modules and names there, and modules by their names here."""
 
     def __init__(self):
         self.names, self.modules = {}, {}
@@ -84,13 +84,13 @@ def blocks_of(rows):
 
 
 def parts_of(rows):
-    """Give the rows up to a first `where`, without it, and the blocks behind it."""
+    """Give the rows up to a first `where`, without it, and the blocks after it."""
     at = next((at for at, row in enumerate(rows) if re.search(r"(^|\s)where$", row)), len(rows) - 1)
     return [*rows[:at], re.sub(r"(^|\s)where$", "", rows[at])], blocks_of(rows[at + 1 :])
 
 
 def read_clause(names, rows, bound):
-    """Read a clause, with what is defined behind its `where`."""
+    """Read a clause, with the definitions after its `where`."""
     head, blocks = parts_of(rows)
     words = tokens_of("\n".join(head))
     if words[0] == "unfolding":

@@ -1,12 +1,12 @@
-"""What a proof hangs on, and sums of that: the text of a function or a lemma, and what it names, with all that these name.
+"""The text that a proof depends on, and its sums: a function or a lemma, the items that it names, and so on.
 
-What is named counts by what it tells whoever names it, and not by how that was proved: a function by its signature and
+An item that is named counts by what it states for its users, and not by its proof: a function by its signature and
 contract, a lemma by its statement, anything else whole. A function that is proved counts whole, with the files in its
 folder of proofs; a lemma that is proved, with its proof.
 
-Names are taken rather too wide than too narrow: a name means each item that is spelled so in the crate and in those that
-it stands on, a method each method with that name, and a type has all its blocks `impl` of a trait. A function without a
-contract counts whole, and so does a `const fn`. What the kit has counts by the path that brings it in.
+Names are taken rather too wide than too narrow: a name means each item that is spelled so in the crate and in those
+that it rests on, a method each method with that name, and a type has all its blocks `impl` of a trait. A function
+without a contract counts whole, and so does a `const fn`. An item of the kit counts by the path that brings it in.
 """
 
 import collections
@@ -22,20 +22,23 @@ from source import BROUGHT_IN, IMPL, NO_CODE, Part, files_of
 from terms import tokens_of
 
 NAME = re.compile(r"[A-Za-z_]\w*")
-# What stands before a name: the dot of a method, a path, or the bracket that ends a type.
+# The text just before a name: the dot of a method, a path, or the bracket that ends a type.
 BEFORE = re.compile(r"(?:(?P<dot>(?<!\.)\.)|(?:(?P<path>\w+)|[>\]])\s*::)\s*$")
 # How far before a name that may stand.
 REACH = 100
-# What stands before a method, and the methods that macros call.
+# The text before a method, and the methods that macros call.
 DOT = BEFORE.search(".")
 CALLED_BY = {"write!": ("write_fmt",), "writeln!": ("write_fmt", "writeln")}
 UNFOLDED = re.compile(r"^ *unfolding (.*)$", re.MULTILINE)
-# What stands atop a file for all that is in it, or before a module, but for what goes without saying.
+# The attributes at the top of a file for all that is in it, or before a module, except those that every file has.
 ATOP = re.compile(r"^ *#!\[(?!tactic\(auto\)\]).*$|^ *#\[tactic.*\n.*\bmod .*$", re.MULTILINE)
 NAMED_IN_ATTRIBUTE = re.compile(r"\b(?:using|unfolding)\(([^)]*)\)")
 # The module of a crate's constants in antt, and what the modules of a function and of a lemma file stand in.
 CONSTANTS, PROOFS = "TheConstants", "proofs"
 TYPES = ("struct", "enum", "type")
+# The mark that is put in place of a comment, and a comment on a line of its own or after code.
+MARK = "\0"
+MARKED = re.compile(rf"^[ \t]*{MARK}\n|[ \t]*{MARK}", re.MULTILINE)
 # Where operators come from that go without saying; the second passes on what the first has.
 PLAIN = ("std.specs.Prelude", "std.proofs.Common")
 
@@ -186,7 +189,7 @@ class Closures:
         named = paths_in(text)
         for path in named | operators_in({it[0] for it in named}, [*imports.names, *(module.items if module else ())]):
             item = self.library.item(imports, path, module)
-            # What is unfolded counts by its body, also where that is hidden elsewhere.
+            # An item that is unfolded counts by its body, also where that is hidden elsewhere.
             needs |= {told(item), *([whole(item)] if path in unfolded else [])} if item else set()
             source, name = imports.names.get(path[0], (imports.modules.get(path[0]), ""))
             if source and (path in named or source not in PLAIN):
@@ -211,20 +214,20 @@ class Closures:
     # Of edits.
 
     def of_edit(self, edit, more):
-        """Give the sum, with a text, of an edit, of what refuses it and of what that hangs on; None where it can't be told."""
+        """Give the sum, with a text, of an edit, of what refuses it and of all that this needs; None if unknown."""
         crate, brought = edit.crate.name, set()
         roots = set().union(*(self.refusers(crate, it) for it in edit.functions or edit.by or [""]))
         for (file, line), text in edit.lines.items():
             node = self.at_line(edit.crate / file, line)
             needs, paths = self.named_by_line(edit.crate / file, line, text) if node else (set(), set())
             roots |= {node, *needs}
-            # What brings a name in counts too where only the edit has that name.
+            # A path that brings a name in counts too if only the edit has that name.
             brought |= {it for it in paths if it not in self.read(node).paths}
         return None if None in roots else self.sum_of(crate, roots, "\n".join([edit.sum + more, *sorted(brought)]))
 
     def refusers(self, crate, name):
-        """Give the function of a name, with those of its cycle of calls, which have one proof, or the fact whose name stands
-        behind that of its file and a dot; None among them where there is none.
+        """Give the function of a name, with those of its cycle of calls, which have one proof, or the fact whose name
+        comes after that of its file and a dot; None among them if there is none.
         """
         file, dot, fact = name.partition(".")
         if dot:
@@ -319,7 +322,7 @@ def is_open(function):
 
 
 def body_of(function):
-    """Give where the body of a function opens, behind its clauses."""
+    """Give where the body of a function opens, after its clauses."""
     code = function.file.code
     found = code.find("{", max([function.after, *(end + 1 for _, end in function.clauses())]), function.end)
     return found if found >= 0 else function.end
@@ -333,8 +336,9 @@ def without(text, parts, blank):
 
 
 def without_comments(text):
-    """Give a text of code without its comments."""
-    return NO_CODE.sub(lambda it: "" if it[0].startswith("//") else it[0], text)
+    """Give a text of code without its comments, and without the lines that have nothing else."""
+    marked = NO_CODE.sub(lambda it: MARK if it[0].startswith("//") else it[0], text)
+    return MARKED.sub("", marked)
 
 
 @functools.cache
@@ -351,7 +355,7 @@ def paths_by_name(file):
 
 
 def paths_of(tree):
-    """Give the paths of what stands behind `use`, by their names here."""
+    """Give the paths after `use`, by their names here."""
     head, bracket, rest = re.sub(r"\s+", " ", tree).partition("{")
     if not bracket:
         path, _, alias = head.strip().partition(" as ")

@@ -6,11 +6,11 @@ OPTION = re.compile(r"^ {2,8}(?:-\w, )?(--[a-z\d-]+)(?: [<[]?([A-Z][^] >]*)[]>]?
 ARGUMENT = re.compile(r"^  <?([A-Z]{3,})>?(?:  |$)", re.MULTILINE)
 COMMANDS = re.compile(r"^(?:Commands:|  COMMAND)\n((?: +\S.*\n)+)", re.MULTILINE)
 COMMAND = re.compile(r"^ {2,4}([a-z]+)(?:  |$)", re.MULTILINE)
-# What the names of values and arguments stand for. The others are numbers and words of which nothing is known.
+# The values and arguments that are files or folders, by their names. The others are numbers and words of any kind.
 FILES = {"FILE", "PATH", "STORE", "ORDERS", "SCENARIO", "HEXFILE", "JOURNAL", "DEVICE"}
 FOLDERS = {"F"}
 FUNCTIONS = """\
-# What may come behind a program and its command: commands, options, and those of them that a value follows.
+# The words that may come after a program and its command: commands, options, and those of them that a value follows.
 _dali_bench_table() { # program and command, with a blank between them
     commands='' options='' values='' files='' folders='' has_files=''
     case $1 in

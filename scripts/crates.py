@@ -9,7 +9,7 @@ import time
 
 ROOT = pathlib.Path(__file__).resolve().parent.parent
 CRATES = ROOT / "crates"
-# What a crate is made of.
+# The folders of a crate.
 PARTS = ("src", "specs", "proofs")
 # The memory that a check may take, in bytes, of the largest crate and some more.
 ONE_CHECK = 4 << 30

@@ -10,7 +10,7 @@ import tempfile
 
 # Where a person unpacks the archive, by the service and its variables, and where the package has it.
 UNPACKED, HOME = b"/opt/dali-bench", "usr/lib/dali-bench"
-# What has a place of its own, or has none.
+# Files that have a place of their own, or none.
 MANUAL, COMPLETIONS, SUMS = "dali_bench.1", "completions.bash", "SHA256SUMS"
 COMMANDS = {"dali_bench": "dali_bench", "line_computer": "line_computer", "orders_from_csv": "tools/orders_from_csv",
             "dali_serial_link": "adapters/serial_link.py", "dali_daliserver_link": "adapters/daliserver_link.py",
@@ -51,7 +51,7 @@ REMOVED = f"""\
 set -e
 [ "$1" = remove ] || exit 0
 [ ! -d /run/systemd/system ] || systemctl stop {SERVICES} || :
-# What Python leaves beside the adapters.
+# Files that Python leaves beside the adapters.
 rm -rf /{HOME}/adapters/__pycache__
 """
 

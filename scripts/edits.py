@@ -7,12 +7,12 @@ A file `writer.edits` has the edits that begin in one file, which its first line
     rule: what all edits down to the next rule break
 
     edit: name_of_an_edit
-    old: a line, or a part of one, that stands once in the file
-    new: what stands there in the edit
+    old: a line, or a part of one, that the file has once
+    new: the text in its place in the edit
 
 An edit has as many pairs of texts as it needs. A line `file: PATH` before a pair moves on to another file of the crate,
-and a line `by: NAME` or `by: NAME, NAME` tells what refuses the edit, where its lines aren't within functions: a function,
-as `writer::Writer::want`, or a lemma behind the name of its file, as `WorkedLemmas.not_enabled`. (The kit's own form,
+and a line `by: NAME` or `by: NAME, NAME` names what refuses the edit, if its lines aren't within functions: a function,
+as `writer::Writer::want`, or a lemma after the name of its file, as `WorkedLemmas.not_enabled`. (The kit's own form,
 must-fail, has no edit here: for each crate that has one `rt ci` proves the crate once more.)
 """
 
@@ -101,7 +101,7 @@ def edits_in(path):
 
 
 def rows_of(path):
-    """Give the lines of a file of edits, each as its first word and the text behind that."""
+    """Give the lines of a file of edits, each as its first word and the text after that."""
     rows = []
     for line in text_of(path).split("\n"):
         word, _, rest = line.partition(":")

@@ -1,8 +1,8 @@
 """The record of the edits that were refused: `refused.txt`, which `wrong_bodies` alone writes.
 
-It has a line for each: its crate, its name, and the sum of all that its refusal hangs on (`closure.py`), so that an edit
-whose sum is another one is tried again. Where what refused it can't be told, that is all files of its crate and of those
-that it stands on. The lines are sorted, so that records merge.
+It has a line for each: its crate, its name, and the sum of all that its refusal depends on (`closure.py`), so that an
+edit whose sum is another one is tried again. If it isn't known what refused it, that is all files of its crate and of
+those that it rests on. The lines are sorted, so that records merge.
 """
 
 import collections
@@ -17,7 +17,7 @@ from crates import ROOT, text_of
 from sums import add_files, kit_version
 
 RECORD = ROOT / "refused.txt"
-# What the sums are of: another one where `wrong_bodies` takes something else for a refusal.
+# The form of the sums: another one if `wrong_bodies` takes something else for a refusal.
 FORM = "1"
 # How many digits of a sum are written.
 DIGITS = 32
@@ -26,7 +26,7 @@ MOST_OF_A_CRATE = 10
 
 
 class Refused:
-    """What is known of edits, by the record and by the files as they stand."""
+    """The known refusals of edits, by the record and by the files as they are."""
 
     def __init__(self, edits):
         self.more = f"{FORM} {kit_version().decode()}"
@@ -49,13 +49,13 @@ class Refused:
         return {f"{row[0]}/{row[1]}": row[2] for row in rows if len(row) == 3}
 
     def of(self, edits):
-        """Give those of some edits that are known to be refused. What can't be applied isn't."""
+        """Give those of some edits that are known to be refused. An edit that can't be applied isn't."""
         rows = self.rows()
         having = [it for it in edits if it.name in rows and not it.why]
         return [it for it in having if rows[it.name] in (self.narrow_of(it), self.wide_of(it))]
 
     def narrow_of(self, edit):
-        """Give the sum of what refuses an edit and of all that this hangs on, None where it can't be told."""
+        """Give the sum of what refuses an edit and of all that this depends on, None if unknown."""
         total = self.closures.of_edit(edit, self.more)
         return total and total[:DIGITS]
 
@@ -91,7 +91,7 @@ class Refused:
 
 
 def replace(path, text):
-    """Put a text in the place of a file: behind a kill or on a full disk the old one or the new one stands there."""
+    """Put a text in the place of a file: after a kill or on a full disk it is the old one or the new one."""
     with tempfile.TemporaryDirectory(dir=path.parent, prefix=f".{path.name}-") as folder:
         made = pathlib.Path(folder) / path.name
         made.write_text(text, encoding="utf-8")
@@ -99,7 +99,7 @@ def replace(path, text):
 
 
 def chosen(edits, seed, count):
-    """Give so many of some edits, by chance, always the same for a seed: of few crates, each of which costs a check.
+    """Give `count` of some edits, by chance, always the same for a seed: of few crates, each of which costs a check.
 
     A crate is chosen by one of its edits, so that each edit is about as likely as any other.
     """

@@ -28,7 +28,7 @@ def blank_of(text):
 
 
 def code_of(text):
-    """Give a text with blanks for its comments, texts and characters, but for names that a text is filled in with."""
+    """Give a text with blanks for its comments, texts and characters, except names that a text is filled in with."""
     return NO_CODE.sub(lambda it: blank_of(it[0]) if it[0][0] != '"' else re.sub(NO_NAME, blank_in, it[0]), text)
 
 
@@ -79,7 +79,7 @@ class Part:
 
 
 def parameters_at(code, at):
-    """Give where the bracket of the parameters opens, behind type parameters where there are any."""
+    """Give where the bracket of the parameters opens, after type parameters if there are any."""
     depth = 0
     while at < len(code) and (depth or code[at] != "("):
         depth += (code[at] == "<") - (code[at] == ">" and code[at - 1] != "-")
@@ -98,7 +98,7 @@ def end_of_bracket(code, at):
 
 
 def end_of_item(code, at):
-    """Give where an item ends that starts here: behind its semicolon, or its body."""
+    """Give where an item ends that starts here: after its semicolon, or its body."""
     while at < len(code):
         if code[at] == ";":
             return at + 1
@@ -127,7 +127,7 @@ class File:
         self.rows = [0, *(it.end() for it in re.finditer("\n", self.code))]
         self.holding = [None] * len(self.rows)
         for part in self.parts:
-            # An item stands behind the block that it is in.
+            # An item comes after the block that it is in.
             first = bisect.bisect_right(self.rows, part.start) - 1
             last = bisect.bisect_right(self.rows, part.end - 1)
             self.holding[first:last] = [part] * (last - first)
@@ -272,7 +272,7 @@ class Calls:
 
 
 def near(file, path, having):
-    """Of items with one name give those that a word of a file may mean, which stands behind a path or none."""
+    """Of items with one name give those that a word of a file may mean, which has a path before it or none."""
     if path:
         path = file.renamed.get(path, path)
         by_path = [it for it in having if path in (it.file.path.stem, it.file.crate)]

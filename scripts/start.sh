@@ -11,7 +11,7 @@ asks_version() { # words
 start() { # words
     trap '' XFSZ
     if asks_version "$@" && commit=$(commit_of_files) && line=$("$program" --version); then
-        # As of the program: nothing is told where only the reader has gone.
+        # As of the program: no message if only the reader has gone.
         trap 'exit 2' PIPE
         printf '%s, commit %s\n' "$line" "$commit" 2>/dev/null && exit
         echo "error: the output can't be written" >&2

@@ -10,7 +10,7 @@ TOKEN = re.compile(
 CLOSING = {"(": ")", "{": "}", "[": "]"}
 CLOSERS = set(CLOSING.values())
 NO_NAMES = set("(){}.;,@=:")
-# What ends what a binder reaches over, within the brackets around it.
+# The tokens that end the scope of a binder, within the brackets around it.
 ENDS = (",", ";", "|")
 
 
@@ -33,7 +33,7 @@ class Names:
             self.found.add(path[:2])
 
     def term(self, tokens, bound=frozenset()):
-        """Note the names of a term, and give the names bound behind it."""
+        """Note the names of a term, and give the names bound after it."""
         walk = Walk(self, tokens, 0)
         return walk.until((), bound)
 
@@ -102,7 +102,7 @@ class Walk:
         return bound
 
     def one(self, word, bound):
-        """Go over what begins with a token, and give what is bound behind it."""
+        """Go over a part that begins with a token, and give the names bound after it."""
         if word == "λ":
             return self.names.pattern(self.taken_until("."), bound)
         if word == "let":
@@ -137,7 +137,7 @@ class Walk:
                 return
 
     def value(self, bound):
-        """Go over the value of a case, and the bar or the bracket behind it."""
+        """Go over the value of a case, and the bar or the bracket after it."""
         while self.at < len(self.tokens):
             word = self.next()
             if word in ("|", "]"):

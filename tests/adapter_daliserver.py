@@ -24,9 +24,9 @@ SECOND = 5 * ["pause"]  # in which the stand-in command sends nothing
 class Server:
     """Plays a daliserver.
 
-    For each connection it has a list of turns, the first of them for when that stands, the others behind each request.
-    A turn's parts are the hexadecimal digits of what it sends, seconds to wait, `echo` to answer the second byte of
-    the frame, and `close` or `reset` to end the connection. Behind the last turn it only listens.
+    For each connection it has a list of turns, the first of them for when it is made, the others for after each
+    request. A turn's parts are the hexadecimal digits of what it sends, seconds to wait, `echo` to answer the second
+    byte of the frame, and `close` or `reset` to end the connection. After the last turn it only listens.
     """
 
     def __init__(self, *connections, address="127.0.0.1", port=0):
@@ -167,7 +167,7 @@ def test_daliserver_tells_no_answer_as_damaged(folder):
         want((word, status, answers, "the server tells an error" in told), (word, 4, ["--", "end"], True))
 
 
-# What closes the link
+# Turns that close the link
 
 NO_FORM = "is none that it may give"
 BREAKS = [
@@ -198,7 +198,7 @@ BREAKS = [
 
 
 def test_daliserver_breaks(folder):
-    """The frame behind the one that broke the link isn't sent, and nothing is answered for either."""
+    """The frame after the one that broke the link isn't sent, and neither gets an answer."""
     for (name, _, words), (status, answers, heard, told) in beside_each_other(
             lambda case: over_server([[NONE], case[1], [ONE]], "C301 0B9C A303".split()), BREAKS):
         want((name, status, answers, heard), (name, 4, ["--", "end"], ["0200c301", "02000b9c"]))

@@ -1,7 +1,8 @@
-"""What the tests of the adapters share: a stand-in command, a run of an adapter with it, and how tests are run."""
+"""The base of the tests of adapters: a stand-in command, a run of an adapter with it, and how tests are run."""
 
 import concurrent.futures
 import datetime
+import importlib
 import os
 import pathlib
 import re
@@ -128,8 +129,9 @@ def passes(name, test):
 
 
 def main(*modules):
-    """Run all tests of the modules beside each other, and return the status."""
-    tests = [(name, test) for module in modules for name, test in vars(module).items() if name.startswith("test_")]
+    """Run all tests of the modules of these names beside each other, and return the status."""
+    found = [vars(importlib.import_module(module)) for module in modules]
+    tests = [(name, test) for names in found for name, test in names.items() if name.startswith("test_")]
     with concurrent.futures.ThreadPoolExecutor(8) as pool:
         results = list(pool.map(passes, *zip(*tests)))
     print(f"{results.count(True)} passed, {results.count(False)} failed")

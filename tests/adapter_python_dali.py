@@ -1,7 +1,6 @@
 """Tests of the link over python-dali, over a library of the tests' own with that one's published interface."""
 
 import concurrent.futures
-import json
 import os
 import pathlib
 import pty
@@ -12,46 +11,15 @@ import tempfile
 import time
 
 from adapter_desk import ADAPTERS, player, run, shown_frames, want_link_without_frames, want_named_descriptors
+from adapter_fixtures import LIBRARY_LINK, LIMIT, LibraryInterface
 from base import want
-from driven import ROOT, load
-
-LINK = ADAPTERS / "python_dali_link.py"
-LIBRARY = ROOT / "tests" / "python_dali"
-LIMIT = 2  # seconds, the time limit where a busy machine may take long
-
-
-class Interface:
-    """Plays an interface, by the library: what it does at each frame, and what it has heard."""
-
-    def __init__(self, folder, turns=(), **more):
-        self.folder, self.heard_in = folder, folder / "heard"
-        self.heard_in.touch()
-        self.script = folder / "played.json"
-        self.script.write_text(json.dumps({"turns": turns, "heard": str(self.heard_in), **more}))
-        # A device is a file that this user may open; nothing opens it.
-        self.device = folder / "device"
-        self.device.touch()
-        self.environment = {**os.environ, "PLAYED_DALI": str(self.script), "PYTHONPATH": str(LIBRARY),
-                            "PYTHONDONTWRITEBYTECODE": "1"}
-
-    def run(self, words, *options, driver="tridonic", limit=LIMIT):
-        """Run a stand-in command over it; give its status, the answers, the frames that it heard, the text."""
-        options = ["--time-limit", limit, *options, driver, self.device]
-        status, answers, told = run(LINK, options, words, env=self.environment)
-        assert "Traceback" not in told and "Task" not in told, told
-        return status, answers, self.frames(), told
-
-    def frames(self):
-        """Give the frames that were heard: each of 16 bits, and none that the library knows by a name."""
-        lines = [it.split() for it in self.heard_in.read_text().splitlines() if not it.startswith("device ")]
-        want([line for line in lines if line[0] != "16" or line[2:] != ["0"]], [])
-        return [line[1] for line in lines]
+from driven import load
 
 
 def over(turns, words, *options, **more):
     """Run a stand-in command over an interface that does so."""
     with tempfile.TemporaryDirectory() as folder:
-        return Interface(pathlib.Path(folder), turns).run(words, *options, **more)
+        return LibraryInterface(pathlib.Path(folder), turns).run(words, *options, **more)
 
 
 def beside_each_other(find, cases):
@@ -83,11 +51,11 @@ def test_python_dali_a_damaged_answer_is_yes_where_only_yes_answers(folder):
 def test_python_dali_names_the_device_as_the_library_wants_it(folder):
     for driver in ("tridonic", "hasseb", "luba232", "dali.driver.hid:hasseb"):
         with tempfile.TemporaryDirectory() as name:
-            interface = Interface(pathlib.Path(name), [["none"]])
+            interface = LibraryInterface(pathlib.Path(name), [["none"]])
             want(interface.run(["C301"], driver=driver)[:2], (7, ["--"]))
             line = interface.heard_in.read_text().splitlines()[0]
             want((driver, line), (driver, f"device {interface.device}"))
-    interface = Interface(folder, [["none"]])
+    interface = LibraryInterface(folder, [["none"]])
     interface.device = f"other:{interface.device}"
     want(interface.run(["C301"], driver="dali.driver.serial:DriverOther")[:3], (7, ["--"], ["C301"]))
 
@@ -103,11 +71,12 @@ def test_python_dali_frames_are_shown(folder):
 
 def test_python_dali_goes_on_where_frames_cannot_be_shown(folder):
     for told_to in ("/dev/full", "&-"):
-        interface = Interface(folder, [["none"], ["01"]])
+        interface = LibraryInterface(folder, [["none"], ["01"]])
         before = dict(os.environ)
         os.environ.update(interface.environment)
         try:
-            found = want_link_without_frames(LINK, ["tridonic", interface.device], told_to, "C301 0B9C".split(), folder)
+            options = ["tridonic", interface.device]
+            found = want_link_without_frames(LIBRARY_LINK, options, told_to, "C301 0B9C".split(), folder)
         finally:
             os.environ.clear()
             os.environ.update(before)
@@ -127,7 +96,7 @@ def test_python_dali_the_first_frame_waits(folder):
     assert time.monotonic() - began >= 3, "no late frame was waited for"
 
 
-# What closes the link
+# Turns that close the link
 
 BROKEN = "it isn't known what became of the frame: the library "
 BREAKS = [
@@ -142,7 +111,7 @@ BREAKS = [
 
 
 def test_python_dali_breaks(folder):
-    """The frame behind the one that broke the link isn't sent, and nothing is answered for either."""
+    """The frame after the one that broke the link isn't sent, and neither gets an answer."""
     for (_, words), (status, answers, heard, told) in beside_each_other(
             lambda case: over([["none"], case[0], ["01"]], "C301 0B9C A303".split()), BREAKS):
         want((words, status, answers, heard), (words, 4, ["--", "end"], ["C301", "0B9C"]))
@@ -156,8 +125,9 @@ def test_python_dali_device_that_goes_between_two_frames(folder):
 
 
 def test_python_dali_a_broken_link_is_never_status_0(folder):
-    interface = Interface(folder, [["fail"]])
-    words = [sys.executable, LINK, "tridonic", interface.device, "--", "sh", "-c", "echo C301; read -r answer; exit 0"]
+    interface = LibraryInterface(folder, [["fail"]])
+    words = [sys.executable, LIBRARY_LINK, "tridonic", interface.device]
+    words += ["--", "sh", "-c", "echo C301; read -r answer; exit 0"]
     ended = subprocess.run(words, capture_output=True, text=True, timeout=20, env=interface.environment)
     want((ended.returncode, ended.stderr.count("\n")), (1, 1))
 
@@ -183,7 +153,7 @@ def test_python_dali_cannot_start(folder):
                                                 " plug"),
             ({}, "dali.driver.hid:launchpad", "the library python-dali that is installed has no launchpad in"
                                               " dali.driver.hid")]:
-        interface = Interface(folder, [["none"]], **how)
+        interface = LibraryInterface(folder, [["none"]], **how)
         status, answers, heard, told = interface.run(["C301"], driver=driver)
         want((how, status, answers, heard), (how, 2, None, []))
         want(told, f"error: {words.format(interface.device)}\n")
@@ -193,7 +163,7 @@ def test_python_dali_cannot_start(folder):
 
 
 def test_python_dali_without_the_library(folder):
-    interface = Interface(folder, [["none"]])
+    interface = LibraryInterface(folder, [["none"]])
     interface.environment["PYTHONPATH"] = ""
     words = (f"error: {sys.executable} can't use dali.driver.hid of the library python-dali: No module named 'dali':"
              " install the library, or start this adapter by the Python that has it (docs/SETUP.md)\n")
@@ -201,9 +171,9 @@ def test_python_dali_without_the_library(folder):
 
 
 def test_python_dali_has_one_adapter_at_a_time(folder):
-    interface = Interface(folder, [["none"]])
+    interface = LibraryInterface(folder, [["none"]])
     (folder / "link").symlink_to(interface.device)
-    words = [sys.executable, LINK, "hasseb", folder / "link", "--", *player(["C301", *["pause"] * 50])]
+    words = [sys.executable, LIBRARY_LINK, "hasseb", folder / "link", "--", *player(["C301", *["pause"] * 50])]
     held = subprocess.Popen(words, stderr=subprocess.DEVNULL, env=interface.environment)
     while "C301" not in interface.heard_in.read_text():
         time.sleep(0.05)
@@ -220,11 +190,11 @@ def test_python_dali_has_one_adapter_at_a_time(folder):
 
 
 def test_python_dali_hands_on_what_the_command_names(folder):
-    interface = Interface(folder)
+    interface = LibraryInterface(folder)
     before = dict(os.environ)
     os.environ.update(interface.environment)
     try:
-        want_named_descriptors(LINK, ["tridonic", interface.device])
+        want_named_descriptors(LIBRARY_LINK, ["tridonic", interface.device])
     finally:
         os.environ.clear()
         os.environ.update(before)
@@ -235,7 +205,7 @@ def test_python_dali_hands_on_what_the_command_names(folder):
 
 def test_python_dali_over_simulated_units(folder):
     """Two new units answer COMPARE at once: that is damaged, and a yes; to a read it is nothing."""
-    interface = Interface(folder, units=str(folder))
+    interface = LibraryInterface(folder, units=str(folder))
     words = "A500 A500 A700 A700 B1FF B3FF B5FF A900 FF96 A100 A100 C301 FF9C".split()
     status, answers, heard, _ = interface.run(words)
     want((status, heard), (7, words))
@@ -246,14 +216,15 @@ def test_python_dali_over_simulated_units(folder):
 
 
 def test_python_dali_help(folder):
-    ended = subprocess.run([LINK, "--help"], capture_output=True, text=True, env={**os.environ, "COLUMNS": "200"})
+    wide = {**os.environ, "COLUMNS": "200"}
+    ended = subprocess.run([LIBRARY_LINK, "--help"], capture_output=True, text=True, env=wide)
     want((ended.returncode, ended.stderr), (0, ""))
     for words in ("tridonic ", "hasseb ", "luba232 ", "MODULE:CLASS", "(default: 0.5)", "Not tried with the library"):
         assert words in ended.stdout, (words, ended.stdout)
 
 
 def test_python_dali_wrong_options(folder):
-    interface = Interface(folder, [["none"]])
+    interface = LibraryInterface(folder, [["none"]])
     for driver, words in [(text, "is none of tridonic, hasseb, luba232, and no MODULE:CLASS")
                           for text in ("", "lunatone", ":", "dali.driver.hid:", ":tridonic", "a b:c", "dali/x:y")]:
         status, answers, heard, told = interface.run(["A303"], driver=driver)
@@ -262,7 +233,7 @@ def test_python_dali_wrong_options(folder):
     for options, words in [(["tridonic"], "required: DEVICE"), ([], "required: DRIVER, DEVICE"),
                            (["--time-limit", "0", "tridonic", "/dev/null"], "is no number of seconds over 0, up to 60"),
                            (["tridonic", "/dev/null", "more"], "unrecognized arguments: more")]:
-        status, answers, told = run(LINK, options, ["A303"], env=interface.environment)
+        status, answers, told = run(LIBRARY_LINK, options, ["A303"], env=interface.environment)
         want((options, status, answers), (options, 2, None))
         assert words in told, (options, told)
 
@@ -292,7 +263,7 @@ def test_devices_are_listed(folder):
     devices, (dev, system) = load(ADAPTERS / "devices.py"), put_devices(folder)
     want(devices.serial_lines(dev), [f"{dev}/ttyACM0 (ttyACM0)", f"{dev}/ttyAMA0 (ttyAMA0)",
                                      f"{dev}/serial/by-id/usb-FTDI_A50285BI-if00-port0 (ttyUSB0)"])
-    link = load(LINK)
+    link = load(LIBRARY_LINK)
     want(devices.hid_devices(link.KNOWN, dev, system),
          [f"tridonic {dev}/hidraw0 (Tridonic DALI USB)", f"hasseb {dev}/dali/hasseb-1234 (hidraw2)"])
     want(devices.serial_lines(folder / "none") + devices.hid_devices(link.KNOWN, dev, folder / "none"), [])
@@ -300,7 +271,7 @@ def test_devices_are_listed(folder):
 
 
 def test_list_of_each_adapter(folder):
-    """What is there hangs on the machine: each line is a device of it, or words say that there is none."""
+    """The list depends on the machine: each line is a device of it, or words say that there is none."""
     for name, words in [("serial_link", "there is no serial line: is the interface plugged in?\n"),
                         ("python_dali_link", "there is no device that is known, and no serial line: is the interface"
                                              " plugged in?\n"),

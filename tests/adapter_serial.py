@@ -3,19 +3,15 @@
 import concurrent.futures
 import errno
 import fcntl
-import os
-import pty
 import re
-import select
 import struct
 import subprocess
 import sys
 import termios
-import threading
 import time
-import tty
 
 from adapter_desk import ADAPTERS, player, run, shown_frames, want_link_without_frames, want_named_descriptors
+from adapter_fixtures import SerialInterface
 from base import want
 from driven import ROOT
 
@@ -35,61 +31,9 @@ sys.exit(serial_link.main(serial_link.parser(), serial_link.open_interface, ["/d
 """
 
 
-class Interface:
-    """Plays a serial interface on a pseudo-terminal. Each reply is bytes, seconds to wait, or `close` to be gone."""
-
-    def __init__(self, replies, end=b"\r"):
-        self.line, self.far_line = pty.openpty()
-        tty.setraw(self.far_line)
-        self._set_speed(termios.B75)
-        self.device = os.ttyname(self.far_line)
-        self.replies, self.end = replies, end
-        self.heard, self.speeds = [], None
-        self.thread = threading.Thread(target=self._play, daemon=True)
-        self.thread.start()
-
-    def _set_speed(self, speed):
-        attributes = termios.tcgetattr(self.far_line)
-        attributes[4:6] = speed, speed
-        termios.tcsetattr(self.far_line, termios.TCSANOW, attributes)
-
-    def _play(self):
-        for turn in self.replies:
-            if not self._hear():
-                return
-            for what in turn:
-                if what == "close":
-                    os.close(self.far_line)
-                    os.close(self.line)
-                    self.line = None
-                    return
-                if isinstance(what, bytes):
-                    os.write(self.line, what)
-                else:
-                    time.sleep(what)
-        self._hear(0.3)
-
-    def _hear(self, seconds=3):
-        """Read one line of a frame, where one comes, and the speeds that the line then has."""
-        text = b""
-        while not text.endswith(self.end) and select.select([self.line], [], [], seconds)[0]:
-            text += os.read(self.line, 1)
-        if text:
-            self.heard.append(text.decode())
-            self.speeds = termios.tcgetattr(self.far_line)[4:6]
-        return text.endswith(self.end)
-
-    def close(self):
-        """Wait for the end of what is played, and close the pseudo-terminal."""
-        self.thread.join()
-        if self.line is not None:
-            os.close(self.line)
-            os.close(self.far_line)
-
-
 def over_serial(replies, words, options=()):
     """Run a stand-in command over the serial link; return its status, the answers, what was heard, the text."""
-    interface = Interface(replies, b"\n" if "--line-feed" in options else b"\r")
+    interface = SerialInterface(replies, b"\n" if "--line-feed" in options else b"\r")
     status, answers, told = run(SERIAL, [*options, interface.device], words)
     interface.close()
     assert "Traceback" not in told, told
@@ -122,7 +66,7 @@ def test_serial_frames_are_shown(folder):
 
 def test_serial_goes_on_where_frames_cannot_be_shown(folder):
     for told_to in ("/dev/full", "&-"):
-        interface = Interface([[b"N\r"], [b"J01\r"]])
+        interface = SerialInterface([[b"N\r"], [b"J01\r"]])
         found = want_link_without_frames(SERIAL, [interface.device], told_to, "C301 0B9C".split(), folder)
         interface.close()
         want((told_to, found, interface.heard), (told_to, ["--", "01"], ["SC301\r", "S0B9C\r"]))
@@ -152,7 +96,7 @@ def test_serial_other_replies(folder):
 
 
 def test_serial_late_answer(folder):
-    interface = Interface([[0.7, b"J55\r"], [b"N\r"], [b"J01\r"]])
+    interface = SerialInterface([[0.7, b"J55\r"], [b"N\r"], [b"J01\r"]])
     want(run(SERIAL, [interface.device], ["0B9C", "A303"])[:2], (4, ["end"]))
     want(run(SERIAL, [interface.device], ["0B98", "0BC5"])[:2], (7, ["--", "01"]))
     interface.close()
@@ -173,7 +117,7 @@ def test_serial_command_gone(folder):
 
 
 def test_serial_cannot_start(folder):
-    interface = Interface([[b"N\r"], [b"N\r"]])
+    interface = SerialInterface([[b"N\r"], [b"N\r"]])
     words = ["C301", *["pause"] * 50]
     held = subprocess.Popen([SERIAL, interface.device, "--", *player(words)], stderr=subprocess.PIPE)
     while interface.thread.is_alive() and not interface.heard:
@@ -213,7 +157,7 @@ def test_serial_letter_and_baud_rate(folder):
             (["--baud", "1200"], "SC301\r", b"J5A\r", termios.B1200),
             (["--line-feed"], "SC301\n", b"J5A\n", termios.B38400),
             (HAT, "hC301\n", b"J5A\n", termios.B19200)]:
-        interface = Interface([[reply]], sent[-1:].encode())
+        interface = SerialInterface([[reply]], sent[-1:].encode())
         status, answers, _ = run(SERIAL, [*options, interface.device], ["C301"])
         interface.close()
         want((options, status, answers, interface.heard), (options, 7, ["5A"], [sent]))
@@ -240,7 +184,7 @@ def test_serial_other_line_ends(folder):
 
 
 def test_serial_wrong_options(folder):
-    interface = Interface([[b"N\r"]])
+    interface = SerialInterface([[b"N\r"]])
     no_letter, no_rate = "isn't one letter, A to Z or a to z", "is none of the system's baud rates: 50, 75, 110, "
     for options, words in [
             *((["--letter", text], no_letter) for text in ("", "hh", "5", "\u00e9", " ", "-5")),
@@ -265,7 +209,7 @@ def test_serial_help_tells_who_speaks_so(folder):
 
 
 def test_serial_a_broken_link_is_never_status_0(folder):
-    interface = Interface([[]])
+    interface = SerialInterface([[]])
     words = [SERIAL, interface.device, "--", "sh", "-c", "echo C301; read -r answer; exit 0"]
     ended = subprocess.run(words, capture_output=True, text=True, timeout=9)
     interface.close()
@@ -273,7 +217,7 @@ def test_serial_a_broken_link_is_never_status_0(folder):
     assert re.fullmatch("error: the interface gave no reply in 0.5 seconds [^\n]+\n", ended.stderr), ended.stderr
 
 
-# What a wrong option is told as
+# The messages for wrong options
 
 NO_REPLY = (": look at its plug and its power, and whether --letter, --baud and --line-feed are as it wants them")
 WRONG_RATE = ": look at --baud, since bytes as these come at a wrong rate"
@@ -284,7 +228,7 @@ MISTAKES = [
     # The interface doesn't know the letter, or hears nothing at this rate, or waits for another line end.
     ([], [], "the interface gave no reply in 0.5 seconds to S0B9C\\x0D" + NO_REPLY),
     (HAT, [], "the interface gave no reply in 0.5 seconds to h0B9C\\x0A" + NO_REPLY),
-    # Its lines end with a line feed, and it was told to end them with a carriage return; and the other way round.
+    # Its lines end with a line feed, and the options say a carriage return; and the other way round.
     ([], [b"J5A\n"], WITHOUT.format("\\x0D", "J5A\\x0A: its lines end with a line feed, so give --line-feed")),
     ([], [b"N\r\n"], WITHOUT.format("\\x0D", "N\\x0D\\x0A: its lines end with a line feed, so give --line-feed")),
     (HAT, [b"J5A\r"], WITHOUT.format(
@@ -313,7 +257,7 @@ def test_serial_mistakes_are_told(folder):
 
 
 def test_serial_a_command_that_speaks_to_no_link_is_told(folder):
-    interface = Interface([[b"N\r"]])
+    interface = SerialInterface([[b"N\r"]])
     words = [SERIAL, interface.device, "--", "echo", "item 1 order 1 unit 5"]
     ended = subprocess.run(words, capture_output=True, text=True, timeout=9)
     interface.close()
@@ -323,6 +267,6 @@ def test_serial_a_command_that_speaks_to_no_link_is_told(folder):
 
 
 def test_serial_hands_on_what_the_command_names(folder):
-    interface = Interface([])
+    interface = SerialInterface([])
     want_named_descriptors(SERIAL, [interface.device])
     interface.close()

@@ -3,11 +3,10 @@
 
     address_benches.py [--count N] [--first K] [PROGRAM]
 
-PROGRAM is run, or where none is given the plan of address_plan.py. Each bench hangs on its number alone: some units have
-a short address before, the standard is read in each way that it may be, and up to three runs are killed before one comes
-to its end.
-No unit may lose its address, be told another one than it has, or be left without one unsaid. The last line is
-`N passed, M failed`, and the status is 0 only where none failed.
+PROGRAM is run, by default the plan of address_plan.py. Each bench depends on its number alone: some units have a
+short address before, the standard is read in each way that it may be, and up to three runs are killed before one comes
+to its end. No unit may lose its address, be listed under an address that it doesn't have, or be left without one
+unreported. The last line is `N passed, M failed`, and the status is 0 only where none failed.
 """
 
 import argparse

@@ -155,7 +155,7 @@ def want_each_loss_made_good(over, count):
 
 
 def want_each_altered_answer_made_good(over):
-    """An answer comes as another byte: nobody is told another random address than its own."""
+    """An answer comes as another byte: no wrong random address is reported for a unit."""
     for at in range(1, frames_of(over, new=1) + 1):
         bus = crowd(1, [5], altering=AltersOne(at))
         run(over, bus)
@@ -218,7 +218,7 @@ def want_alike_answers_told_apart(over):
 
 
 def want_deaf_interface_misses_two(over):
-    """What docs/LINK.md says of an interface that tells what is damaged as nothing."""
+    """The words of docs/LINK.md on an interface that reports a damaged answer as none."""
     bus = crowd(2, chances={"is_deaf": True})
     ended = over(bus, [], None)
     want((told_by(ended.told).summary, at_each(bus)[None]), ((0, 0, 0), [0xFFFFFF] * 2))

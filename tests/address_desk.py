@@ -1,6 +1,6 @@
-"""What the tests of short addresses share: simulated units, runs over them, and the judge of what a run leaves.
+"""The base of the tests of short addresses: simulated units, runs over them, and the judge of what a run leaves.
 
-A run is of the program, or of the plan in address_plan.py, which stands for it where there is none. The words of the
+A run is of the program, or of the plan in address_plan.py, which stands for it if there is none. The words of the
 rules are put down by hand after IEC 62386-102.
 """
 
@@ -32,7 +32,7 @@ READINGS = [addressing.Rules(*flags) for flags in itertools.product((False, True
 
 
 class LosesOne(collisions.Collisions):
-    """What a bus with so many units loses: one frame, counted from 1, to the unit of one number alone."""
+    """The losses of a bus with this many units: one frame, counted from 1, to the unit of one number alone."""
 
     def __init__(self, units, unit, frame):
         super().__init__()
@@ -45,7 +45,7 @@ class LosesOne(collisions.Collisions):
 
 
 class AltersOne(simulated_link.Altering):
-    """What a bus alters: the answer to one frame, counted from 1."""
+    """The alterations of a bus: the answer to one frame, counted from 1."""
 
     def __init__(self, frame):
         super().__init__()
@@ -58,7 +58,7 @@ class AltersOne(simulated_link.Altering):
 
 
 class Crowd(simulated_link.Bus):
-    """A bus that keeps which words were carried, each with what was told of its answer."""
+    """A bus that keeps each word that was carried, with the answer that was reported."""
 
     def __init__(self, *arguments, **options):
         super().__init__(*arguments, **options)
@@ -132,7 +132,7 @@ def plan_over(bus, words=(), stop=None):
 
 
 class Told(NamedTuple):
-    """What a run told: random addresses by short address, shared ones, K of `apart K`, the last line, and the rest."""
+    """The output of a run: random addresses by short address, shared ones, K of `apart K`, the last line, the rest."""
 
     units: dict
     shared: list
@@ -274,7 +274,7 @@ class Rules:
 
 
 def want_rules(exchanges, task, told):
-    """Raise unless the frames of a run are of its task, each stands where it may, and what was told was read."""
+    """Raise unless the frames of a run are of its task and in their places, and each reported address was read."""
     rules = Rules(task)
     for word, answer in exchanges:
         rules.look(word, answer)

@@ -3,7 +3,7 @@
 import json
 import subprocess
 
-from adapter_python_dali import LINK, Interface
+from adapter_fixtures import LIBRARY_LINK, LibraryInterface
 from base import BenchTest, settings
 from driven import PATIENCE
 
@@ -16,15 +16,15 @@ class LibraryTest(BenchTest):
     """The program over python-dali."""
 
     def over(self, *words):
-        """Run a command over the interface; give its status, its output and what was told."""
-        command = [LINK, "--time-limit", "2", "hasseb", self.interface.device, "--", settings["program"], *words]
-        ended = subprocess.run(command, cwd=self.folder, env=self.interface.environment, capture_output=True, text=True,
-                               timeout=PATIENCE * 3)
+        """Run a command over the interface; give its status, its output and its standard error."""
+        link = [LIBRARY_LINK, "--time-limit", "2", "hasseb", self.interface.device]
+        ended = subprocess.run([*link, "--", settings["program"], *words], cwd=self.folder, capture_output=True,
+                               env=self.interface.environment, text=True, timeout=PATIENCE * 3)
         return ended.returncode, ended.stdout, ended.stderr
 
     def test_two_new_units_get_their_addresses_and_a_gtin(self):
         (self.folder / "units").mkdir()
-        self.interface = Interface(self.folder, units=str(self.folder / "units"))
+        self.interface = LibraryInterface(self.folder, units=str(self.folder / "units"))
         self.assertEqual(self.over("address"), (0, "", GIVEN))
         orders = [{"order": unit + 1, "unit": unit, "gtin": "4006381333931"} for unit in (0, 1)]
         (self.folder / "orders.json").write_text(json.dumps(orders))

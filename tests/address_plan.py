@@ -43,7 +43,7 @@ def at(short):
 
 
 def care_after(fails):
-    """Give how often each frame is sent, and no is heard before it is believed, after so many failures in a row."""
+    """Give how often each frame is sent, and how many noes in a row are believed, after this many failures in a row."""
     return min(fails + 1, MOST_CARE)
 
 
@@ -74,7 +74,7 @@ class Run:
         return None
 
     def is_answered(self, word, needed=2):
-        """Tell whether so many of eight asks are answered: one could be noise."""
+        """Tell whether as many of eight asks are answered as needed: one could be noise."""
         for _ in range(TRIES):
             needed -= self.send(word) is not None
             if not needed:
@@ -98,7 +98,7 @@ class Run:
         self.put(UNDRAWN, max(care, 2))
 
     def is_below(self, register, byte, care):
-        """Tell whether any unit compares with this byte in the search address; so many noes are believed."""
+        """Tell whether any unit compares with this byte in the search address; `care` noes in a row are believed."""
         for _ in range(care):
             self.send(*care * [register | byte])
             if self.send(COMPARE) is not None:

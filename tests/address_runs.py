@@ -10,10 +10,14 @@ import address_plan
 
 BROKEN = "4 End"
 FRAME = re.compile(rb"[0-9A-F]{4}\n")
+# No unit is there: the output, and the frames.
+NONE_TOLD = "given 0 missing 0 shared 0\n"
+# Before and after the question whether a unit has none, and once more: the frames of a closing.
+NONE_SENT = "".join(f"{word}\n" for word in address_desk.CLOSING + ["FF96"] * 8 + address_desk.CLOSING * 2).encode()
 
 
 class Addressing(driven.Desk):
-    """Runs of `address`, with the words behind it that are given."""
+    """Runs of `address`, with these words after it."""
 
     def __init__(self, words=(), program=None):
         self.program = program or settings["program"]

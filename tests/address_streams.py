@@ -5,19 +5,16 @@ import os
 import re
 
 import driven
-from address_desk import CLOSING, OPEN, crowd, told_by
-from address_runs import Addressing, planned
+from address_desk import OPEN, crowd, told_by
+from address_runs import NONE_SENT, NONE_TOLD, Addressing, planned
 from base import BenchTest, preloaded
 from drive_desk import ABSENT, absent_records, desk_of, unread, unwritten
 from driven import HEADER, Ended
-from drive_progress import seen
+from terminal_fixtures import seen
 
-# No unit is there: its answers, what is told, and what is sent.
+# Answers where no unit is there.
 NOBODY = b"--\n" * 60
-NONE_TOLD = "given 0 missing 0 shared 0\n"
-# Before and after the question whether a unit has none, and once more: the frames of a closing.
-NONE_SENT = "".join(f"{word}\n" for word in CLOSING + ["FF96"] * 8 + CLOSING + CLOSING).encode()
-# Words that are refused before a frame is sent, and what is told of them where this program says it.
+# Words that are refused before a frame is sent, each with the message, if it is of this program.
 REFUSED = [
     (["64"], None), (["-1"], None), (["x"], None), ([""], None), (["5", "64"], None), (["--every"], None),
     (["5", "7", "5"], "error: unit 5 is named twice: name each unit once\n"),
@@ -89,7 +86,7 @@ class StreamsTest(BenchTest):
             with open("/dev/full", "wb") as full:
                 ended = Addressing().give(answers, stderr=full)
             self.assertEqual((answers, ended.status), (answers, 2))
-        # The first line that can't be written ends it: no frame is sent for nobody to be told.
+        # The first line that can't be written ends the run: no frame is sent whose result nobody can read.
         bus, frames = crowd(0, [3, 5]), []
         with open("/dev/full", "wb") as full:
             running = Addressing(["--list"]).start(stderr=full)
@@ -190,7 +187,7 @@ class JournalTest(BenchTest):
 
 
 class ProgressTest(BenchTest):
-    """What a person watches."""
+    """The progress that a person watches."""
 
     def test_no_terminal(self):
         desk = Addressing(["--progress"])

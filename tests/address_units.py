@@ -1,15 +1,11 @@
-"""Tests of `dali_bench address` over simulated units: what each of them holds in the end, and what was told of it."""
+"""Tests of `dali_bench address` over simulated units: what each of them holds in the end, and its line."""
 
 import address_cases as cases
 from address_runs import program_over
-from base import BenchTest
+from base import BenchTest, in_cases
 
-PARTS = 4
-
-
-def part_of(count, part):
-    """Give every fourth of so many numbers."""
-    return range(part, count, PARTS)
+BENCHES = 40
+SHARES = 4  # of the benches, each a case
 
 
 class UnitsTest(BenchTest):
@@ -66,19 +62,8 @@ class UnitsTest(BenchTest):
         cases.want_alike_answers_told_apart(self.over)
         cases.want_deaf_interface_misses_two(self.over)
 
-    def benches(self, part):
-        """Run every fourth of forty benches of ten units."""
-        for seed in part_of(40, part):
+    @in_cases(SHARES)
+    def test_benches(self, case):
+        """Of benches of ten units every fourth."""
+        for seed in range(case, BENCHES, SHARES):
             cases.want_bench(self.over, seed)
-
-    def test_benches_part_0(self):
-        self.benches(0)
-
-    def test_benches_part_1(self):
-        self.benches(1)
-
-    def test_benches_part_2(self):
-        self.benches(2)
-
-    def test_benches_part_3(self):
-        self.benches(3)

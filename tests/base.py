@@ -1,4 +1,4 @@
-"""What each test of the built program is given: the program, what is preloaded to it, and a folder of its own."""
+"""The base of each test of the built program: the program, the libraries to preload, and a folder of its own."""
 
 import atexit
 import os
@@ -45,14 +45,48 @@ def want(found, wanted, msg=None):
     assert found == wanted, f"found {found!r}, wanted {wanted!r}" + (f": {msg}" if msg else "")
 
 
+def in_cases(count):
+    """Mark a test that takes the number of its case, from 0 to `count` - 1: BenchTest makes a test of each case."""
+
+    def marked(test):
+        test.count_of_cases = count
+        return test
+
+    return marked
+
+
+def one_case(test, case):
+    """Give the test of one case."""
+
+    def tested(self):
+        return test(self, case)
+
+    tested.case = case
+    return tested
+
+
+def is_case(test):
+    """Tell whether a test, as it is loaded, is one of several cases."""
+    return hasattr(getattr(test, test.id().rpartition(".")[2], None), "case")
+
+
 class BenchTest(unittest.TestCase):
     """A test with a folder of its own."""
 
     maxDiff = None
 
+    def __init_subclass__(cls, **given):
+        """Put tests of one case each in the place of each test that is in cases."""
+        super().__init_subclass__(**given)
+        for name, test in list(vars(cls).items()):
+            if hasattr(test, "count_of_cases"):
+                delattr(cls, name)
+                for case in range(test.count_of_cases):
+                    setattr(cls, f"{name}_case_{case}", one_case(test, case))
+
     def setUp(self):
         """Make the folder."""
-        # What differs is told whole: `unittest` cuts it short, or lays it line beside line, which takes it hours.
+        # A difference is printed whole: `unittest` cuts it short, or compares it line by line, which takes hours.
         for kind in (tuple, list, dict, bytes, Ended):
             self.addTypeEqualityFunc(kind, want)
         room = new_folder()

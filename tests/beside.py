@@ -8,7 +8,7 @@ import pathlib
 import sys
 import unittest
 
-from base import build_shims, settings
+from base import build_shims, is_case, settings
 
 FORK = multiprocessing.get_context("fork")
 MOST = max(4, os.cpu_count())
@@ -47,7 +47,7 @@ def end_of(test, process, receiver):
 
 
 def run_beside(tests):
-    """Run tests, so many at once; give whether each passed, and print what is to be said of it."""
+    """Run tests, MOST at once; give whether each passed, and print the failures and what was skipped."""
     waiting, running, results = iter(tests), {}, []
     while True:
         for test in itertools.islice(waiting, MOST - len(running)):
@@ -79,7 +79,7 @@ def main(usage, modules, arguments):
         if not found:
             results.append(False)
             print(f"FAILED: {name}: it has no tests", flush=True)
-    # Tests in parts are the longest.
-    results += run_beside(sorted(tests, key=lambda it: "_part_" not in it.id()))
+    # Tests in cases are the longest.
+    results += run_beside(sorted(tests, key=is_case, reverse=True))
     print(f"{results.count(True)} passed, {results.count(False)} failed")
     return int(False in results)

@@ -4,15 +4,15 @@ A file COMMAND.cases has cases with a blank line between them, each of lines of 
 
     case: NAME
     run: WORDS          as a shell reads them; ROOM in them is a folder of the test's own
-    status: NUMBER      0 where there is none
+    status: NUMBER      0 by default
     in: LINE            of standard input; `in: nothing` alone where that is empty
     answers: FF -- 01   the same, several lines in one
     bytes: 44 42        the same, of bytes in hexadecimal digits
     out: LINE           of standard output
     frames: A301 C300   the same, several lines in one
-    err: LINE           of standard error, which isn't looked at where there is no such line
+    err: LINE           of standard error, which isn't looked at if there is no such line
     each: GIVEN | OUT   a case by itself: with GIVEN in the place of EACH in its words, or as the line of standard input
-                        where no EACH stands there, and these lines of standard output, a bar between them
+                        if the words have no EACH, and these lines of standard output, a bar between them
 """
 
 import pathlib

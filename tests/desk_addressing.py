@@ -18,7 +18,7 @@ AT_123456, AT_123455 = "B112 B334 B556", "B112 B334 B555"
 
 
 def answers(bus, words):
-    """Carry frames over a bus, and return the answers as text; a number with `s` lets so many seconds go by."""
+    """Carry frames over a bus, and return the answers as text; a number with `s` lets this many seconds pass."""
     told = []
     for word in words.split():
         if word.endswith("s"):
@@ -195,7 +195,7 @@ def test_chances(folder):
     for counted in (sum(it[0] is None for it in found), sum(it[1] == 0xFF for it in found)):
         assert abs(counted - 1000) < 150, counted
     want({it[2] for it in found}, {None})
-    # What is lost by the seed is the same beside it.
+    # The losses by the seed are the same with these chances and without.
     buses = [crowd(0, [5], seed=4, loss=0.3, chances=it) for it in ({}, {"each_loss": 0.5, "noise": 0.2})]
     draws = [[bus.chance.random() for _ in range(5)] for bus in buses if bus.carry(0x0B91) or True]
     want(draws[0], draws[1])

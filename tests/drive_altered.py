@@ -11,11 +11,12 @@ only where none failed.
 import concurrent.futures
 import pathlib
 import sys
-from functools import partial, partialmethod
+from functools import partial
 from typing import NamedTuple
 
-from base import BenchTest, new_folder, settings, want
+from base import BenchTest, in_cases, new_folder, settings, want
 from drive_desk import GTIN, GTIN_BYTES, desk_of
+from drive_fixtures import At
 from driven import LOCK_BYTE, SHUT, groups_of, judge, simulated_link
 
 BANK_1 = simulated_link.BLANK_BANK_1
@@ -40,27 +41,17 @@ CASES = {
     # One jump after the other: 02h, 13h, 20h, 02h.
     "jumps": Case({"year": 24, "cri": 80}, {0x13: 24, 0x20: 80}, {"checked": 70, "short": 55}),
 }
-
-
-class At:
-    """What a bus alters at one frame, counted from 1: these bits of it, and those of its answer."""
-
-    def __init__(self, number, frame=0, answer=0):
-        self.left, self.frame, self.answer = number, frame, answer
-
-    def masks(self):
-        """Give the bits that are turned in the next frame, and those in its answer."""
-        self.left -= 1
-        return (0, 0) if self.left else (self.frame, self.answer)
+# The orders and plans of which answers are altered, each a case.
+ANSWERED = [(name, plan) for name in CASES for plan in PLANS]
 
 
 class Run(NamedTuple):
-    """What became of an order over an altering bus."""
+    """The result of an order over an altering bus."""
 
     is_done: bool
     # Places that aren't the order's and hold another byte.
     elsewhere: list
-    # What the order's locations hold.
+    # The bytes at the order's locations.
     held: dict
     is_lock_shut: bool
 
@@ -130,7 +121,7 @@ def harmful_frames(case, plan, unit):
 
 
 def try_orders(plan, count, seed):
-    """Carry so many orders out, one after the other, over a bus that alters answers by chance; judge what it leaves."""
+    """Carry `count` orders out over a bus that alters answers by chance; judge what they leave."""
     orders = [{"order": number, "unit": 5, "year": number % 100, "cri": number // 100 % 101}
               for number in range(1, count + 1)]
     with new_folder() as folder:
@@ -146,27 +137,19 @@ def try_orders(plan, count, seed):
 class AlteredTest(BenchTest):
     """Orders over a bus that alters one answer or one bit of a frame."""
 
-    def each_answer(self, name, plan):
+    @in_cases(len(ANSWERED))
+    def test_each_answer(self, case):
+        name, plan = ANSWERED[case]
         for number in range(1, CASES[name].frames[plan] + 1):
             for mask in 1 << number % 8, 1 + 97 * number % 0xFF:
                 try_answer(name, plan, number, mask)
 
-    test_answers_of_a_year_checked = partialmethod(each_answer, "year", "checked")
-    test_answers_of_a_year_short = partialmethod(each_answer, "year", "short")
-    test_answers_of_a_gtin_checked = partialmethod(each_answer, "gtin", "checked")
-    test_answers_of_a_gtin_short = partialmethod(each_answer, "gtin", "short")
-    test_answers_of_jumps_checked = partialmethod(each_answer, "jumps", "checked")
-    test_answers_of_jumps_short = partialmethod(each_answer, "jumps", "short")
-
-    def frames_that_become_writes(self, unit):
+    @in_cases(len(BESIDE))
+    def test_frames_that_become_writes(self, case):
         # Which frames those are hangs on these bits alone: from C3h to C7h, and from 47h and 49h to C7h and C9h.
         for plan in PLANS:
             for name in "year", "jumps":
-                try_frames(name, plan, unit, (0x0400, 0x8000))
-
-    test_frames_of_unit_5 = partialmethod(frames_that_become_writes, 5)
-    test_frames_of_unit_35 = partialmethod(frames_that_become_writes, 35)
-    test_frames_of_unit_36 = partialmethod(frames_that_become_writes, 36)
+                try_frames(name, plan, list(BESIDE)[case], (0x0400, 0x8000))
 
     def test_orders_by_chance(self):
         for plan in PLANS:

@@ -9,8 +9,7 @@ import signal
 import driven
 from base import BenchTest, settings, want
 from drive_desk import desk_of
-from drive_report import UNTOLD, blank_bus, reporting
-from drive_units import BLANK
+from drive_fixtures import BLANK, UNTOLD, blank_bus, reporting
 from driven import Desk, groups_of, judge, kept_lines
 
 UNITS = (5, 6, 60)
@@ -34,7 +33,7 @@ def bus_of(chance):
 
 
 def whole_lines(path):
-    """Give the values of a report's whole lines, which have to be JSON, and raise where any else stands there."""
+    """Give the values of a report's whole lines, which have to be JSON, and raise if a line isn't."""
     text = path.read_text() if path.exists() else ""
     lines = text.splitlines(keepends=True)
     assert all(line.endswith("\n") for line in lines[:-1]), text

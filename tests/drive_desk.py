@@ -1,4 +1,7 @@
-"""What the tests of `drive` share: its worked example, a unit that isn't there, and how a run is judged."""
+"""The base of the tests of `drive`: its worked example, a unit that isn't there, and how a run is judged."""
+
+import os
+import shutil
 
 from base import settings, want
 from driven import HEADER, Desk
@@ -12,9 +15,11 @@ ABSENT_BEGAN = ABSENT_JOURNAL[:-2]
 ABSENT_FRAMES = b"C301\n139C\n" * 8
 SILENCE = b"--\n" * 16
 KEPT_SILENT = "reply 1 kept 3 Silent\n"
+KEPT_DONE = "reply 1 kept 0 Done\n"
 PRESENT = [{"order": 1, "unit": 5, "gtin": GTIN}]
 DONE_RECORDS = bytes.fromhex("42 0000000000000001 0000000000000000 05 06 0303 04A4 05CE 06EF 07AD 08AB 4F05 4500")
 DONE_JOURNAL = HEADER + DONE_RECORDS
+LEFT_JOURNAL = DONE_JOURNAL[:-2] + bytes.fromhex("4505")
 # The same in version 1.
 OLD_ABSENT_JOURNAL = bytes.fromhex("42 0000000000000001 09 06 0303 04A4 05CE 06EF 07AD 08AB 45 03")
 OLD_ABSENT_BEGAN = OLD_ABSENT_JOURNAL[:-2]
@@ -22,7 +27,7 @@ OLD_DONE_JOURNAL = bytes.fromhex("42 0000000000000001 05 06 0303 04A4 05CE 06EF 
 DONE_TOLD = "reply 1 taken\nreply 1 kept 0 Done\n"
 MOST_JOURNAL = 33554432
 FAULT_21 = (2, b"", "fault 21 File")
-# What stands last on a standard error that failed once: nothing more has to be told there.
+# The last line on a standard error that failed once: nothing more has to come there.
 OUT_LINES = ("drive fault 7 Out", "reply 1 taken", "reply 1 kept 3 Silent", "")
 NOBODY = 65534
 
@@ -64,7 +69,7 @@ def unread(cause):
 
 
 def last_line(ended):
-    """Give the status, what was sent, and the last line that was told."""
+    """Give the status, the frames, and the last line of standard error."""
     return ended.status, ended.sent, ended.told.rstrip("\n").rpartition("\n")[2]
 
 
@@ -73,3 +78,25 @@ def goes_on(desk, wanted=ABSENT_JOURNAL):
     ended = desk.give(SILENCE)
     assert ended.status == 0 and ended.told.endswith(KEPT_SILENT), ended
     want((desk.held(), new_of(desk).exists()), (wanted, False))
+
+
+def as_nobody(desk):
+    """Run the program without the rights of root, from a copy that anybody may run."""
+    if os.geteuid() != 0:
+        return desk.give(SILENCE)
+    desk.folder.chmod(0o755)
+    desk.orders.chmod(0o644)
+    desk.program = shutil.copy(desk.program, desk.folder)
+    ended = desk.give(SILENCE, user=NOBODY, group=NOBODY, extra_groups=[])
+    desk.program = settings["program"]
+    return ended
+
+
+def fill(path):
+    """Fill up the file system that a file is on."""
+    with open(path, "wb", buffering=0) as filler:
+        try:
+            while filler.write(bytes(1024)):
+                pass
+        except OSError:
+            pass

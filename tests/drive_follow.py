@@ -6,16 +6,13 @@ import json
 import os
 import pathlib
 import re
-import select
 import subprocess
 import termios
-import threading
 import time
-from functools import partialmethod
 
 import driven
-from base import BenchTest, preloaded, settings, want
-from drive_calls import acts_of, kill_at_each, shim
+from base import BenchTest, in_cases, preloaded
+from call_fixtures import acts_of, kill_at_each, shim
 from drive_desk import (
     ABSENT,
     ABSENT_BEGAN,
@@ -32,46 +29,30 @@ from drive_desk import (
     absent_records,
     last_line,
 )
-from drive_report import NOTHING, UNTOLD, blank_bus, kept, lines_of, reporting, unkept
-from drive_units import BLANK, SCENES, many_orders
-from driven import HEADER, PATIENCE, Ended, Following, groups_of, simulated_link
+from drive_fixtures import (
+    BLANK,
+    NOTHING,
+    READY,
+    SCENES,
+    UNTOLD,
+    Live,
+    blank_bus,
+    following,
+    kept,
+    lines_of,
+    many_orders,
+    piped,
+    reporting,
+    unkept,
+    writer_of,
+)
+from driven import HEADER, PATIENCE, Ended, groups_of
 
 LINE = json.dumps(ABSENT[0])
 TAKEN = "reply 1 taken\n" + KEPT_SILENT
-READY = "ready\n"
 MOST_LINE = 16384
 EIO = "input/output error"
-
-
-def following(folder, orders, journal=None):
-    """Make a folder's stream of orders, and its journal of these bytes, or none."""
-    desk = Following(settings["program"], folder, orders)
-    desk.journal.unlink(missing_ok=True)
-    if journal is not None:
-        desk.journal.write_bytes(journal)
-    return desk
-
-
-def piped(folder, journal=None):
-    """Make a folder whose stream is a named pipe."""
-    desk = following(folder, "", journal)
-    desk.orders.unlink()
-    os.mkfifo(desk.orders)
-    return desk
-
-
-def writer_of(path):
-    """Open a named pipe to write to it, once somebody reads it."""
-    last = time.monotonic() + PATIENCE
-    while True:
-        try:
-            pipe = os.open(path, os.O_WRONLY | os.O_NONBLOCK)
-            os.set_blocking(pipe, True)
-            return pipe
-        except OSError as error:
-            if error.errno != errno.ENXIO or time.monotonic() > last:
-                raise
-            time.sleep(0.001)
+SHARES = 4  # of a long test, each a case
 
 
 def waiting_in(pipe):
@@ -79,51 +60,12 @@ def waiting_in(pipe):
     return int.from_bytes(fcntl.ioctl(pipe, termios.FIONREAD, bytes(4)), "little")
 
 
-class Live:
-    """A run on a named pipe, with its frames answered over a bus beside it."""
-
-    def __init__(self, desk, bus):
-        self.command, self.sent, self.untold = desk.start(), b"", b""
-        self.answering = threading.Thread(target=self.answer, args=(bus,), daemon=True)
-        self.answering.start()
-        self.pipe = writer_of(desk.orders)
-        want(self.told(1), READY)
-
-    def answer(self, bus):
-        """Answer each frame until there are no more."""
-
-        def read_line():
-            line = driven.line_from(self.command.stdout)
-            self.sent += line
-            return line
-
-        simulated_link.answer_lines(bus, read_line, self.command.stdin.write)
-
-    def told(self, count):
-        """Give so many lines that are told next."""
-        while self.untold.count(b"\n") < count:
-            assert select.select([self.command.stderr], [], [], PATIENCE)[0], f"nothing comes behind {self.untold!r}"
-            piece = os.read(self.command.stderr.fileno(), 4096)
-            assert piece, f"nothing more is told: {self.untold!r}"
-            self.untold += piece
-        lines = self.untold.splitlines(keepends=True)
-        self.untold = b"".join(lines[count:])
-        return b"".join(lines[:count]).decode()
-
-    def end(self):
-        """Let the writer of the pipe go, and tell how the run ended, and what it told since."""
-        os.close(self.pipe)
-        status = self.command.wait(PATIENCE)
-        self.answering.join(PATIENCE)
-        return Ended(status, self.sent, (self.untold + self.command.stderr.read()).decode())
-
-
 def order_with(**fields):
     """Give the line of an order with these fields."""
     return json.dumps({"order": 7, "unit": 9, **fields})
 
 
-# Lines that are refused, each with its fault, and behind `order` the number of its order where it has one.
+# Lines that are refused, each with the number of its order, if it has one, and its fault.
 REFUSED = [
     (json.dumps({"order": 7, "unit": 64, "gtin": GTIN}), 7, "1 Unit"), (order_with(gtin=4006381333931), 7, "2 Kind"),
     (order_with(year=True), 7, "2 Kind"), (order_with(year=100), 7, "3 Range"), (order_with(gtin="1"), 7, "4 Gtin"),
@@ -149,7 +91,7 @@ REFUSED = [
 
 
 class LinesTest(BenchTest):
-    """What a line may be."""
+    """The forms of a line."""
 
     def test_orders_line_by_line(self):
         second = {"order": 2, "unit": 9, "gtin": GTIN}
@@ -360,11 +302,12 @@ class StopsTest(BenchTest):
             assert desk.give(SILENCE).told.endswith(KEPT_SILENT), number
             self.assertEqual(desk.held(), ABSENT_JOURNAL)
 
-    def each_allocation_refused(self, part):
+    @in_cases(2)
+    def test_each_allocation_refused(self, case):
         shape, memory = READY + "item 1 fault 9 Shape\n", "item {} fault 20 Memory\n"
         whole = {shape + TAKEN, READY + memory.format(1) + TAKEN, shape + memory.format(2)}
         ran_out = 0
-        for number in range(1 + part, 100000, 2):
+        for number in range(1 + case, 100000, 2):
             desk = following(self.folder, "{}\n" + LINE + "\n")
             preload = {"LD_PRELOAD": str(preloaded("refuse_alloc")), "REFUSED_ALLOCATION": str(number)}
             ended = desk.give(SILENCE, preload)
@@ -379,20 +322,13 @@ class StopsTest(BenchTest):
             self.assertEqual(desk.held(), ABSENT_JOURNAL)
         assert ran_out > 4, "no refused allocation ended as want of memory"
 
-    test_each_allocation_refused_part_1 = partialmethod(each_allocation_refused, 0)
-    test_each_allocation_refused_part_2 = partialmethod(each_allocation_refused, 1)
-
-    def kills_at_each_record_and_line(self, part, count):
+    @in_cases(SHARES)
+    def test_kills_at_each_record_and_line(self, case):
         for name in ("lossy", "left"):
             desk = following(self.folder, SCENES[name].orders)
             acts = acts_of(desk, SCENES[name])
             acts = [act for act in acts if not act.startswith("read orders") or int(act.split()[2]) % 20 == 1]
-            kill_at_each(desk, name, acts[part::count])
-
-    test_kills_at_each_record_and_line_part_1 = partialmethod(kills_at_each_record_and_line, 0, 4)
-    test_kills_at_each_record_and_line_part_2 = partialmethod(kills_at_each_record_and_line, 1, 4)
-    test_kills_at_each_record_and_line_part_3 = partialmethod(kills_at_each_record_and_line, 2, 4)
-    test_kills_at_each_record_and_line_part_4 = partialmethod(kills_at_each_record_and_line, 3, 4)
+            kill_at_each(desk, name, acts[case::SHARES])
 
 
 def wait_for(told, line):

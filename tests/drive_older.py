@@ -16,7 +16,9 @@ from drive_desk import (
     DONE_TOLD,
     FAULT_21,
     GTIN,
+    KEPT_DONE,
     KEPT_SILENT,
+    LEFT_JOURNAL,
     MOST_JOURNAL,
     OLD_ABSENT_BEGAN,
     OLD_DONE_JOURNAL,
@@ -26,16 +28,13 @@ from drive_desk import (
     desk_of,
     last_line,
 )
-from drive_follow import Live, following, piped
-from drive_report import blank_bus, kept, lines_of, reporting, unkept
+from drive_fixtures import Live, blank_bus, following, kept, lines_of, piped, reporting, unkept
 from driven import HEADER, Ended
 
 SECOND = [{"order": 2, "unit": 9, "gtin": GTIN}]
 SECOND_TOLD = "reply 2 taken\nreply 2 kept 3 Silent\n"
 FAULT_15 = (1, b"", "fault 15 Older")
-KEPT_DONE = "reply 1 kept 0 Done\n"
 OPENED = DONE_JOURNAL[:-2]
-LEFT = DONE_JOURNAL[:-2] + bytes.fromhex("4505")
 FULL = 100000
 
 
@@ -67,7 +66,7 @@ def behind_words(desk, *journals):
 
 
 class OlderTest(BenchTest):
-    """What is answered from an older journal."""
+    """Answers from an older journal."""
 
     def test_an_order_of_an_older_journal_is_not_carried_out_again(self):
         for older in (DONE_JOURNAL, OLD_DONE_JOURNAL):
@@ -148,7 +147,7 @@ class OlderTest(BenchTest):
 
 
 def refused(folder, words, *journals, held=None):
-    """Runs behind these older journals are refused with these words, send nothing, and leave the journal as it is."""
+    """Runs with these older journals are refused with these words, send nothing, and leave the journal as it is."""
     for desk in desks(folder, PRESENT, held):
         behind(desk, *journals)
         ended = desk.give(b"")
@@ -163,7 +162,7 @@ class RefusedOlderTest(BenchTest):
     """Older journals that can't be used."""
 
     def test_an_older_journal_that_is_not_at_rest(self):
-        for journal in (ABSENT_BEGAN, OLD_ABSENT_BEGAN, OPENED, LEFT):
+        for journal in (ABSENT_BEGAN, OLD_ABSENT_BEGAN, OPENED, LEFT_JOURNAL):
             refused(self.folder, "isn't at rest", journal)
             refused(self.folder, "isn't at rest", HEADER + absent_records(2), journal, held=HEADER)
 

@@ -1,14 +1,13 @@
-"""Tests of `drive` on files that are none, and on streams that end, are closed or are full."""
+"""Tests of `drive` on files that are no journals, and on streams that end, are closed or are full."""
 
 import os
 import pathlib
 import resource
-import shutil
 import signal
 import subprocess
 
 import driven
-from base import BenchTest, settings, want
+from base import BenchTest, want
 from drive_desk import (
     ABSENT,
     ABSENT_BEGAN,
@@ -18,11 +17,12 @@ from drive_desk import (
     FAULT_21,
     KEPT_SILENT,
     MOST_JOURNAL,
-    NOBODY,
     OLD_ABSENT_BEGAN,
     OLD_ABSENT_JOURNAL,
     SILENCE,
+    as_nobody,
     desk_of,
+    fill,
     goes_on,
     last_line,
     new_of,
@@ -31,18 +31,6 @@ from drive_desk import (
     unwritten,
 )
 from driven import HEADER, Ended, Following
-
-
-def as_nobody(desk):
-    """Run the program without the rights of root, from a copy that anybody may run."""
-    if os.geteuid() != 0:
-        return desk.give(SILENCE)
-    desk.folder.chmod(0o755)
-    desk.orders.chmod(0o644)
-    desk.program = shutil.copy(desk.program, desk.folder)
-    ended = desk.give(SILENCE, user=NOBODY, group=NOBODY, extra_groups=[])
-    desk.program = settings["program"]
-    return ended
 
 
 def check_refused(folder, files):
@@ -61,16 +49,6 @@ def full_page():
     journal = HEADER + b"".join(groups)
     want(len(journal), 4096)
     return journal
-
-
-def fill(path):
-    """Fill up the file system that a file is on."""
-    with open(path, "wb", buffering=0) as filler:
-        try:
-            while filler.write(bytes(1024)):
-                pass
-        except OSError:
-            pass
 
 
 class PlacesTest(BenchTest):

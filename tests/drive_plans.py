@@ -3,23 +3,32 @@
 import json
 import signal
 import subprocess
-from functools import partialmethod
 
-from base import BenchTest, settings
-from drive_altered import At
+from base import BenchTest, in_cases, settings
 from drive_desk import DONE_JOURNAL, DONE_TOLD, GTIN, GTIN_BYTES, PRESENT, desk_of
-from drive_units import ALL_FIELDS, BLANK, DOUBTFUL, LEFT, LOSSY, SCENES, bank_of, finish
+from drive_fixtures import (
+    ALL_FIELDS,
+    BLANK,
+    DOUBTFUL,
+    FULL_ORDER,
+    LEFT,
+    LOSSY,
+    SCENES,
+    YEAR_ORDER,
+    At,
+    bank_of,
+    finish,
+    short_desk,
+)
 from driven import Desk, Following, judge, simulated_link
 
-FULL = ALL_FIELDS.orders[0]
-YEAR = {"order": 1, "unit": 5, "year": 24}
 # An order, its frames by each plan, and the rows that it is read back in.
 COUNTS = [
     ({"order": 1, "unit": 5, "gtin": GTIN}, 112, 49),  # 02h to 08h
-    (YEAR, 56, 44),  # 02h; 13h
+    (YEAR_ORDER, 56, 44),  # 02h; 13h
     ({"order": 1, "unit": 5, "year": 24, "week": 53}, 70, 48),  # 02h; 13h and 14h
     ({"order": 1, "unit": 5, "gtin": GTIN, "identification": "0011223344556677"}, 224, 81),  # 02h to 10h
-    (FULL, 1652, 536),
+    (FULL_ORDER, 1652, 536),
 ]
 # The frames of a year by the short plan, by hand: the length, the format, 02h unlocked, 13h, 02h locked, both read back.
 YEAR_FRAMES = """
@@ -31,7 +40,7 @@ YEAR_FRAMES = """
     C301 0B9C A302 0B98 0BC5 0B98 0B9C
     C301 0B9C A313 0B98 0BC5 0B98 0B9C
 """.split()
-# What one miss costs at most: all frames of a block read of sixteen locations.
+# The most that one miss costs: all frames of a block read of sixteen locations.
 MOST_OF_A_MISS = 22
 # Answers that are lost of a GTIN order, by their frames, the frames that it then takes, and its code. Its row of 02h to
 # 08h has 13 frames, of which the last one is frame 49. Where it fails it is read again: 02h, and three times two.
@@ -43,10 +52,11 @@ LOST_OF_A_ROW = [
     ([*LAST_OF_A_TRY, *range(147, 197, 7)], 140 + 8 * 7 + 14, "4 Doubt"),
 ]
 DONE = "reply 1 kept 0 Done"
+SHARES = 4  # of a long test, each a case
 
 
 class Turned(Desk):
-    """A desk whose runs go by the short plan and the checked one in turn."""
+    """A desk whose runs use the short plan and the checked one in turn."""
 
     is_short = False
 
@@ -56,15 +66,8 @@ class Turned(Desk):
         return [self.program, "drive", *(["--short-plan"] if self.is_short else []), self.orders, self.journal]
 
 
-def short_desk(folder, orders, journal=None):
-    """Make a desk that drives by the short plan."""
-    desk = desk_of(folder, orders, journal)
-    desk.options = ["--short-plan"]
-    return desk
-
-
 def played(order, plan="short", bank=None, fixed=(), fates=(), events=None):
-    """Run an order in a scenario; give the lines that are told."""
+    """Run an order in a scenario; give the lines of its output."""
     unit = {"address": 5, "fixed": list(fixed)} | ({"bank": bank.hex()} if bank else {})
     scenario = {"limit": 1, "plan": plan, "units": [unit], "fates": list(fates),
                 "events": events or [{"submit": order}, {"steps": 14000}]}
@@ -81,8 +84,8 @@ def frames_of(lines):
 # An order, its unit's bank and fixed locations, what befalls, and the code that it ends with by either plan.
 UNSUITED = [
     (PRESENT[0], BLANK, [5], [], "4 Doubt"),
-    (FULL, bank_of(0x3C), [], [], "1 Short"),
-    (YEAR, bank_of(0x78, x12=0x04), [], [], "2 Format"),
+    (FULL_ORDER, bank_of(0x3C), [], [], "1 Short"),
+    (YEAR_ORDER, bank_of(0x78, x12=0x04), [], [], "2 Format"),
     (PRESENT[0], BLANK, [], [{"times": 30}, {"times": 8, "refuse": True}], "0 Done"),
 ]
 
@@ -125,7 +128,7 @@ def turned_run(folder, scene, stops):
 
 
 class PlansTest(BenchTest):
-    """What the short plan sends and writes, beside the checked one."""
+    """The frames and writes of the short plan, beside those of the checked one."""
 
     def test_frames_of_both_plans(self):
         for order, checked, short in COUNTS:
@@ -138,7 +141,7 @@ class PlansTest(BenchTest):
             self.assertEqual([frames_of(played(order, plan)) for plan in ("checked", "short")], [checked, short])
 
     def test_frames_of_a_year_one_by_one(self):
-        desk = short_desk(self.folder, [YEAR], b"")
+        desk = short_desk(self.folder, [YEAR_ORDER], b"")
         sent = desk.over(simulated_link.Bus([simulated_link.Unit(5)])).sent
         self.assertEqual(sent.decode().split(), YEAR_FRAMES)
 
@@ -154,19 +157,15 @@ class PlansTest(BenchTest):
         self.assertEqual((bytes(bus.units[0].banks[1]), desk.held()),
                          (BLANK[:3] + GTIN_BYTES + BLANK[9:], DONE_JOURNAL))
 
-    def each_frame_and_answer_lost(self, part, count):
+    @in_cases(SHARES)
+    def test_each_frame_and_answer_lost(self, case):
         for order, _, short in COUNTS[::4]:
             done = [line for line in played(order) if line.startswith("bank ")]
-            for frame in range(part, short, count):
+            for frame in range(case, short, SHARES):
                 for loss in {"lost": [5]}, {"answer_lost": True}:
                     lines = played(order, fates=[{"times": frame}] * (frame > 0) + [loss])
                     assert DONE in lines and done == [line for line in lines if line.startswith("bank ")], (frame, loss)
                     assert short <= frames_of(lines) <= short + MOST_OF_A_MISS, (frame, loss, frames_of(lines))
-
-    test_each_frame_and_answer_lost_part_1 = partialmethod(each_frame_and_answer_lost, 0, 4)
-    test_each_frame_and_answer_lost_part_2 = partialmethod(each_frame_and_answer_lost, 1, 4)
-    test_each_frame_and_answer_lost_part_3 = partialmethod(each_frame_and_answer_lost, 2, 4)
-    test_each_frame_and_answer_lost_part_4 = partialmethod(each_frame_and_answer_lost, 3, 4)
 
     def test_a_row_that_fails_is_read_again(self):
         for lost, frames, code in LOST_OF_A_ROW:
@@ -190,7 +189,7 @@ class PlansTest(BenchTest):
     def test_an_altered_byte_of_a_short_row(self):
         # 02h is read by frame 35, 13h by frame 42: rows of one location aren't read again.
         for frame, code in (34, "0 Done"), (35, "4 Doubt"), (42, "4 Doubt"):
-            desk, bus = short_desk(self.folder, [YEAR], b""), altering(frame)
+            desk, bus = short_desk(self.folder, [YEAR_ORDER], b""), altering(frame)
             self.assertIn(f"reply 1 kept {code}\n", desk.over(bus).told)
             judge(bus, {5: BLANK}, desk.held())
 
@@ -212,16 +211,16 @@ class PlansTest(BenchTest):
                 self.assertEqual((plan, [line for line in lines if " kept " in line]), (plan, [f"reply 1 kept {code}"]))
 
     def test_a_unit_that_drops_write_enable(self):
-        # Each write behind the first one takes seven frames more, behind a try that misses.
-        for name, orders, frames, writes in [("gtin", PRESENT, 49, 8), ("year", [YEAR], 44, 3),
-                                             ("full", [FULL], 536, 117)]:
+        # Each write but the first takes seven frames more, after a try that misses.
+        for name, orders, frames, writes in [("gtin", PRESENT, 49, 8), ("year", [YEAR_ORDER], 44, 3),
+                                             ("full", [FULL_ORDER], 536, 117)]:
             (self.folder / name).mkdir()
             desk, bus = short_desk(self.folder / name, orders), simulated_link.Bus([Forgetful(5)])
             self.assertEqual((name, desk.over(bus).told, bus.frames), (name, DONE_TOLD, frames + 7 * (writes - 1)))
             judge(bus, {5: BLANK}, desk.held())
 
     def test_a_unit_that_does_not_move_on(self):
-        # Each of the six writes just behind another one misses at its second question, and takes seven frames then.
+        # Each of the six writes just after another one misses at its second question, and takes seven frames then.
         desk, bus = short_desk(self.folder, PRESENT), simulated_link.Bus([Staying(5)])
         self.assertEqual((desk.over(bus).told, bus.frames), (DONE_TOLD, 49 + 6 * (2 + 7 - 3)))
         judge(bus, {5: BLANK}, desk.held())
@@ -232,14 +231,10 @@ class PlansTest(BenchTest):
             finish(short_desk(self.folder / name, scene.orders), scene, scene.bus(),
                    scene.codes if scene in (LOSSY, DOUBTFUL, ALL_FIELDS) else None)
 
-    def kills_with_the_plan_turned(self, part, count):
+    @in_cases(SHARES)
+    def test_kills_with_the_plan_turned(self, case):
         for scene in LOSSY, LEFT:
             total = len(desk_of(self.folder, scene.orders, b"").over(scene.bus()).sent) // 5
-            for frame in range(1 + part, total + 1, count):
+            for frame in range(1 + case, total + 1, SHARES):
                 moment = ("sent", "carried")[frame % 2]
                 turned_run(self.folder, scene, [(frame, moment), (1 + frame % 23, "sent"), (1 + frame % 7, "carried")])
-
-    test_kills_with_the_plan_turned_part_1 = partialmethod(kills_with_the_plan_turned, 0, 4)
-    test_kills_with_the_plan_turned_part_2 = partialmethod(kills_with_the_plan_turned, 1, 4)
-    test_kills_with_the_plan_turned_part_3 = partialmethod(kills_with_the_plan_turned, 2, 4)
-    test_kills_with_the_plan_turned_part_4 = partialmethod(kills_with_the_plan_turned, 3, 4)

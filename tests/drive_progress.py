@@ -1,123 +1,19 @@
 """Tests of `--progress`: what a person at a terminal sees of a command over a link, and what a pipe gets."""
 
-import fcntl
-import os
-import pty
 import re
-import struct
-import termios
-import threading
 import time
 
 from base import BenchTest
-from drive_desk import ABSENT, DONE_TOLD, GTIN, PRESENT, absent_records, desk_of
-from drive_follow import following
-from drive_older import LEFT
-from drive_plans import FULL, YEAR, short_desk
-from drive_report import Verifying, lines_of, reporting
+from drive_desk import ABSENT, DONE_TOLD, GTIN, LEFT_JOURNAL, PRESENT, absent_records, desk_of
+from drive_fixtures import FULL_ORDER, YEAR_ORDER, Verifying, following, lines_of, reporting, short_desk
 from driven import HEADER, PATIENCE, simulated_link
 from read_desk import Reading, unit_of
+from terminal_fixtures import Screen, at_terminal, seen
 
-# What stands before a frame's number in the line of an order, and behind it.
+# The line of an order: the words before a frame's number, and those after it.
 DRAWN = re.compile(r"(.*), frame (\d+)(?: of (\d+))?(?:, misses (\d+))?(?:, left (\d+:\d\d))?")
 TIME = r", time \d+:\d\d"
 BETWEEN = 16
-
-
-class Screen:
-    """What a terminal of so many columns shows, and each line that was cleared away from it."""
-
-    def __init__(self, columns):
-        self.columns = columns
-        self.rows = [""]
-        self.column = 0
-        self.wraps = True
-        self.cleared = []
-
-    def show(self, text):
-        """Show a text as a terminal does; the line that is drawn has to be narrower than it."""
-        for piece in re.findall(r"\x1b\[(?:K|\?7l|\?7h)|[\r\n -~]", text):
-            self._do(piece)
-        left = re.sub(r"\x1b\[(?:K|\?7l|\?7h)|[\r\n -~]", "", text)
-        assert not left, f"a terminal was given {left!r}"
-
-    def _do(self, piece):
-        if piece == "\r":
-            self.column = 0
-        elif piece == "\n":
-            self.rows.append("")
-            self.column = 0
-        elif piece == "\x1b[K":
-            self.cleared += [self.rows[-1][self.column:]] if self.rows[-1][self.column:] else []
-            self.rows[-1] = self.rows[-1][:self.column]
-        elif piece in ("\x1b[?7l", "\x1b[?7h"):
-            self.wraps = piece.endswith("h")
-        else:
-            row = self.rows[-1]
-            self.rows[-1] = row[:self.column] + piece + row[self.column + 1:]
-            self.column += 1
-            assert self.wraps or self.column < self.columns, f"the line is too wide: {self.rows[-1]!r}"
-
-    def lines(self):
-        """Give what stands there in the end."""
-        assert self.wraps and self.rows[-1] == "", (self.wraps, self.rows[-1])
-        return self.rows[:-1]
-
-
-class Terminal:
-    """A terminal as the standard error of a command: what is written to it is read at once."""
-
-    def __init__(self, columns):
-        self.columns = columns
-        self.master, self.slave = pty.openpty()
-        fcntl.ioctl(self.slave, termios.TIOCSWINSZ, struct.pack("HHHH", 24, columns, 0, 0))
-        self.written = b""
-        self.reader = threading.Thread(target=self._read)
-        self.reader.start()
-
-    def _read(self):
-        # Behind the last byte of a slave that is closed a read fails.
-        try:
-            while piece := os.read(self.master, 4096):
-                self.written += piece
-        except OSError:
-            pass
-
-    def read(self):
-        """Give all that was written, once the command has ended."""
-        self.reader.join(PATIENCE)
-        return self.written
-
-    def close(self):
-        """Let go of it."""
-        os.close(self.master)
-
-
-def at_terminal(desk, columns=80, told=True):
-    """Have a desk's runs show their progress at a terminal, of which the environment tells the columns, or not."""
-    start = desk.start
-    desk.options = ["--progress", *desk.options]
-
-    def started(environment=None, **options):
-        terminal = Terminal(columns)
-        environment = {**(environment or {}), "COLUMNS": str(columns) if told else ""}
-        command = start(environment, stderr=terminal.slave, **options)
-        os.close(terminal.slave)
-        command.stderr = terminal
-        return command
-
-    desk.start = started
-    return desk
-
-
-def seen(desk, bus, columns=80, told=True):
-    """Run a desk over a bus at a terminal; give its status, what was drawn, and what stands there in the end."""
-    ended = at_terminal(desk, columns, told).over(bus)
-    del desk.start
-    desk.options.remove("--progress")
-    screen = Screen(columns)
-    screen.show(ended.told)
-    return ended.status, screen.cleared, screen.lines()
 
 
 def bus_of(*units, **losses):
@@ -138,7 +34,7 @@ def check_totals(line, wanted):
 
 
 def desk_told(desk, answers):
-    """Give what stands on a terminal behind a run with all its answers given at once."""
+    """Give the lines on a terminal after a run with all its answers given at once."""
     command = desk.start()
     command.stdin.write(answers)
     command.stdin.close()
@@ -166,10 +62,10 @@ class Slow(simulated_link.Bus):
 
 
 class ProgressTest(BenchTest):
-    """What is seen of a command at a terminal, and what a pipe gets."""
+    """The progress of a command at a terminal, and the output to a pipe."""
 
     def test_a_full_order(self):
-        desk = desk_of(self.folder, [FULL], b"")
+        desk = desk_of(self.folder, [FULL_ORDER], b"")
         status, drawn, lines = seen(desk, bus_of())
         self.assertEqual((status, lines[:-1]), (0, DONE_TOLD.splitlines()))
         check_totals(lines[-1], "new journal, not done 0, written now 1, known before 0, frames 1652, misses 0")
@@ -178,7 +74,7 @@ class ProgressTest(BenchTest):
         assert all(", left 0:0" in line for line in drawn[2:]), drawn[2]
 
     def test_what_orders_should_take(self):
-        orders = [FULL, YEAR | {"order": 2}, PRESENT[0] | {"order": 3}]
+        orders = [FULL_ORDER, YEAR_ORDER | {"order": 2}, PRESENT[0] | {"order": 3}]
         orders += [{"order": 4, "unit": 5, "gtin": GTIN, "identification": "0011223344556677"}]
         for make, wanted in (desk_of, {1652, 56, 112, 224}), (short_desk, {536, 44, 49, 81}):
             desk = make(self.folder, orders, b"")
@@ -187,7 +83,7 @@ class ProgressTest(BenchTest):
             self.assertEqual([line.split(":")[0] for line in drawn][0::len(drawn) - 1], ["1 of 4", "4 of 4"])
 
     def test_a_left_unit_is_closed_first(self):
-        desk = desk_of(self.folder, [{**PRESENT[0], "order": 2}], LEFT)
+        desk = desk_of(self.folder, [{**PRESENT[0], "order": 2}], LEFT_JOURNAL)
         _, drawn, _ = seen(desk, bus_of())
         self.assertEqual(frames_in(drawn)[-1][1], 112 + 14)
 
@@ -200,7 +96,7 @@ class ProgressTest(BenchTest):
                 report.unlink(missing_ok=True)
                 status, drawn, _ = seen(desk, bus_of(lost_frames=[lost]))
                 line = lines_of(report)[0]
-                # Where the last line was drawn behind the miss, and DTR0 was set since then, it is exact.
+                # If the last line was drawn after the miss, and DTR0 was set since then, it is exact.
                 last = [DRAWN.fullmatch(one) for one in drawn][-1]
                 if int(last[4]) == line["misses"] == 1 and int(last[2]) > lost + 5:
                     self.assertEqual((status, int(last[3])), (0, line["frames"]))
@@ -265,7 +161,7 @@ class ProgressTest(BenchTest):
             assert "not done" not in ended.told, ended.told
 
     def test_time_left(self):
-        desk, bus = desk_of(self.folder, [FULL], b""), Slow(simulated_link.Unit(5))
+        desk, bus = desk_of(self.folder, [FULL_ORDER], b""), Slow(simulated_link.Unit(5))
         _, drawn, _ = seen(desk, bus)
         for line in drawn[2:]:
             found = DRAWN.fullmatch(line)
@@ -283,7 +179,7 @@ class ProgressTest(BenchTest):
         check_totals(lines[-1], "new journal, not done 0, written now 2, known before 0, frames 224, misses 0")
 
     def test_a_comparison(self):
-        orders = [FULL, {**YEAR, "order": 2, "year": 25}]
+        orders = [FULL_ORDER, {**YEAR_ORDER, "order": 2, "year": 25}]
         desk, bus = desk_of(self.folder, orders, b""), bus_of()
         desk.over(bus)
         verifying = Verifying(desk.program, self.folder, orders)

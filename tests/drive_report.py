@@ -1,8 +1,7 @@
-"""Tests of `--report`, `--require-done` and `--require-now`: what is told of orders for whoever prints a label."""
+"""Tests of `--report`, `--require-done` and `--require-now`: the record of orders for the printing of labels."""
 
-import json
 
-from base import BenchTest, settings, want
+from base import BenchTest, settings
 from drive_desk import (
     ABSENT,
     ABSENT_BEGAN,
@@ -14,63 +13,21 @@ from drive_desk import (
     last_line,
     put_journal,
 )
-from drive_units import BLANK, LEFT, SCENES
-from driven import HEADER, NAMES, Desk, Ended, Following, simulated_link
-
-UNTOLD = "error: the report can't be written: {}: {}\n"
-DONE = "reply 1 kept 0 Done\n"
-NOTHING = "error: nothing was done: ORDERS has no orders\n"
-
-
-class Verifying(Desk):
-    """The same folder, and runs of `verify` on its orders."""
-
-    def words(self):
-        """Give the command line."""
-        return [self.program, "verify", *self.options, self.orders]
-
-
-def reporting(desk, *options):
-    """Have a desk's runs report, and give the path of the report."""
-    path = desk.folder / "report"
-    desk.options = ["--report", path, *options]
-    return path
-
-
-def text_of(*values):
-    """Give the lines of these values, in their shortest form with their keys by rising name."""
-    return "".join(json.dumps(value, sort_keys=True, separators=(",", ":")) + "\n" for value in values)
-
-
-def lines_of(path, run=1):
-    """Give the values of a run in a report, whose lines are in their form, without the number of the run."""
-    text = path.read_text()
-    values = [json.loads(line) for line in text.splitlines()]
-    want(text, text_of(*values))
-    return [{key: value[key] for key in value if key != "run"} for value in values if value["run"] == run]
-
-
-def cause(was, location, byte=None):
-    """Give why an order came to no good end."""
-    return {"byte": byte, "location": location, "was": was}
-
-
-def kept(number, unit, code, ended, frames, misses, moment=0):
-    """Give the line of an order that has ended, done or at a unit that never answered."""
-    unread = cause("unread", 0x00) if (code, ended) == (3, "now") else None
-    return {"cause": unread, "code": code, "ended": ended, "frames": frames, "misses": misses, "moment": moment,
-            "name": NAMES[code], "order": number, "reply": f"kept {code} {NAMES[code]}", "unit": unit}
-
-
-def unkept(number, unit, reply, frames=0, misses=0, moment=None):
-    """Give the line of an order that got another reply."""
-    return {"cause": None, "code": None, "ended": None, "frames": frames, "misses": misses, "moment": moment,
-            "name": None, "order": number, "reply": reply, "unit": unit}
-
-
-def blank_bus(*addresses, **losses):
-    """Give a bus of blank units."""
-    return simulated_link.Bus([simulated_link.Unit(at, BLANK) for at in addresses], **losses)
+from drive_fixtures import (
+    BLANK,
+    LEFT,
+    NOTHING,
+    SCENES,
+    UNTOLD,
+    Verifying,
+    blank_bus,
+    cause,
+    kept,
+    lines_of,
+    reporting,
+    unkept,
+)
+from driven import HEADER, Desk, Ended, Following, simulated_link
 
 
 class Wrong(simulated_link.Unit):
@@ -99,7 +56,7 @@ class Lying(simulated_link.Unit):
 
 
 def gone(first, count=5000):
-    """Give a bus with a blank unit that hears nothing from a frame on, for so many frames."""
+    """Give a bus with a blank unit that hears nothing from a frame on, for `count` frames."""
     return blank_bus(5, lost_frames=range(first, first + count))
 
 
@@ -109,7 +66,7 @@ def one(unit):
 
 
 class ReportTest(BenchTest):
-    """What a report says of orders, and which status goes with it."""
+    """The report of orders, and the status that goes with it."""
 
     def test_reports_of_whole_runs(self):
         for name, scene in SCENES.items():
@@ -172,7 +129,7 @@ class ReportTest(BenchTest):
             ("one before and one now", PRESENT + second, DONE_JOURNAL, (5,), 0, 1),
             ("twice in ORDERS", PRESENT + PRESENT, None, (5,), 0, 1),
             ("resumed", [], begun, (5,), 0, 0),
-            # Its end is told once, so when the order comes it is known.
+            # Its end is reported once, so when the order comes it is known.
             ("resumed and come again", PRESENT, begun, (5,), 0, 1),
             ("resumed and another", second, begun, (5,), 0, 0),
             ("silent", PRESENT, None, (), 1, 1),
@@ -222,16 +179,16 @@ class ReportTest(BenchTest):
     def test_causes(self):
         gtin, year = PRESENT, [{"order": 1, "unit": 5, "year": 24}]
         short_bank = bytes([0x10]) + b"\xff" * 16
-        # Orders, what makes a bus, and what has to be told: by the checked plan and by the short one, or by both.
+        # Orders, what makes a bus, and the line to report: by the checked plan and by the short one, or by both.
         cases = [
             # A location that can't be written, and locations that are read otherwise, the lock byte among them.
             (gtin, lambda: one(simulated_link.Unit(5, BLANK, (0x05,))), [(4, cause("unwritten", 0x05))]),
             (gtin, lambda: one(Wrong(0x05)), [(4, cause("other", 0x05, 0xCE ^ 0xFF))]),
             (gtin, lambda: one(Wrong(0x08)), [(4, cause("other", 0x08, 0xAB ^ 0xFF))]),
             (gtin, lambda: one(Wrong(0x02)), [(4, cause("other", 0x02, 0x00))]),
-            # The first access that failed is told, and none of those that close the unit: it is gone for all of them,
-            # or is back for them. The checked plan writes 06h by the frames 36 to 42 and reads 02h by 64 to 70, the
-            # short one reads the row from 02h on by the frames 37 to 49.
+            # The first access that failed is reported, and none of those that close the unit: it is gone for all of
+            # them, or is back for them. The checked plan writes 06h by the frames 36 to 42 and reads 02h by 64 to 70,
+            # the short one reads the row from 02h on by the frames 37 to 49.
             (gtin, lambda: gone(8), [(5, cause("unwritten", 0x02))]),
             (gtin, lambda: gone(8, 32), [(4, cause("unwritten", 0x02))]),
             (gtin, lambda: gone(37), [(5, cause("unwritten", 0x06)), (5, cause("unread", 0x02))]),
@@ -258,7 +215,7 @@ class ReportTest(BenchTest):
                 desk.over(bus())
                 (line,) = lines_of(path)
                 self.assertEqual((number, plan, line["code"], line["cause"]), (number, plan, *told))
-                # What is known from before has no cause.
+                # An end that is known from before has no cause.
                 desk.over(blank_bus(5))
                 self.assertEqual((number, lines_of(path, 2)[0]["cause"]), (number, None))
 

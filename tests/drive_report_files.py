@@ -11,6 +11,7 @@ from drive_desk import (
     ABSENT_BEGAN,
     DONE_JOURNAL,
     DONE_TOLD,
+    KEPT_DONE,
     OLD_DONE_JOURNAL,
     PRESENT,
     SILENCE,
@@ -18,8 +19,8 @@ from drive_desk import (
     desk_of,
     last_line,
 )
-from drive_report import DONE, UNTOLD, Verifying, blank_bus, kept, lines_of, reporting, text_of
-from driven import HEADER, Ended, Following, line_from
+from drive_fixtures import UNTOLD, Verifying, blank_bus, kept, lines_of, reporting, text_of
+from driven import FIELDS, HEADER, Ended, Following, line_from
 
 FOREIGN = "line {} there is none of a report: name another file, or take that line out"
 TAKEN = "the command has this file for something else"
@@ -36,12 +37,12 @@ EARLIER_LAST = {key: LAST[key] for key in LAST if key != "cause"}
 
 def most_differences():
     """Give all fields, each with the longest texts that a unit may have and an order may want."""
-    sizes = {"gtin": 6, "identification": 8, "year": 1, "week": 1, "input_power": 2, "min_dim_power": 2,
-             "min_voltage": 2, "max_voltage": 2, "light_output": 3, "cri": 1, "cct": 2, "distribution": 1}
-    texts = {field: max("raw " + "00" * size, "unknown", key=len) for field, size in sizes.items()}
-    texts.update(identification="0" * 16, distribution="unknown", colour="text " + '"' * 24,
-                 luminaire="text " + "\\" * 60)
-    return [{"field": field, "has": text, "wants": text} for field, text in texts.items()]
+    found = []
+    for it in FIELDS:
+        longest = {"identification": "00" * it["bytes"], "text": "text " + '"' * it["bytes"]}
+        text = longest.get(it["form"]) or max("raw " + "00" * it["bytes"], "unknown", key=len)
+        found.append({"field": it["key"], "has": text, "wants": text})
+    return found
 
 
 class ReportFilesTest(BenchTest):
@@ -66,7 +67,7 @@ class ReportFilesTest(BenchTest):
         stream.options = desk.options
         self.assertEqual(stream.over(bus).status, 0)
         self.assertEqual(path.read_text(), text_of(*wanted, {**BEFORE, "run": 4}, {**BEFORE, "run": 4}))
-        # There is none behind the last count.
+        # No run comes after the last count.
         path.write_text(text_of({**LAST, "run": 2 ** 64 - 2}))
         desk.write_orders(PRESENT)
         for _ in range(2):
@@ -110,7 +111,7 @@ class ReportFilesTest(BenchTest):
         for held, left in [("", "\0"), ("", "\0" * 5000), ("", "{"), (good, '{"code":' + "0" * 2040),
                            (good + "\n", ""), (good + "\n" + good, "\0\0"), ("\n", "{\"cau")]:
             path.write_text(held + left)
-            # What has nothing to tell leaves it.
+            # A run that has nothing to report leaves it.
             desk.write_orders([])
             self.assertEqual((left, desk.give(b"").status, path.read_text()), (left, 0, held + left))
             desk.write_orders(PRESENT)
@@ -154,7 +155,7 @@ class ReportFilesTest(BenchTest):
 
             ended = desk.give(b"", preexec_fn=limited, restore_signals=False)
             untold = f"error: the report can't be written: {path}: "
-            self.assertEqual((more, ended.status, ended.told[:len(DONE + untold)]), (more, 2, DONE + untold))
+            self.assertEqual((more, ended.status, ended.told[:len(KEPT_DONE + untold)]), (more, 2, KEPT_DONE + untold))
             line = text_of({**BEFORE, "run": 2})
             self.assertEqual((more, path.read_text()), (more, held + line[:more]))
             whole = more == len(line) - 1
@@ -168,9 +169,9 @@ class ReportFilesTest(BenchTest):
         first.options = second.options = ["--report", self.folder / "report"]
         running = first.start()
         try:
-            # Its first frame comes behind the opening of the report.
+            # Its first frame comes after the opening of the report.
             self.assertEqual(line_from(running.stdout), b"C301\n")
-            self.assertEqual(second.give(b""), Ended(2, b"", DONE + UNTOLD.format(self.folder / "report", IN_USE)))
+            self.assertEqual(second.give(b""), Ended(2, b"", KEPT_DONE + UNTOLD.format(self.folder / "report", IN_USE)))
             running.communicate(SILENCE, 20)
         finally:
             running.kill()
@@ -184,7 +185,7 @@ class ReportFilesTest(BenchTest):
         reader = os.open(path, os.O_RDONLY | os.O_NONBLOCK)
         try:
             for _ in range(2):
-                self.assertEqual(desk.give(b""), Ended(0, b"", DONE))
+                self.assertEqual(desk.give(b""), Ended(0, b"", KEPT_DONE))
                 self.assertEqual(os.read(reader, 4096).decode(), text_of({**BEFORE, "run": 1}))
         finally:
             os.close(reader)
@@ -235,7 +236,7 @@ class ReportFilesTest(BenchTest):
             text_of({**LAST, "run": "3"}), text_of({**LAST, "run": -1}), text_of({**LAST, "run": 1.5}),
             text_of({**LAST, "run": None}), '{"code":' + " " * 2041 + "\n", '{"codes":', '{ "code":', "{}\n", '{"ab',
             "}\n",
-            # What is too long for a line of a report, as another program's file, and zeros that other bytes follow.
+            # A line that is too long for a report, as of another program's file, and zeros that other bytes follow.
             good.rstrip("\n") + " " * 2048, '{"code":200,"data":"' + "a" * 5000 + '"}', '{"code":' + "0" * 2041,
             good.rstrip("\n") + "\0 ",
         ]
@@ -244,7 +245,7 @@ class ReportFilesTest(BenchTest):
                 report.write_text(held)
                 number = 1 + held.startswith(good) * (held != text)
                 self.assertEqual((held, desk.over(blank_bus(5))),
-                                 (held, Ended(2, b"", DONE + UNTOLD.format(report, FOREIGN.format(number)))))
+                                 (held, Ended(2, b"", KEPT_DONE + UNTOLD.format(report, FOREIGN.format(number)))))
                 self.assertEqual(report.read_text(), held)
         report.write_bytes(good.encode() + b"\xff\n")
         self.assertEqual(desk.over(blank_bus(5)).status, 2)
@@ -258,17 +259,17 @@ class ReportFilesTest(BenchTest):
             held = place.read_bytes()
             desk.options = ["--older", older, "--report", place]
             self.assertEqual((place, desk.over(blank_bus(5))),
-                             (place, Ended(2, b"", DONE + UNTOLD.format(place, TAKEN))))
+                             (place, Ended(2, b"", KEPT_DONE + UNTOLD.format(place, TAKEN))))
             self.assertEqual(place.read_bytes(), held)
         for place in (self.folder / "link", self.folder / "to_none"):
             place.symlink_to(older if place.name == "link" else self.folder / "none")
             desk.options = ["--report", place]
             self.assertEqual(desk.over(blank_bus(5)),
-                             Ended(2, b"", DONE + UNTOLD.format(place, "it is a link: name the file itself")))
+                             Ended(2, b"", KEPT_DONE + UNTOLD.format(place, "it is a link: name the file itself")))
         assert not (self.folder / "none").exists()
         desk.options = ["--report", "-"]
         self.assertEqual(desk.over(blank_bus(5)),
-                         Ended(2, b"", DONE + UNTOLD.format("-", "it is standard output, where the frames go")))
+                         Ended(2, b"", KEPT_DONE + UNTOLD.format("-", "it is standard output, where the frames go")))
         self.assertEqual((desk.held(), older.read_bytes()), (DONE_JOURNAL, HEADER + absent_records(7)))
         scenario = Verifying(desk.program, self.folder, PRESENT)
         scenario.options = ["--report", scenario.orders]
@@ -291,7 +292,7 @@ class ReportFilesTest(BenchTest):
                                  (start, name, UNTOLD.format(place, TAKEN).rstrip("\n")))
                 self.assertEqual((start, desk.held()[:4]), (start, HEADER[:4]))
                 desk.options = []
-                self.assertEqual(desk.over(blank_bus(5)).told, DONE)
+                self.assertEqual(desk.over(blank_bus(5)).told, KEPT_DONE)
 
     def test_a_report_in_the_way_of_a_journal_behind_a_link(self):
         desk = desk_of(self.folder, PRESENT)
@@ -305,7 +306,7 @@ class ReportFilesTest(BenchTest):
         self.assertEqual((ended.status, ended.sent, last_line(ended)[2]), (2, b"", "fault 21 File"))
         self.assertEqual((real / "journal").read_bytes(), OLD_DONE_JOURNAL)
         desk.options = []
-        self.assertEqual(desk.over(blank_bus(5)).told, DONE)
+        self.assertEqual(desk.over(blank_bus(5)).told, KEPT_DONE)
 
     def test_a_report_stays_where_there_is_nothing_to_add(self):
         desk = desk_of(self.folder, PRESENT)
@@ -327,7 +328,7 @@ class ReportFilesTest(BenchTest):
         with open(path, "rb") as report:
             fcntl.flock(report, fcntl.LOCK_EX)
             self.assertEqual(desk.over(blank_bus(5)),
-                             Ended(2, b"", DONE + UNTOLD.format(path, "another command writes it")))
+                             Ended(2, b"", KEPT_DONE + UNTOLD.format(path, "another command writes it")))
             self.assertEqual(path.read_bytes(), held)
         desk.orders.write_text("[]")
         self.assertEqual((desk.over(blank_bus(5)).status, path.read_bytes()), (0, held))

@@ -1,7 +1,8 @@
-"""Tests that what is told of a journal is on the disk: of an older one, and by `journal` and `check --journal`.
+"""Tests that nothing is reported of a journal before it is on the disk: of an older one, by `journal`, by `check`.
 
-A drive is killed between the write of a record and its sync. Whoever reads that record then goes by it, and a loss of
-power takes it away again, if nobody has synced the file. So a loss of power is played by what the shim tells of syncs.
+A drive is killed between the write of a record and its sync. A command that reads that record acts on it, and a loss of
+power takes it away again, if nobody has synced the file. So a loss of power is played by what the shim's log has of
+syncs.
 """
 
 import errno
@@ -9,15 +10,14 @@ import os
 import subprocess
 
 from base import BenchTest, settings, want
-from drive_calls import calls_in, calls_of, shim
-from drive_desk import DONE_JOURNAL, FAULT_21, PRESENT, desk_of, last_line
-from drive_older import KEPT_DONE
-from drive_report import blank_bus
+from call_fixtures import calls_in, calls_of, shim
+from drive_desk import DONE_JOURNAL, FAULT_21, KEPT_DONE, PRESENT, desk_of, last_line
+from drive_fixtures import blank_bus
 from driven import HEADER, PATIENCE, Ended
 
 UNSYNCED = DONE_JOURNAL[:-2]
 TOLD_IDLE = "version 2\nB order 1 unit 5 at 0 bytes 6\nO unit 5\nE 0 Done\ncounts 39 of 39 orders 1 standing idle\n"
-# What can't be synced has nothing to lose.
+# A file that can't be synced has nothing to lose.
 NO_SYNC = (errno.EINVAL, errno.EROFS)
 
 
@@ -33,7 +33,7 @@ def half_settled(folder):
 
 
 def is_settled(calls):
-    """Tell whether the older file was synced behind what was read of it, and before anything was sent or told."""
+    """Tell whether the older file was synced after it was read, and before anything was sent or printed."""
     told = [at for at, call in enumerate(calls) if call.kind == "write" and call.target in ("out", "err")]
     read = max(at for at, call in enumerate(calls) if (call.kind, call.target) == ("read", "older"))
     between = calls[read:min(told)]
@@ -41,7 +41,7 @@ def is_settled(calls):
 
 
 def behind(folder, older):
-    """Give a desk whose drives are behind this older journal; its order is that of the older one."""
+    """Give a desk whose drives have this older journal; its order is that of the older one."""
     place = folder / "behind"
     place.mkdir(exist_ok=True)
     desk = desk_of(place, PRESENT)
@@ -50,7 +50,7 @@ def behind(folder, older):
 
 
 def driven(folder, older, environment, **_streams):
-    """Drive behind the older journal."""
+    """Drive with the older journal."""
     return behind(folder, older).give(b"", environment)
 
 
@@ -80,13 +80,13 @@ def is_told(ended):
 
 
 def spoiled(folder, command, desk, act):
-    """Run a command with this call on the older file spoiled; the journal behind it must not be made."""
+    """Run a command with this call on the older file spoiled; its own journal must not be made."""
     variables = {**shim(desk, act), "DRIVE_SHIM_OLDER": str(desk.journal)}
     return command(folder, desk.journal, variables)
 
 
 class SettledTest(BenchTest):
-    """What counts is on the disk."""
+    """The records that count are on the disk."""
 
     def test_a_loss_of_power_takes_nothing_away_that_was_told(self):
         for command in COMMANDS:
@@ -97,7 +97,7 @@ class SettledTest(BenchTest):
                 log = folder / "calls.log"
                 variables = {**shim(desk, log=log), "DRIVE_SHIM_OLDER": str(desk.journal)}
                 self.assertTrue(is_told(command(folder, desk.journal, variables)))
-                # The power goes, and with it what wasn't synced; another luminaire stands there then.
+                # The power goes, and with it what wasn't synced; then another luminaire is at that address.
                 desk.journal.write_bytes(DONE_JOURNAL if is_settled(calls_in(log)) else UNSYNCED)
                 bus = blank_bus(5)
                 desk.write_orders([])

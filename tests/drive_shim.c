@@ -1,15 +1,16 @@
 /* Preloaded into `dali_bench drive` by its test: logs the calls on its files and pipes in their order, and spoils one.
 
    DRIVE_SHIM_ORDERS, DRIVE_SHIM_JOURNAL and DRIVE_SHIM_OLDER are paths as the command line has them. A call's target is
-   `orders`, `journal`, `older`, `new` (the path of the journal with `.new` behind it), `folder` (whatever opened is
-   one), `in`, `out`, `err` or `other`. Once `new` has been renamed to `journal`, its file is `journal`, and what was that is `old`.
+   `orders`, `journal`, `older`, `new` (the path of the journal with `.new` after it), `folder` (any that is opened),
+   `in`, `out`, `err` or `other`. Once `new` has been renamed to `journal`, its file is `journal`, and the one that was
+   that is `old`.
    A call's kind is `open`, `read`, `write`, `sync`, `cut`, `mode`, `lock`, `seek`, `stat`, `close`, or `rename`, whose
    target is the path before it. Where DRIVE_SHIM_LOG names a file, each call adds a line
 
        KIND TARGET RESULT DETAIL
 
    with the returned number or minus the error's, and of a write the bytes that were written, of an open its flags, of
-   a lock its operation, of a cut the length, of a mode its bits, of a rename the target that the path behind it has.
+   a lock its operation, of a cut the length, of a mode its bits, of a rename the target that the path after it has.
    DRIVE_SHIM_ACT is `KIND TARGET NUMBER EFFECT VALUE`. It spoils the call of this number, counted from 1, among those
    of the kind and the target; `any` stands for each kind or target, and the number 0 for each call.
 
@@ -44,7 +45,7 @@ struct act {
     long number, value;
 };
 
-/* What is to become of the call at hand: the effect of the act where it fits, and else the empty text. */
+/* The effect of the act on the call at hand if it fits, and else the empty text. */
 static const char *effect_on(const char *kind, const char *target, long *value)
 {
     static struct act act;
@@ -100,7 +101,7 @@ static int is_at(const char *path, const char *other)
     return strcmp(path, other) == 0 || (realpath(other, real) != NULL && strcmp(path, real) == 0);
 }
 
-/* Whether a path is that of the journal with `.new` behind it. */
+/* Whether a path is that of the journal with `.new` after it. */
 static int is_new(const char *path, const char *journal)
 {
     char before[PATH_MAX] = "";
@@ -127,7 +128,7 @@ static const char *target_at(const char *path)
     return stat(path, &stands) == 0 && S_ISDIR(stands.st_mode) ? "folder" : "other";
 }
 
-/* The files that are open go by what their names mean, once the journal's name means another file. */
+/* Give the open files their new targets once the journal's name means another file. */
 static void name_anew(void)
 {
     for (int file = 0; file < MOST_FILES; file++) {
@@ -138,7 +139,7 @@ static void name_anew(void)
     }
 }
 
-/* What the log has of a call besides its result. */
+/* The detail that the log has of a call besides its result. */
 static const char *detail_of(long call, const long *with, long result)
 {
     static char digits[30];

@@ -3,11 +3,10 @@
 import signal
 import subprocess
 import tempfile
-from functools import partialmethod
 
 import driven
-from adapter_serial import Interface
-from base import BenchTest, want
+from adapter_fixtures import SerialInterface
+from base import BenchTest, in_cases
 from drive_desk import (
     ABSENT,
     ABSENT_BEGAN,
@@ -24,92 +23,10 @@ from drive_desk import (
     goes_on,
     last_line,
 )
-from driven import HEADER, Ended, groups_of, judge, kept_lines, records_of, simulated_link
+from drive_fixtures import BLANK, CHANGED_BY_KILLS, LEFT, SCENES, finish, many_orders, whole_run
+from driven import HEADER, Ended, judge, records_of, simulated_link
 
-
-class Scene:
-    """Orders, the units that they go to, what is lost, and the codes that the orders end with where nothing is killed.
-
-    Kills come at each frame, or at one of so many as `step` says, spread evenly.
-    """
-
-    def __init__(self, orders, units, codes, step=1, **losses):
-        self.orders, self.units, self.codes, self.step, self.losses = orders, units, codes, step, losses
-
-    def bus(self):
-        """Make a bus with its units as they stand at the start."""
-        units = [simulated_link.Unit(at, bank, fixed) for at, bank, fixed in self.units]
-        return simulated_link.Bus(units, **self.losses)
-
-    def banks(self):
-        """Give bank 1 of each unit at the start."""
-        return {at: bank for at, bank, _ in self.units}
-
-
-def bank_of(length, **changes):
-    """Give a blank bank of this many locations, with changes as x12=0x04."""
-    bank = bytearray(simulated_link.BLANK_BANK_1[:length])
-    bank[0] = length - 1
-    for location, byte in changes.items():
-        bank[int(location[1:], 16)] = byte
-    return bytes(bank)
-
-
-BLANK = simulated_link.BLANK_BANK_1
-LOSSY = Scene(
-    [{"order": 1, "unit": 5, "gtin": GTIN}, {"order": 2, "unit": 6, "luminaire": "Panel 600x600"},
-     {"order": 2 ** 64 - 1, "unit": 9, "gtin": GTIN}, {"order": 0, "unit": 6, "year": 24, "week": 53}],
-    [(5, BLANK, ()), (6, bank_of(0x3C), ())], {1: 0, 2: 1, 2 ** 64 - 1: 3, 0: 0},
-    lost_frames={4, 30, 31, 77, 100, 125, 160}, lost_answers={19, 60, 99, 118, 150}, refused={45})
-DOUBTFUL = Scene(
-    [{"order": 11, "unit": 5, "gtin": GTIN}, {"order": 12, "unit": 6, "year": 24},
-     {"order": 13, "unit": 5, "year": 24, "cri": 80}],
-    [(5, BLANK, (5,)), (6, bank_of(0x78, x12=0x04), ())], {11: 4, 12: 2, 13: 0}, lost_answers={14, 90})
-LEFT = Scene(
-    [{"order": 21, "unit": 5, "gtin": GTIN}, {"order": 22, "unit": 6, "year": 24}],
-    [(5, BLANK, ()), (6, BLANK, ())], {21: 5, 22: 0}, lost_frames=set(range(40, 130)))
-ALL_FIELDS = Scene(
-    driven.json.loads((driven.ROOT / "examples" / "full.json").read_text()), [(5, BLANK, ())], {1: 0}, step=31,
-    lost_frames={40, 300, 900}, lost_answers={19, 500, 1300})
-# Unit 5 loses its power before and behind a read for order 31, while order 32 is carried out at unit 6, and once it is
-# unlocked for order 33; unit 6 loses it while order 31 is carried out.
-POWERLESS = Scene(
-    [{"order": 31, "unit": 5, "gtin": GTIN}, {"order": 32, "unit": 6, "year": 24},
-     {"order": 33, "unit": 5, "week": 53}],
-    [(5, BLANK, ()), (6, BLANK, ())], {31: 0, 32: 0, 33: 4},
-    lost_power={(5, 3), (5, 11), (5, 150), (5, 208), (6, 20)})
-SCENES = {"lossy": LOSSY, "doubtful": DOUBTFUL, "left": LEFT, "powerless": POWERLESS, "all fields": ALL_FIELDS}
-# In these the codes depend on when the program is killed.
-CHANGED_BY_KILLS = ("left", "powerless")
-
-
-def finish(desk, scene, bus, codes=None):
-    """Run the program to its end, judge what it leaves, and see that a further run does nothing."""
-    ended = desk.over(bus)
-    data = desk.held()
-    want(ended.status, 0)
-    want(records_of(data)[1], len(data))
-    judge(bus, scene.banks(), data)
-    lines = kept_lines(data)
-    assert set(lines) <= set(ended.told.splitlines()), (lines, ended.told)
-    want([int(line.split()[1]) for line in lines], [order["order"] for order in scene.orders])
-    if codes is not None:
-        want({group.number: group.code for group in groups_of(data)}, codes)
-    want(desk.over(bus), Ended(0, b"", desk.ready + "".join(line + "\n" for line in lines)))
-    want(desk.held(), data)
-    return ended
-
-
-def whole_run(folder, scene):
-    """Run a scene with no kill; give the desk, its bus, and how the run ended."""
-    desk, bus = desk_of(folder, scene.orders), scene.bus()
-    return desk, bus, finish(desk, scene, bus, scene.codes)
-
-
-def many_orders(*numbers):
-    """Give the records of orders with these numbers that a unit didn't answer."""
-    behind = bytes(8) + bytes.fromhex("09 01 1318 4503")
-    return b"".join(b"B" + number.to_bytes(8, "big") + behind for number in numbers)
+SHARES = 4  # of a long test, each a case
 
 
 class UnitsTest(BenchTest):
@@ -191,7 +108,7 @@ class UnitsTest(BenchTest):
 
     def test_over_the_serial_adapter(self):
         desk = desk_of(self.folder, ABSENT)
-        interface = Interface([[b"N\r"]] * 10)
+        interface = SerialInterface([[b"N\r"]] * 10)
         adapter = [driven.ROOT / "adapters" / "serial_link.py", interface.device, "--"]
         ended = subprocess.run([*adapter, *desk.words()], capture_output=True, text=True, timeout=driven.PATIENCE)
         interface.close()
@@ -229,22 +146,14 @@ def kill_at_each_frame(folder, name, moment, part, count):
 class KillsTest(BenchTest):
     """Drives that are killed at each frame."""
 
-    def kills_before_the_link_carries(self, part, count):
+    @in_cases(SHARES)
+    def test_kills_before_the_link_carries(self, case):
         for name in SCENES:
             (self.folder / name).mkdir()
-            kill_at_each_frame(self.folder / name, name, "sent", part, count)
+            kill_at_each_frame(self.folder / name, name, "sent", case, SHARES)
 
-    test_kills_before_the_link_carries_part_1 = partialmethod(kills_before_the_link_carries, 0, 4)
-    test_kills_before_the_link_carries_part_2 = partialmethod(kills_before_the_link_carries, 1, 4)
-    test_kills_before_the_link_carries_part_3 = partialmethod(kills_before_the_link_carries, 2, 4)
-    test_kills_before_the_link_carries_part_4 = partialmethod(kills_before_the_link_carries, 3, 4)
-
-    def kills_before_the_answer(self, part, count):
+    @in_cases(SHARES)
+    def test_kills_before_the_answer(self, case):
         for name in SCENES:
             (self.folder / name).mkdir()
-            kill_at_each_frame(self.folder / name, name, "carried", part, count)
-
-    test_kills_before_the_answer_part_1 = partialmethod(kills_before_the_answer, 0, 4)
-    test_kills_before_the_answer_part_2 = partialmethod(kills_before_the_answer, 1, 4)
-    test_kills_before_the_answer_part_3 = partialmethod(kills_before_the_answer, 2, 4)
-    test_kills_before_the_answer_part_4 = partialmethod(kills_before_the_answer, 3, 4)
+            kill_at_each_frame(self.folder / name, name, "carried", case, SHARES)

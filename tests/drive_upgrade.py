@@ -1,4 +1,4 @@
-"""Tests of how `drive` brings a journal into version 2: what comes of it, and each call that does it spoiled."""
+"""Tests of how `drive` brings a journal into version 2: the result, and each call of it spoiled."""
 
 import errno
 import os
@@ -7,11 +7,10 @@ import pty
 import signal
 import stat
 import time
-from functools import partialmethod
 
 import driven
-from base import BenchTest, want
-from drive_calls import acts_on, calls_of, check_named, check_order, shim
+from base import BenchTest, in_cases, want
+from call_fixtures import acts_on, calls_of, check_named, check_order, shim
 from drive_desk import (
     ABSENT,
     ABSENT_BEGAN,
@@ -27,14 +26,14 @@ from drive_desk import (
     OLD_DONE_JOURNAL,
     SILENCE,
     absent_records,
+    as_nobody,
     desk_of,
     goes_on,
     last_line,
     new_of,
     put_journal,
 )
-from drive_places import as_nobody
-from drive_units import BLANK, many_orders
+from drive_fixtures import BLANK, many_orders
 from driven import HEADER, Ended, in_version_2, judge, records_of, simulated_link
 
 # Unit 5 was left by the first order and closed for the second one.
@@ -44,7 +43,7 @@ OLD_JOURNAL = bytes.fromhex("42 0000000000000001 05 06 0303 04A4 05CE 06EF 07AD 
 JOURNAL = HEADER + bytes.fromhex("42 0000000000000001 0000000000000000 05 06 0303 04A4 05CE 06EF 07AD 08AB"
                                  "4F05 4505 4305"
                                  "42 0000000000000002 0000000000000000 06 06 0303 04A4 05CE 06EF 07AD 08AB 4F06 4500")
-# What is told where so many bytes of the old journal count.
+# The replies, if this many bytes of the old journal count.
 DONE_BOTH = ["1 kept 0 Done", "2 taken", "2 kept 0 Done"]
 LEFT_FIRST = ["1 kept 5 DoubtOpen", "2 taken", "2 kept 0 Done"]
 REPLIES = {
@@ -57,10 +56,11 @@ LENGTHS = (0, 24, 26, 28, 40, 53, 55, 56)
 # A Began that is cut off so late that a journal with it gets shorter as it is written anew.
 LONG_TAIL = b"B" + bytes(8) + bytes([5, 20]) + bytes(it for place in range(0x13, 0x27) for it in (place, 0))[:-1]
 ABSENT_STARTS = (None, b"", OLD_ABSENT_BEGAN, OLD_ABSENT_BEGAN + b"E", OLD_ABSENT_JOURNAL)
+SHARES = 4  # of a long test, each a case
 
 
 def stand(unit, count, is_open):
-    """Have a unit stand as an order with a GTIN leaves it: with so many bytes written, and open or not."""
+    """Have a unit stand as an order with a GTIN leaves it: with `count` bytes written, and open or not."""
     unit.banks[1][3:3 + count] = GTIN_BYTES[:count]
     if is_open:
         unit.banks[1][driven.LOCK_BYTE] = simulated_link.OPEN
@@ -86,7 +86,7 @@ def end_of(desk, bus):
 
 
 class UpgradeTest(BenchTest):
-    """What an older journal becomes."""
+    """The new form of an older journal."""
 
     def test_worked_journals(self):
         longest = [(place, place ^ 0xA5) for place in [*range(0x03, 0x11), *range(0x13, 0x78)]]
@@ -189,20 +189,16 @@ class UpgradeCallsTest(BenchTest):
             check_order(calls, desk.held(), OLD_JOURNAL[:length])
             check_upgrade(calls, in_version_2(OLD_JOURNAL[:length]))
 
-    def kills_amid_an_upgrade(self, part, count):
+    @in_cases(SHARES)
+    def test_kills_amid_an_upgrade(self, case):
         for desk, start, calls, end in upgrades(self.folder):
-            for act in [act for act in acts_on(calls) if "torn" not in act][part::count]:
+            for act in [act for act in acts_on(calls) if "torn" not in act][case::SHARES]:
                 put_journal(desk, start)
                 bus = bus_for(start)
                 self.assertEqual((act, desk.over(bus, environment=shim(desk, act))),
                                  (act, Ended(-signal.SIGKILL, b"", "")))
                 assert desk.held() in (start, in_version_2(start)), (act, desk.held())
                 self.assertEqual((act, end_of(desk, bus)), (act, end))
-
-    test_kills_amid_an_upgrade_part_1 = partialmethod(kills_amid_an_upgrade, 0, 4)
-    test_kills_amid_an_upgrade_part_2 = partialmethod(kills_amid_an_upgrade, 1, 4)
-    test_kills_amid_an_upgrade_part_3 = partialmethod(kills_amid_an_upgrade, 2, 4)
-    test_kills_amid_an_upgrade_part_4 = partialmethod(kills_amid_an_upgrade, 3, 4)
 
     def test_an_upgrade_that_is_torn(self):
         for start, orders in [(OLD_ABSENT_BEGAN, ABSENT), (OLD_JOURNAL, ORDERS)]:
@@ -214,22 +210,20 @@ class UpgradeCallsTest(BenchTest):
                 self.assertEqual((length, ended, desk.held()), (length, Ended(-signal.SIGKILL, b"", ""), start))
                 self.assertEqual((length, (desk.give(SILENCE), desk.held())), (length, end))
 
-    def failures_amid_an_upgrade(self, part):
+    @in_cases(2)
+    def test_failures_amid_an_upgrade(self, case):
         for desk, start, calls, end in upgrades(self.folder):
             is_renamed = False
             for call in calls:
                 put_journal(desk, start)
                 bus = bus_for(start)
-                act = call.act("fail", (errno.EIO, errno.ENOSPC)[part])
+                act = call.act("fail", (errno.EIO, errno.ENOSPC)[case])
                 ended = desk.over(bus, environment=shim(desk, act))
                 self.assertEqual((call, last_line(ended)), (call, FAULT_21))
                 check_named(desk, call, ended)
                 self.assertEqual((call, desk.held()), (call, in_version_2(start) if is_renamed else start))
                 self.assertEqual((call, end_of(desk, bus)), (call, end))
                 is_renamed = is_renamed or call.kind == "rename"
-
-    test_failures_amid_an_upgrade_part_1 = partialmethod(failures_amid_an_upgrade, 0)
-    test_failures_amid_an_upgrade_part_2 = partialmethod(failures_amid_an_upgrade, 1)
 
     def test_what_a_stopped_drive_left(self):
         desk = desk_of(self.folder, ABSENT)
@@ -254,7 +248,7 @@ def check_in_the_way(desk, start, others=()):
 
 
 class InTheWayTest(BenchTest):
-    """What stands in the way of an upgrade, and the rights that it leaves."""
+    """Obstacles to an upgrade, and the rights that it leaves."""
 
     def test_what_no_drive_left(self):
         desk = desk_of(self.folder, ABSENT)
@@ -354,8 +348,9 @@ def give_around(desk, act, run):
 class TwoDrivesTest(BenchTest):
     """Two drives at once."""
 
-    def one_of_two_drives_runs(self, part):
-        effect, desk = ("pause", "paused")[part], desk_of(self.folder, ABSENT)
+    @in_cases(2)
+    def test_one_of_two_drives_runs(self, case):
+        effect, desk = ("pause", "paused")[case], desk_of(self.folder, ABSENT)
         for start in (None, b"", OLD_ABSENT_BEGAN, ABSENT_BEGAN):
             put_journal(desk, start)
             calls, _ = calls_of(desk, lambda variables: desk.give(SILENCE, variables))
@@ -371,9 +366,6 @@ class TwoDrivesTest(BenchTest):
                 assert last_line(other) in may_end, (start, call, other)
                 self.assertEqual((desk.held(), new_of(desk).exists()), (ABSENT_JOURNAL, False))
                 has_lock = has_lock or call.kind == "lock"
-
-    test_one_of_two_drives_runs_part_1 = partialmethod(one_of_two_drives_runs, 0)
-    test_one_of_two_drives_runs_part_2 = partialmethod(one_of_two_drives_runs, 1)
 
     def test_a_drive_that_opened_the_old_file_is_kept_out(self):
         desk, longer = desk_of(self.folder, ABSENT), OLD_ABSENT_BEGAN + LONG_TAIL

@@ -14,6 +14,8 @@ import sys
 from typing import NamedTuple
 
 ROOT = pathlib.Path(__file__).resolve().parent.parent
+# The fields of an order, by rising location, as `dali_bench fields` prints them.
+FIELDS = json.loads((ROOT / "tools" / "fields.json").read_text(encoding="utf-8"))
 HEADER = bytes.fromhex("44423102")
 LOCK_BYTE = 0x02
 SHUT = 0xFF
@@ -50,7 +52,7 @@ class Ended(NamedTuple):
 class Desk:
     """A folder with a file of orders and a journal, and runs of the program on both."""
 
-    # What is told before the first order is taken.
+    # The line before the first order is taken.
     ready = ""
 
     def __init__(self, program, folder, orders):
@@ -121,7 +123,7 @@ class Desk:
         return Ended(status, b"".join(frames), told)
 
     def look_at(self, sent):
-        """Raise where a frame of addresses was sent: to some of them no answer is told as damaged."""
+        """Raise if a frame of addresses was sent: a damaged answer to some of them is reported as a yes."""
         assert not OF_ADDRESSES.search(sent), OF_ADDRESSES.findall(sent)
 
     def held(self):
@@ -160,7 +162,7 @@ def line_from(pipe):
 
 
 class Group(NamedTuple):
-    """What a journal says of one order: when it came, how far it has come, and its code once it has ended."""
+    """The story of one order in a journal: when it came, how far it has come, and its code once it has ended."""
 
     number: int
     moment: int

@@ -11,7 +11,7 @@ FAULT = re.compile("drive fault (?:3 Line|4 End|6 TooLong)")
 
 
 def words_of(rng):
-    """Give the words behind `address`: short addresses to give, or what else it may do."""
+    """Give the words after `address`: short addresses to give, or another task."""
     some = [str(it) for it in rng.sample(range(64), rng.choice([0, 0, 1, 3]))]
     return rng.choice([some, some, ["--all", *some], ["--list"], ["--count"]])
 
@@ -25,7 +25,7 @@ def bus_of(rng):
 
 
 def try_over_units(program, rng):
-    """Try a run over simulated units, behind runs that were killed."""
+    """Try a run over simulated units, after runs that were killed."""
     bus, words = bus_of(rng), words_of(rng)
     for _ in range(rng.choice([0, 0, 1, 2])):
         before, task = held(bus), task_of(words)

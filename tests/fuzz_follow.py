@@ -1,5 +1,6 @@
-"""Cases of `drive --follow` made by chance, for tests/fuzz: what it tells of each line is what `check` tells of its
-item by itself, and units and journal hold what they have to, with losses and kills."""
+"""Cases of `drive --follow` made by chance, for tests/fuzz: its fault of a line is that of `check` for the item by
+itself, and units and journal hold what they have to, with losses and kills.
+"""
 
 import json
 import re
@@ -68,7 +69,7 @@ def fault_of_text(run, program, item):
 
 
 def judge_told(lines, told, said_first):
-    """Raise unless each line was told in its turn; give the moments at which orders were taken, by their numbers."""
+    """Raise unless each line came in its turn; give the moments at which orders were taken, by their numbers."""
     told, taken = list(told), {}
     if said_first is not None:
         assert re.fullmatch(rf"reply {said_first} kept \d \w+", told.pop(0)), told

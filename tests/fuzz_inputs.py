@@ -5,15 +5,13 @@ Each function takes a `random.Random` first, so that a case is the same whenever
 
 import json
 
+from driven import FIELDS
+
 TOP = 2 ** 64 - 1
 HEADER = b"DB1\x02"
 OTHER_HEADERS = [b"D", b"DB", b"DB1", b"DB1\x01", b"DB1\x03", b"DB2\x02", HEADER + HEADER, b"db1\x02"]
-RANGES = {
-    "year": (0, 99), "week": (1, 53), "input_power": (0, 65534), "min_dim_power": (0, 65534), "min_voltage": (0, 65534),
-    "max_voltage": (0, 65534), "light_output": (0, 16777214), "cri": (0, 100), "cct": (0, 65533),
-    "distribution": (0, 254),
-}
-TEXTS = {"colour": 24, "luminaire": 60}
+RANGES = {it["key"]: (it["least"], it["most"]) for it in FIELDS if it["form"] == "number"}
+TEXTS = {it["key"]: it["most"] for it in FIELDS if it["form"] == "text"}
 GTINS = ["4006381333931", "96385074", "036000291452", "10614141000415", "4006381333932", "40063813339", "0", "", "1e3"]
 ODD_VALUES = [None, True, False, [], {}, -1, 1.0, 1e300, TOP, TOP + 1, "", "x", "\u0000", "\ud800", "é", [0],
               {"a": 1}]
@@ -92,7 +90,7 @@ def bank_digits(rng):
 
 
 def good_bank(rng):
-    """Give the digits of a bank 1 that a unit may have: blank, but for its length and its content format."""
+    """Give the digits of a bank 1 that a unit may have: blank, except for its length and its content format."""
     data = bytearray([0xFF] * rng.choice([17, 60, 120, 120, 120, 255]))
     data[0] = len(data) - 1
     data[0x11:0x13] = (b"\x00\x03" if rng.random() < 0.9 else b"\x00\x04")[:max(len(data) - 0x11, 0)]

@@ -1,10 +1,11 @@
-"""What each command of dali_bench may print, by docs/PROGRAM.md: the form of every line, and what the lines add up to.
+"""The output of each command of dali_bench, by docs/PROGRAM.md: the form of every line, and what the lines add up to.
 
 Each judge takes the status, standard output and standard error of a run, and raises AssertionError with what is wrong.
 """
 
 import re
 
+from driven import FIELDS
 from read_plan import check_passive
 
 ITEM_FAULTS = {1: "Unit", 2: "Kind", 3: "Range", 4: "Gtin", 5: "Text", 7: "Voltage", 8: "Empty", 9: "Shape", 10: "Key"}
@@ -18,8 +19,8 @@ REPLY = re.compile(f"reply ({NUMBER}) (?:taken|reused|busy|full|blocked {NUMBER}
 RECORD = re.compile(f"B order ({NUMBER}) unit ({NUMBER}) at ({NUMBER}) bytes ({NUMBER})|O unit ({NUMBER})|E ({CODE})|"
                     f"C unit ({NUMBER})")
 HEADER_LENGTH = 4
-BANK_WORDS = ("last indicator lock gtin identification format year week input_power min_dim_power min_voltage "
-              "max_voltage light_output cri cct distribution colour luminaire").split()
+OTHERS = [(0x00, "last"), (0x01, "indicator"), (0x02, "lock"), (0x11, "format")]
+BANK_WORDS = [word for _, word in sorted([*OTHERS, *((it["first"], it["key"]) for it in FIELDS)])]
 BANK_TEXT = re.compile("absent|unknown|[0-9]+|[0-9A-F]{2,16}|text [ -~]{1,60}|raw [0-9A-F]{2,120}")
 FRAME = re.compile("[0-9A-F]{4} (?:(?:DTR[012]|WRITE MEMORY LOCATION(?: - NO REPLY)?) [0-9A-F]{2}|"
                    "(?:ENABLE WRITE MEMORY|QUERY CONTENT DTR[012]|READ MEMORY LOCATION) "
@@ -54,20 +55,21 @@ def is_item_fault(line, kind, number):
     return line in [f"{kind} {number} fault {fault} {name}" for fault, name in ITEM_FAULTS.items()]
 
 
-# Faults of a whole input or argument of which a person is told more, and of a scenario.
+# Faults of a whole input or argument that have more lines for a person, and of a scenario.
 NOTED = ("fault 11 Json", "fault 12 Document", "fault 13 TooBig", "fault 14 Hex", "gear fault 5 SameAddress",
          "run fault 1 Limit")
 
-# What stands last where `show` or `journal` refuses what standard input has.
+# The last line if `show` or `journal` refuses standard input.
 REFUSED = "error: the input is refused: standard input"
 
-# What stands behind the lines for a person, where there are more.
+# The line after those for a person, if there are more.
 LEFT_OUT = "more is left out: these are the first 1000 lines"
 
 
 def judge_notes(lines, stderr):
-    """Judge what is told beside an answer: nothing raw, a line at least for each fault that has one, none without.
-    The first thousand lines are told."""
+    """Judge the lines for a person beside an answer: nothing raw, at least one for each fault that has one, else none.
+    The first thousand are printed.
+    """
     notes = lines_of(stderr)
     assert all(re.fullmatch("[ -~]+", it) for it in notes), notes
     found = [re.match("((?:item|event|unit) [0-9]+ )fault ", it) for it in lines]
@@ -123,7 +125,7 @@ def check_status(status, wanted):
 
 
 def judge_refusal(lines, stderr):
-    """Judge what is told of an input that `show` or `journal` refuses."""
+    """Judge the lines about an input that `show` or `journal` refuses."""
     judge_notes(lines, stderr)
     notes = lines_of(stderr)
     assert len(notes) == 2 and notes[1] == REFUSED, notes
@@ -248,7 +250,7 @@ def runs_of(stdout):
 
 
 def judge_drive_head(told, sent):
-    """Judge the lines of refused items and of a file's fault, if it is these that were told; tell whether it is."""
+    """Judge the lines of refused items and of a file's fault, if the output is of these; tell whether it is."""
     refused = [re.fullmatch(f"item ({NUMBER}) fault .*", line) for line in told]
     if any(refused):
         assert not sent and all(found and is_item_fault(found[0], "item", found[1]) for found in refused), told

@@ -1,6 +1,7 @@
 """Cases of `read`, `verify` and `scan` made by chance, for tests/fuzz: over any answers, and over simulated units.
 
-What each of them has to send and to tell is in read_plan.py; what it may print at all is in fuzz_lines.py.
+The frames and lines that each of them has to send and print are in read_plan.py; the form of all output is in
+fuzz_lines.py.
 """
 
 import copy
@@ -80,7 +81,7 @@ def write(unit, order):
 
 
 def least_frames(length):
-    """Give how many frames the reading of so many bytes takes at least."""
+    """Give how many frames the reading of this many bytes takes at least."""
     blocks = [1] + [min(16, length - at) for at in range(1, length, 16)]
     return sum(count + 6 for count in blocks)
 

@@ -3,7 +3,7 @@
 
     line_adapter.py FOLDER A[,A..] -- COMMAND WORDS..
 
-Bank 1 of unit A stands in FOLDER as of adapters/simulated_link.py. While the file `unplugged` is there the interface
+Bank 1 of unit A is kept in FOLDER, as by adapters/simulated_link.py. While the file `unplugged` is there the interface
 is gone, so that the link is closed at the next frame; while `absent_A` is there unit A has no power.
 """
 
@@ -18,7 +18,7 @@ import simulated_link  # noqa: E402
 
 
 class Plugged(simulated_link.FiledBus):
-    """A bus behind an interface that may be unplugged, with units that may be without power."""
+    """A bus over an interface that may be unplugged, with units that may be without power."""
 
     def __init__(self, folder, addresses):
         super().__init__(folder, [simulated_link.load_unit(folder, address) for address in addresses])

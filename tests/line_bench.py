@@ -1,6 +1,6 @@
 """A bench with a line computer, for tests/test_line_computer.py: its store, its buses over simulated units, its judge.
 
-What is judged is read from the store's tables, from the journals' bytes and from the units' files alone.
+The judge reads the store's tables, the journals' bytes and the units' files alone.
 """
 
 import csv
@@ -31,12 +31,12 @@ YEAR, WEEK = 0x13, 0x14
 GOOD, FIXED, SHORT, ABSENT = (5, 60), 6, 7, 9
 CODE_OF = {5: 0, 60: 0, FIXED: 4, SHORT: 1, ABSENT: 3}
 SILENT, DOUBT = 3, 4
-# How an order may end whose frames are lost, and what is told of one that was given up with its journal.
+# How an order may end whose frames are lost, and the reply of one that was given up with its journal.
 LOST = (SILENT, DOUBT, DOUBT_OPEN)
 BY_HAND = "kept 4 Doubt, by hand"
 SHORT_BANK = bytes([0x12] + 16 * [0xFF] + [0x00, 0x03])
 LOSSES = "3,40,41,90,150,151,152,300,420,421,555,700,901,1100,1300,1301"
-# What takes back the third version of a store.
+# The statements that take back the third version of a store.
 TO_VERSION_2 = (
     *(f"drop table bench_{name}" for name in ("scans", "stations")),
     *(f"drop index bench_orders_{name}" for name in ("repeats", "repeated_reference")),
@@ -50,7 +50,7 @@ COLUMNS = "number, bus, unit, fields, state, code, sent, told, report"
 
 
 def put_as_archive(folder):
-    """Put into a folder what an archive has of the line computer: that goes by where its own files are."""
+    """Put into a folder what an archive has of the line computer, which finds the rest by where its own files are."""
     (folder / "dali_bench").symlink_to(settings["program"])
     (folder / "adapters").symlink_to(ROOT / "adapters")
     shutil.copytree(ROOT / "tools", folder / "tools")
@@ -193,7 +193,7 @@ class Bench:
 
 
 def end_all(processes):
-    """End processes that a test has left behind."""
+    """End processes that a test has left."""
     for process in processes:
         process.kill()
         process.wait()

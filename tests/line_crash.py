@@ -4,8 +4,8 @@
     line_crash.py KIND NUMBER WHEN COMMAND WORDS..
 
 KIND is `commit`, of a transaction or of a change by itself; `write` of a line to the pipe of orders, or to standard
-output; `read` of the pipe of what is told; `rename`, or `sync` of a file or a folder; `label`, the making of one within
-a transaction. It is killed by SIGKILL at the call of this number, counted from 1, `before` or `behind` it.
+output; `read` of the pipe of replies; `rename`, or `sync` of a file or a folder; `label`, the making of one within a
+transaction. It is killed by SIGKILL at the call of this number, counted from 1, `before` or `behind` it.
 """
 
 import os

@@ -9,39 +9,21 @@ import signal
 import socket
 import subprocess
 import threading
-from functools import partial, partialmethod
+from functools import partial
 
-from base import BenchTest, want
+from base import BenchTest, in_cases, want
 from driven import PATIENCE
-from line_bench import ADAPTER, TO_VERSION_2, Bench, Server, processes_of, python, stop, wait_for
-from line_look import Page, text_of
+from line_bench import TO_VERSION_2, Bench, Server, processes_of, python, stop, wait_for
+from line_fixtures import LEFT, SLOW, UNIT, Page, add, change, identified, text_of, units
 
-LEFT, UNIT = 60, 5
-SLOW = 40  # milliseconds that a frame takes, so that an order is at work for some seconds
 A, B, C = "00000000000000A1", "00000000000000B2", "00000000000000C3"
 BLOCKED = "order 2 waits: unit 60 was left open and is silent; put it back, or any unit at address 60"
 AT_WORK = "error: order 2 is at work: it was sent, and is carried out or told as ended\n"
-
-
-def units(*addresses, frame_time=0, lost=()):
-    """Give the words of an adapter to these units."""
-    words = [ADAPTER, "--folder", "bus1", "--frame-time", str(frame_time)]
-    words += [word for address in addresses for word in ("--unit", str(address))]
-    return words + (["--lose-frame", ",".join(map(str, lost))] if lost else [])
-
-
-def add(bench, *orders, options=()):
-    """Add orders as they stand; give how that ended."""
-    return bench.give("add", "--bus", "bus1", *options, "-", given=json.dumps(orders).encode())
-
-
-def identified(number, unit=UNIT, **more):
-    """Make an order that gives a unit an identification number."""
-    return {"unit": unit, "identification": number, **more}
+SHARES = 2  # of what is done in one server, each a case
 
 
 def leave_a_unit(bench):
-    """Have the journal name a unit that was left, with an order that waits behind it for another one."""
+    """Have the journal name a unit that was left, with an order for another unit that waits for it."""
     want(add(bench, {"unit": LEFT, "year": 24}).status, 0)
     want(bench.run(adapter=units(LEFT, lost=range(40, 901))), 0)
     want(bench.does("orders"), [f"order 1 bus bus1 unit {LEFT} ended: kept 5 DoubtOpen"])
@@ -101,9 +83,9 @@ def stop_the_drive_for_it(bench):
 
 
 def begun_is_not_cancelled(bench):
-    """The journal has the order: it is told so, with its process at work and behind a kill, and the drive goes on."""
+    """The journal has the order: `cancel` says so, with its process at work and after a kill, and the drive goes on."""
     want(add(bench, {"unit": UNIT, "year": 23}, {"unit": UNIT, "year": 24}, {"unit": UNIT, "year": 25}).status, 0)
-    process = bench.start(adapter=units(UNIT, frame_time=SLOW))
+    process = bench.start("bus1", "--checked-plan", adapter=units(UNIT, frame_time=SLOW))
     wait_for(lambda: bench.states()[2] == "taken")
     chain = processes_of(process)
     ended = bench.give("cancel", "2", "3")
@@ -132,15 +114,6 @@ def begun_behind_a_kill(bench):
     want(bench.give("cancel", "2").told, AT_WORK)
     want(bench.run(adapter=units(UNIT)), 0)
     want(bench.bank("bus1", UNIT)[0x13], 24)
-
-
-def change(bench, statement):
-    """Change the store behind the line computer's back."""
-    if "://" in bench.store:
-        subprocess.run(["psql", "-X", "-q", "-c", statement, bench.store], check=True)
-    else:
-        subprocess.run(["python3", "-c", "import sqlite3, sys; c = sqlite3.connect(sys.argv[1], timeout=20);"
-                        " c.executescript(sys.argv[2]); c.commit()", bench.store, statement], check=True)
 
 
 def power_was_taken(bench):
@@ -237,7 +210,7 @@ def numbers_of(text):
 
 
 def labels_one_by_one(bench):
-    """What a reader hasn't read isn't taken, whether it goes or is killed while it reads nothing."""
+    """A label that a reader hasn't read isn't taken, whether the reader goes or is killed while it reads nothing."""
     three_labels(bench)
     words = " ".join(f"'{word}'" for word in map(str, bench.words("labels", "--take")))
     ended = subprocess.run(["sh", "-c", f"{words} | head -n 1"], cwd=bench.folder, capture_output=True, text=True,
@@ -363,7 +336,7 @@ def an_older_journal(bench):
     want(len(bench.does("labels")), 3)
 
 
-# What makes the tables of version 2 those of version 1.
+# The statements that make the tables of version 1 of those of version 2.
 TO_1 = ("drop table bench_withdrawals", "alter table bench_labels drop column printed",
         "alter table bench_orders drop column place", "update bench_store set version = 1")
 
@@ -387,7 +360,7 @@ def a_store_of_version_1(bench):
     want(bench.rows("select place from bench_orders order by number"), [(1,)] * 5)
     want(bench.rows("select printed from bench_labels order by number"), [(1,), (1,), (1,), (0,), (0,)])
     want([json.loads(line)["printed"] for line in bench.does("labels", "--again", "2")], [1])
-    # What it knows of the orders of before is looked for.
+    # Its records of the orders of before are looked for.
     journal = bench.folder / "bus1" / "bench.journal"
     journal.write_bytes(journal.read_bytes()[:4])
     want(bench.run(adapter=units(UNIT)), 1)
@@ -399,7 +372,7 @@ DAY = (cancel_what_is_blocked, stop_the_drive_for_it, begun_is_not_cancelled, be
        an_older_journal, a_store_of_version_1)
 
 
-# What is the same over any store.
+# These are the same over any store.
 NO_STORE = (labels_by_a_command, labels_by_a_printer)
 
 
@@ -410,16 +383,14 @@ class DayTest(BenchTest):
 class PostgresqlDayTest(BenchTest):
     """The same over PostgreSQL, in a database for each: half of them in one server."""
 
-    def days(self, part, count):
+    @in_cases(SHARES)
+    def test_days(self, case):
         with Server(self.folder) as server:
-            for at, day in enumerate([day for day in DAY if day not in NO_STORE][part::count]):
+            for at, day in enumerate([day for day in DAY if day not in NO_STORE][case::SHARES]):
                 name = f"day_{at}"
                 subprocess.run(["psql", "-X", "-q", "-c", f"create database {name}", server.url], check=True)
                 (self.folder / name).mkdir()
                 day(Bench(self.folder / name, server.url.replace("/postgres?", f"/{name}?")))
-
-    test_days_part_1 = partialmethod(days, 0, 2)
-    test_days_part_2 = partialmethod(days, 1, 2)
 
 
 def over_sqlite(day):
@@ -432,7 +403,7 @@ for it in DAY:
 
 
 class OpenTest(BenchTest):
-    """What is seen by others."""
+    """The line computer as others see it."""
 
     def test_the_page_is_for_this_computer(self):
         bench = Bench(self.folder)

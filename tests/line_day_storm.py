@@ -1,10 +1,10 @@
 """A storm of kills in which orders are cancelled and repeated, journals retired and given up, labels taken by a printer
-that jams, and drives go by either plan.
+that jams, and drives use either plan.
 
     line_day_storm.py [KILLS [SEED]]
 
-runs it by itself, with so many kills over SQLite and as many over PostgreSQL (200 where nothing is said), with the
-program of this checkout. tests/test_line_computer.py has a short one.
+runs it by itself, with KILLS kills (200 by default) over SQLite and as many over PostgreSQL, with the program of this
+checkout. tests/test_line_computer.py has a short one.
 """
 
 import json
@@ -23,10 +23,10 @@ sys.dont_write_bytecode = True
 from base import BenchTest, want  # noqa: E402
 from driven import PATIENCE  # noqa: E402
 from line_bench import LIVE, LOSSES, Bench, Server, stop, wait_for  # noqa: E402
-from line_storm import BUSES, SEED, Storm  # noqa: E402
+from line_fixtures import BUSES, SEED, Storm  # noqa: E402
 
 KILLS, SHORT_KILLS = 200, 20
-PACE = 10  # milliseconds that a frame takes, so that what is done hits orders
+PACE = 22  # milliseconds that a frame takes, so that what is done hits orders
 MOST_READ = 65536
 
 
@@ -48,11 +48,11 @@ class DayStorm(Storm):
         super().keep_alive()
 
     def options(self):
-        """Have a drive go by either plan."""
-        return self.chance.choice(((), ("--short-plan",)))
+        """Have a drive use either plan."""
+        return self.chance.choice(((), ("--checked-plan",)))
 
     def cancel_or_take(self):
-        """What is done beside the kills: this comes with one turn in ten."""
+        """Do nothing beside the kills, where a Storm does this with one turn in ten."""
 
     def kill(self):
         """Do what a person does, and then kill one of the victims."""
@@ -61,7 +61,7 @@ class DayStorm(Storm):
         super().kill()
 
     def ended(self, command, *words, seconds=None):
-        """Run a command, which is interrupted or killed behind so many seconds; give its status and its output."""
+        """Run a command, which is interrupted or killed after this many seconds; give its status and its output."""
         process = subprocess.Popen(self.bench.words(command, *words), cwd=self.bench.folder, stdout=subprocess.PIPE,
                                    stderr=subprocess.PIPE, text=True)
         last = time.monotonic() + 3 * PATIENCE
@@ -152,7 +152,7 @@ class DayStorm(Storm):
         self.seen += numbers_of(got)
 
     def end(self):
-        """Have all orders end in quiet, and judge, also that each label was printed, and twice only behind a kill."""
+        """Have all orders end in quiet, and judge, also that each label was printed, and twice only after a kill."""
         self.bench.losses = LOSSES
         for process in self.processes.values():
             end_of(process)

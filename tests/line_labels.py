@@ -15,7 +15,7 @@ from zpl import elements, labels_of
 
 EXAMPLE = ROOT / "examples" / "label.zpl"
 GTIN, NUMBER = "4006381333931", "00000000000000a1"
-# What a printer or a reader would take for more than characters.
+# Characters that mean more to a printer or a reader.
 NASTY = "^XZ~JA_5E_\\&\"'<b>{gtin},;=1"
 FIELDS = {1: {"gtin": GTIN, "identification": NUMBER, "year": 5, "week": 9}, 2: {"gtin": "96385074", "year": 24},
           3: {"gtin": "96385074", "identification": "FFFFFFFFFFFFFFFE", "colour": NASTY, "luminaire": None}}
@@ -111,7 +111,7 @@ def left(bench):
 
 
 class TemplateTest(BenchTest):
-    """What a template is filled with."""
+    """The fields of a template."""
 
     def test_the_example_on_a_printer(self):
         bench = labelled(self.folder)

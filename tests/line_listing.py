@@ -8,17 +8,15 @@ import re
 import shutil
 import signal
 import subprocess
-from functools import partialmethod
 
-from base import BenchTest, want
+from base import BenchTest, in_cases, want
+from driven import FIELDS
 from line_bench import ABSENT, TO_VERSION_2, Bench, Server, processes_of, stop, wait_for
-from line_day import SLOW, UNIT, add, change, identified, units
-from line_look import Page, text_of
+from line_fixtures import SLOW, UNIT, Page, add, change, identified, text_of, units
 
 BERLIN = "CET-1CEST,M3.5.0,M10.5.0/3"
-HEADER = ("order,bus,reference,repeats,unit,state,end,told,plan,added,sent,ended,sends,frames,misses,gtin,"
-          "identification,year,week,input_power,min_dim_power,min_voltage,max_voltage,light_output,cri,cct,"
-          "distribution,colour,luminaire")
+HEADER = ",".join(["order,bus,reference,repeats,unit,state,end,told,plan,added,sent,ended,sends,frames,misses",
+                   *(it["key"] for it in FIELDS)])
 # Orders by their numbers: bus, reference, repeats, its reference, state, code, told, the moment of the end: in Berlin
 # the last second of 29 November, the first of the 30th, those before and at 15:00, the last of the 30th.
 ROWS = {
@@ -57,6 +55,7 @@ WRONG = [
 TEXTS = {'=HYPERLINK("x")': "'=HYPERLINK(\"x\")", "+49": "'+49", "-1": "'-1", "@a": "'@a", "'=a": "''=a",
          "\t=a": "'\t=a", "\r=a": "'\r=a", "a=1": "a=1", "a,b;c": "a,b;c", 'a"b': 'a"b', "a\r\nb": "a\r\nb",
          "Ü€": "Ü€", " =a": " =a"}
+SHARES = 2  # of what is done in one server, each a case
 
 
 # An order with all fields.
@@ -175,11 +174,11 @@ def an_order_again(bench):
                                                                                 "added 0 known 1"])
     rows = bench.rows("select 'n' || reference, repeats, 'n' || repeated_reference, 'n' || gtin, expected, fields"
                       " from bench_orders order by number")
-    contents = ("n00000096385074", 112, '{"gtin":"96385074"}')
+    contents = ("n00000096385074", 49, '{"gtin":"96385074"}')
     want(rows, [("n70", None, None, *contents), (None, 1, "n70", *contents), (None, 2, "n70", *contents)])
     with Page(bench) as page:
         text = text_of(page.get(f"?number={number}"))
-        for words in ("Reference 70 ", "Repeats 2 ", "Plan checked "):
+        for words in ("Reference 70 ", "Repeats 2 ", "Plan short "):
             assert words in text, (words, text)
 
 
@@ -243,18 +242,18 @@ def plans(bench):
 def the_short_plan(bench):
     """Orders are carried out by the plan of `run`, and the store says by which."""
     gtin = {"unit": UNIT, "gtin": "96385074"}
-    for options in (), ("--short-plan",), ():
+    for options in (), ("--checked-plan",), ("--short-plan",):
         want(add(bench, gtin).status, 0)
         want(run(bench, *options), 0)
-    want(plans(bench), [("checked", 112, 112), ("short", 49, 49), ("checked", 112, 112)])
+    want(plans(bench), [("short", 49, 49), ("checked", 112, 112), ("short", 49, 49)])
     want([row[6:9] for row in table(bench)[1:]], [["Done", "kept 0 Done", plan] for plan in
-                                                  ("checked", "short", "checked")])
+                                                  ("short", "checked", "short")])
     # A year; neighbours in one row and in several; three runs; all fields.
     orders = [{"unit": UNIT, **order} for order in (
         {"year": 24}, {"identification": 16 * "A", "gtin": "96385074"}, {"colour": "A"},
         {"year": 24, "luminaire": "A"}, FULL)]
     want(add(bench, *orders, options=["--same-luminaire"]).status, 0)
-    want(run(bench, "--short-plan"), 0)
+    want(run(bench), 0)
     want(plans(bench)[3:], [("short", frames, frames) for frames in (44, 81, 142, 309, 536)])
     want(add(bench, gtin).status, 0)
     want(bench.rows("select number, plan from bench_orders where state = 'added'"), [(9, None)])
@@ -264,19 +263,19 @@ def the_short_plan(bench):
 def another_plan_goes_on(bench):
     """An order that a kill has stopped is ended by the plan of the next drive; one whose end was kept, by its own."""
     want(add(bench, {"unit": UNIT, "gtin": "96385074"}).status, 0)
-    process = bench.start(adapter=units(UNIT, frame_time=SLOW))
+    process = bench.start("bus1", "--checked-plan", adapter=units(UNIT, frame_time=SLOW))
     wait_for(lambda: bench.states()[1] == "taken")
     want(bench.rows("select plan from bench_orders"), [("checked",)])
     for pid in processes_of(process):
         os.kill(pid, signal.SIGKILL)
     process.wait()
-    want(run(bench, "--short-plan"), 0)
+    want(run(bench), 0)
     want(bench.rows("select plan, code from bench_orders"), [("short", 0)])
     # It is killed as it keeps the end, which the journal has.
     want(add(bench, {"unit": UNIT, "gtin": "4006381333931"}).status, 0)
-    want(run(bench, crash=("label", "1", "before")), -signal.SIGKILL)
+    want(run(bench, "--checked-plan", crash=("label", "1", "before")), -signal.SIGKILL)
     want(bench.rows("select plan, code from bench_orders where number = 2"), [("checked", None)])
-    want(run(bench, "--short-plan"), 0)
+    want(run(bench), 0)
     want(bench.rows("select plan, code, sends from bench_orders where number = 2"), [("checked", 0, 2)])
     want(len(bench.does("labels")), 2)
 
@@ -285,7 +284,7 @@ def a_plan_that_nobody_knows(bench):
     """Of an order that an older store has no end of, the journal alone knows the end, and nobody the plan."""
     want(add(bench, {"unit": UNIT, "year": 9}).status, 0)
     shutil.copy(bench.store, bench.folder / "older")
-    want(run(bench, "--short-plan"), 0)
+    want(run(bench), 0)
     for name in ("orders.db-wal", "orders.db-shm"):
         (bench.folder / name).unlink(missing_ok=True)
     shutil.copy(bench.folder / "older", bench.store)
@@ -296,10 +295,10 @@ def a_plan_that_nobody_knows(bench):
 
 
 def a_store_of_version_2(bench):
-    """What a line computer without plans has sent went by the checked one, and what is at work goes on."""
+    """Orders that a line computer without plans sent used the checked one, and those at work go on."""
     want(add(bench, *({"unit": UNIT, "year": year} for year in (1, 2, 3))).status, 0)
     want(add(bench, {"order": 70, "unit": ABSENT, "year": 4}, {"unit": UNIT, "year": 5}).status, 0)
-    process = bench.start(adapter=units(UNIT, frame_time=SLOW))
+    process = bench.start("bus1", "--checked-plan", adapter=units(UNIT, frame_time=SLOW))
     wait_for(lambda: bench.states()[2] == "taken")
     want(stop(process), 0)
     change(bench, "update bench_orders set told = 'kept 0 Done, known before' where number = 1")
@@ -310,7 +309,7 @@ def a_store_of_version_2(bench):
     want(bench.does("init"), ["store of version 3"])
     want(bench.rows("select number, plan from bench_orders order by number"),
          [(1, None), (2, "checked"), (3, None), (4, None), (5, None)])
-    want(run(bench, "--short-plan"), 0)
+    want(run(bench), 0)
     want(bench.rows("select number, plan from bench_orders order by number"),
          [(1, None), (2, "short"), (3, "short"), (4, "short"), (5, "short")])
     want(bench.does("again", "4"), ["order 6 repeats 4"])
@@ -320,7 +319,7 @@ def a_store_of_version_2(bench):
 LISTS = (orders_are_chosen, a_table_of_orders, an_order_again, several_again, again_and_kills, the_short_plan,
          another_plan_goes_on, a_plan_that_nobody_knows, a_store_of_version_2)
 BUSES = {orders_are_chosen: ("bus1", "bus2"), a_table_of_orders: ("bus1", "bus2")}
-# What copies a file of SQLite.
+# This one copies a file of SQLite.
 ONLY_SQLITE = (a_plan_that_nobody_knows,)
 
 
@@ -331,17 +330,15 @@ class ListingTest(BenchTest):
 class PostgresqlListingTest(BenchTest):
     """The same over PostgreSQL, in a database for each: half of them in one server."""
 
-    def lists(self, part, count):
+    @in_cases(SHARES)
+    def test_lists(self, case):
         with Server(self.folder) as server:
-            for at, listed in enumerate([it for it in LISTS if it not in ONLY_SQLITE][part::count]):
+            for at, listed in enumerate([it for it in LISTS if it not in ONLY_SQLITE][case::SHARES]):
                 name = f"list_{at}"
                 subprocess.run(["psql", "-X", "-q", "-c", f"create database {name}", server.url], check=True)
                 (self.folder / name).mkdir()
                 url = server.url.replace("/postgres?", f"/{name}?")
                 listed(Bench(self.folder / name, url, BUSES.get(listed, ("bus1",))))
-
-    test_lists_part_1 = partialmethod(lists, 0, 2)
-    test_lists_part_2 = partialmethod(lists, 1, 2)
 
 
 def over_sqlite(listed):

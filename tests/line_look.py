@@ -4,126 +4,16 @@ import html
 import http.client
 import json
 import os
-import random
 import re
-import shutil
-import signal
-import sqlite3
 import subprocess
-import time
-import unittest
 import urllib.error
 import urllib.request
 
-from base import BenchTest, want
-from driven import ROOT
+from base import BenchTest
 from line_bench import ABSENT, Bench, Server, wait_for
+from line_fixtures import MANY, MOST_PAGE, MOST_STEP, Page, fill, page_seconds, step_seconds, text_of, told_by_browser
 
-MANY = 100000
-MOST_PAGE, MOST_STEP = 0.2, 0.005
 NASTY = "<script>alert('\"&')</script>"
-CODES = (0,) * 60 + (1, 2, 3, 3, 4, 5)
-NAMES = ("Done", "Short", "Format", "Silent", "Doubt", "DoubtOpen")
-
-
-class Page:
-    """The page of a bench, served as long as this is entered."""
-
-    def __init__(self, bench, listen="127.0.0.1:0"):
-        self.process = subprocess.Popen(bench.words("page", "--listen", listen), cwd=bench.folder,
-                                        stdout=subprocess.PIPE, text=True)
-        self.url = self.process.stdout.readline().strip()
-
-    def get(self, query=""):
-        """Give the page's text."""
-        with urllib.request.urlopen(self.url + query, timeout=20) as answer:
-            return answer.read().decode()
-
-    def __enter__(self):
-        return self
-
-    def __exit__(self, *_):
-        self.process.send_signal(signal.SIGTERM)
-        want(self.process.wait(20), 0)
-        self.process.stdout.close()
-
-
-def text_of(page):
-    """Give the words of a page, with a blank between two elements."""
-    return re.sub(r"\s+", " ", html.unescape(re.sub("<[^>]*>", " ", page)))
-
-
-def fill(bench, count, buses, days=2):
-    """Put orders of some days into a store of SQLite, as they stand behind their ends; the last are to do."""
-    chance, now = random.Random(7), int(time.time())
-    rows, labels = [], []
-    for number in range(1, count + 1):
-        is_left = number > count - 20
-        code = None if is_left else chance.choice(CODES)
-        ended = None if is_left else now - (count - number) * 86400 * days // count
-        bus = chance.choice(buses)
-        misses = int(chance.expovariate(1 / (1 + 30 * number / count if bus == buses[-1] else 1)))
-        serial = f"{7919 * number:016X}"
-        fields = json.dumps({"gtin": f"{number:013}", "identification": serial})
-        rows.append((number, bus, str(70000000 + number), number % 64, fields, f"{number:014}", serial, 112,
-                     "added" if is_left else "ended", code, now - 86400 * days, ended and ended - 5, ended,
-                     0 if is_left else 1, None if is_left else f"kept {code} {NAMES[code]}",
-                     None if is_left else 112 + 7 * misses, None if is_left else misses))
-        labels += [(number, ended)] if code == 0 else []
-    with sqlite3.connect(bench.store) as connection:
-        connection.executemany(
-            "insert into bench_orders (number, bus, reference, unit, fields, gtin, identification, expected, state,"
-            f" code, added, sent, ended, sends, told, frames, misses) values ({', '.join('?' * 17)})", rows)
-        connection.executemany("insert into bench_labels (number, made) values (?, ?)", labels)
-        connection.execute("update bench_store set following = ?", (count + 1,))
-    connection.close()
-
-
-def told_by_browser(url, *words):
-    """Have a browser load a page, and give what it prints."""
-    name = shutil.which("chromium") or shutil.which("chromium-browser") or shutil.which("google-chrome")
-    if not name:
-        raise unittest.SkipTest("chromium isn't installed (Debian: chromium)")
-    profile = ["--headless", "--no-sandbox", "--disable-gpu", "--disable-dev-shm-usage", "--no-first-run"]
-    return subprocess.run([name, *profile, *words, url], capture_output=True, timeout=60, check=False).stdout.decode()
-
-
-# An order's steps in the store: which is next, that it is sent, that it is taken, that it has ended with its label.
-STEP = """
-import sys, time
-sys.dont_write_bytecode = True
-sys.path.insert(0, sys.argv[1])
-from line_computer import schema, told, work
-database = schema.open_store(sys.argv[2])
-bus, times = work.Work(database, "bus1"), []
-for _ in range(5):
-    began = time.perf_counter()
-    order = bus.send(bus.next_order())
-    bus.keep([told.Taken(order.number)], work.BusState("ready", order.number))
-    bus.keep([told.Reported(order.number, "kept 0 Done", 0, order.sent, 112, 0, "{}")], work.BusState("ready"))
-    times.append(time.perf_counter() - began)
-print(min(times))
-"""
-
-
-def page_seconds(page):
-    """Measure the page and searches; give the least seconds of each."""
-    found = {}
-    for query in ("", "?unit=5", "?gtin=77777", "?number=500", "?number=99999&unit=31", "?reference=70000500",
-                  "?identification=3C6AC4", "?identification=0&unit=5"):
-        times = []
-        for _ in range(5):
-            began = time.perf_counter()
-            page.get(query)
-            times.append(time.perf_counter() - began)
-        found[query] = min(times)
-    return found
-
-
-def step_seconds(bench):
-    """Measure the steps of orders that are to do; give the least seconds."""
-    words = [bench.python, "-c", STEP, ROOT / "tools", bench.store]
-    return float(subprocess.run(words, capture_output=True, check=True, text=True).stdout)
 
 
 def status_of(page):

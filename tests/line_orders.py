@@ -11,7 +11,7 @@ from drive_desk import NOBODY
 from driven import ROOT
 from line_bench import PROGRAM, Bench, Server, judge
 
-# What is added, with its options, and what `add` answers: its output, and how the orders then stand in the store.
+# Orders to add, with options, and the result: the output of `add`, and how the orders then stand in the store.
 GOOD = {
     "JSON": ((), b'[{"unit":5,"year":24},{"unit":6,"gtin":"4006381333931"}]',
              ["item 1 order 1", "item 2 order 2", "added 2 known 0"],
@@ -34,7 +34,7 @@ GOOD = {
     "an unknown GTIN": ((), b'[{"unit":5,"gtin":null}]', ["item 1 order 1", "added 1 known 0"],
                         [(1, None, 5, '{"gtin":null}', None)]),
 }
-# What is refused: what `add` tells first on standard output and on standard error; then nothing is added.
+# Orders that are refused: the first line of `add` on standard output and on standard error; then nothing is added.
 WRONG = {
     "a unit out of range": (b'[{"unit":5,"year":24},{"unit":64,"year":24}]', "item 2 fault 1 Unit",
                             "error: item 2: unit: "),

@@ -11,9 +11,8 @@ import sqlite3
 import subprocess
 import threading
 import time
-from functools import partialmethod
 
-from base import BenchTest
+from base import BenchTest, in_cases
 from driven import HEADER, PATIENCE, ROOT, groups_of
 from line_bench import (ABSENT, ADAPTER, FIXED, SHORT, Bench, Server, judge, processes_of, stop, wait_for)
 
@@ -38,7 +37,7 @@ def has_ended(process):
 
 
 class OrdersTest(BenchTest):
-    """What becomes of orders."""
+    """The ends of orders."""
 
     def test_each_end(self):
         bench = Bench(self.folder)
@@ -56,7 +55,7 @@ class OrdersTest(BenchTest):
                           {"order": 6, "bus": "bus1", "unit": 5, "year": 0, "week": 9}])
         self.assertEqual(bench.does("labels"), [])
         self.assertEqual(bench.rows("select number, frames, expected, misses from bench_orders where number in (4, 5)"),
-                         [(4, 16, 70, 8), (5, 70, 70, 0)])
+                         [(4, 16, 48, 8), (5, 48, 48, 0)])
 
     def test_orders_come_while_it_runs(self):
         bench = Bench(self.folder)
@@ -72,14 +71,14 @@ class OrdersTest(BenchTest):
     def test_how_far_an_order_is(self):
         bench = Bench(self.folder)
         bench.does("add", "-", given=b'[{"unit":5,"luminaire":"' + b"x" * 60 + b'"}]')
-        process = bench.start(adapter=[ADAPTER, "--frame-time", "5", "--folder", "bus1"])
+        process = bench.start(adapter=[ADAPTER, "--frame-time", "15", "--folder", "bus1"])
         said = []
         wait_for(lambda: said.append(bench.rows("select frames from bench_states")[0][0])
                  or bench.states()[1] == "ended")
         self.assertEqual(stop(process), 0)
         said = [it for it in said if it is not None]
-        assert said and said == sorted(said) and 0 < said[0] < 882 and len(set(said)) > 1, said
-        self.assertEqual(bench.rows("select frames, expected from bench_orders"), [(882, 882)])
+        assert said and said == sorted(said) and 0 < said[0] < 298 and len(set(said)) > 1, said
+        self.assertEqual(bench.rows("select frames, expected from bench_orders"), [(298, 298)])
 
     def test_an_order_that_was_sent_is_not_cancelled(self):
         bench = Bench(self.folder)
@@ -232,11 +231,12 @@ class ProcessesTest(BenchTest):
                 connection.execute("update bench_states set state = 'starting'")
             connection.close()
 
-    def no_adapter_outlives(self, part):
-        """Killed at any moment of its start; in the second part without setpriv, which has adapters end with it."""
+    @in_cases(2)
+    def test_no_adapter_outlives_the_process_of_its_bus(self, case):
+        """Killed at any moment of its start; in the second case without setpriv, which has adapters end with it."""
         bench, chance = Bench(self.folder), random.Random(SEED)
         environment = dict(os.environ)
-        if part:
+        if case:
             environment["PATH"] = str(self.folder / "programs")
             (self.folder / "programs").mkdir()
             for name in ("python3", "sh", "env"):
@@ -251,9 +251,6 @@ class ProcessesTest(BenchTest):
         self.assertEqual(bench.run(), 0)
         judge(bench)
         wait_for(lambda: not processes_in(self.folder))
-
-    test_no_adapter_outlives_the_process_of_its_bus_part_1 = partialmethod(no_adapter_outlives, 0)
-    test_no_adapter_outlives_the_process_of_its_bus_part_2 = partialmethod(no_adapter_outlives, 1)
 
     def test_a_folder_is_of_one_bus(self):
         bench = Bench(self.folder, buses=("bus1", "bus2"))

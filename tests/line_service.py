@@ -14,8 +14,8 @@ from base import BenchTest, want
 from driven import PATIENCE, ROOT
 from line_bench import GOOD, PROGRAM, Bench, judge, put_as_archive, wait_for
 from line_bench import processes_of as chain_of
-from test_bench import BLOCK, run_commands
-from test_service import PROGRAMS, STATES, VARIABLES, processes_of, settings_of, variables_of, words_of
+from release_fixtures import BLOCK, run_commands
+from service_fixtures import PROGRAMS, STATES, VARIABLES, processes_of, settings_of, variables_of, words_of
 
 UNIT, PAGE = (ROOT / "service" / name for name in ("dali-bench@.service", "dali-bench-page.service"))
 EXAMPLE = ROOT / "service" / "bus1.env"
@@ -68,7 +68,7 @@ class ServiceTest(BenchTest):
     def test_two_buses_of_the_service_are_killed(self):
         chance = random.Random(20261129)
         services = [Service(self.folder, name) for name in ("bus1", "bus2")]
-        services[1].variables["OPTIONS"] += " --short-plan"
+        services[1].variables["OPTIONS"] += " --checked-plan"
         for service in services:
             service.start()
         store = self.folder / "states" / "dali-bench" / "orders.db"
@@ -89,7 +89,7 @@ class ServiceTest(BenchTest):
             self.assertEqual(processes_of(service.main.pid), {})
         judge(bench, ("bus1", "bus2"))
         self.assertEqual(bench.rows("select distinct bus, plan from bench_orders order by bus"),
-                         [("bus1", "checked"), ("bus2", "short")])
+                         [("bus1", "short"), ("bus2", "checked")])
         # The group may add orders and take labels, and others may do nothing.
         for path in (store, store.parent, store.parent / "bus1" / "bench.journal"):
             mode = path.stat().st_mode

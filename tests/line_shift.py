@@ -20,7 +20,7 @@ from functools import partialmethod
 from base import BenchTest, want
 from driven import ROOT
 from line_bench import Bench, Server, processes_of, python, stop, wait_for
-from line_look import Page, text_of, told_by_browser
+from line_fixtures import Page, text_of, told_by_browser
 
 sys.path.insert(0, str(ROOT / "tools"))
 
@@ -79,7 +79,7 @@ thread = threading.Thread(target=look)
 thread.start()
 for _ in range(300):
     holder = database.opened(sys.argv[2])
-    # PostgreSQL gives a lock up a while behind the end of its connection.
+    # PostgreSQL gives a lock up a while after the end of its connection.
     last = time.monotonic() + 5
     while not (is_mine := holder.lock("bus1", 1)) and sys.argv[2].startswith("postgresql") and time.monotonic() < last:
         time.sleep(0.001)
@@ -192,7 +192,7 @@ class SpanTest(BenchTest):
 
 
 class LeaderTest(BenchTest):
-    """What the page shows a shift leader."""
+    """The page that a shift leader sees."""
 
     def test_counts_by_bus_and_shift(self):
         bench = Place(self.folder)
@@ -219,7 +219,7 @@ class LeaderTest(BenchTest):
             assert "<title>Halle &lt;3&gt; · Line computer</title>" in text, text
             for words in (f"{at[1]} to {at[2]}", "4 to do", "2 done in", "2 not done in it"):
                 assert words in text_of(text), words
-            # What is searched for, and the span, stay in the links and in the form.
+            # The search and the span stay in the links and in the form.
             links = html.unescape(page.get("?unit=5&back=2"))
             assert '<input type="hidden" name="back" value="2">' in links, links
             for link in ("/?unit=5&back=1", "/?unit=5&back=3", "/?unit=5&day="):
@@ -255,7 +255,7 @@ class LeaderTest(BenchTest):
                 "1": ["kept 3 Silent", "look at power, wire and address; add it anew"]})
             self.assertEqual(found["1"][:5], ["A-1", "bus1", "5", "", "0000000000000001"])
             self.assertEqual([row[:2] for row in rows_of(text, "Waiting orders")[1:]], [["9", "A-9"]])
-            # Nothing is told by a colour alone: what isn't done has a mark and words.
+            # No colour carries a meaning alone: an order that isn't done has a mark and words.
             self.assertEqual(text.count('<tr class=trouble><td class="w" data-name="Order">'), 8 + 10)
             assert "!8" in text_of(text), "the picture has no number above its bar"
         self.assertEqual((advice.advice("full", None, "full"), advice.advice("reused", None, None),
@@ -378,7 +378,7 @@ def judge_older_store(bench):
 
 
 class ProcessTest(BenchTest):
-    """What the page tells of processes and drives; what is below, over both databases."""
+    """The page's lines on processes and drives; the last ones over both databases."""
 
     def test_a_drive_that_says_nothing(self):
         bench = Bench(self.folder)
@@ -431,7 +431,7 @@ class ProcessTest(BenchTest):
         found.close()
 
     def test_the_page_is_brought_up_to_date_in_a_browser(self):
-        """The order is added behind the first answer: a browser shows it without being asked."""
+        """The order is added after the first answer: a browser shows it without being asked."""
         bench = Place(self.folder)
         with Shown(bench) as page:
             asked = []
@@ -463,7 +463,7 @@ class ProcessTest(BenchTest):
                 between.shutdown()
             assert asked.count("/?unit=5") >= 3, asked
             assert 'href="/?number=77"' in found and 'name="unit" value="5"' in found, found
-            # Behind that there was no answer: what is shown is told to be old.
+            # After that no answer came: the page says that it is old.
             old = re.search('<p id="old">([^<]*)</p>', found)
             assert old and old[1].startswith("This page is old. ") and "no store" in old[1], found
 

@@ -3,10 +3,10 @@
 
     line_station.py [KILLS [SEED]]
 
-runs it by itself, with so many kills over SQLite and a tenth over PostgreSQL (300 and 30 where nothing is said), with
-the program of this checkout. tests/test_line_computer.py has a short one. A person puts luminaires in, scans and takes
-them out as the station says, and errs now and then; what is judged is the luminaires' banks, the journals, and the
-labels that came out of a command.
+runs it by itself, with KILLS kills (300 by default) over SQLite and a tenth of them over PostgreSQL, with the program
+of this checkout. tests/test_line_computer.py has a short one. A person puts luminaires in, scans and takes them out as
+the station says, and errs now and then; the judge reads the luminaires' banks, the journals, and the labels that came
+out of a command.
 """
 
 import collections
@@ -30,7 +30,7 @@ from station_bench import BLANK, StationBench, bank_with, serial_of, state_of  #
 SEED, KILLS, SHORT_KILLS = 20261130, 300, 20
 PACE, LOSS = 1.5, 0.004  # milliseconds that a frame takes, so that kills hit it, and the chance that it is lost
 IDENTIFICATION = slice(0x09, 0x11)
-# What a kill is of: all processes of the station as by a power cut, its own, its adapter, the command over that.
+# The victims of a kill: all processes of the station, as by a power cut, its own, its adapter, the command over that.
 VICTIMS = ("all", "own", "adapter", "command")
 OUT = "sh -c 'cat >>labels; sync labels'"
 ERRORS = ("next one at once", "again the last one", "twice", "amid work")

@@ -1,114 +1,20 @@
 """Tests of the line computer: whatever is killed, and whenever, each order ends once, and its label is there."""
 
-import collections
 import itertools
 import json
 import os
 import random
-import re
 import signal
 import subprocess
 import time
-from functools import partialmethod
 
-from base import BenchTest, want
-from driven import PATIENCE, ROOT
-from line_bench import (ABSENT, FIXED, GOOD, LIVE, SHORT, Bench, Server, judge, processes_of, stop, wait_for,
-                        with_no_fault)
+from base import BenchTest, in_cases, want
+from driven import ROOT
+from line_bench import ABSENT, Bench, Server, judge
+from line_fixtures import BUSES, SEED, VICTIMS, Storm
 
-SEED = 20261129
 KILLS, SERVER_KILLS = 200, 60
-BUSES = ("bus1", "bus2")
-PACE = 2  # milliseconds that a frame takes, so that kills hit orders
-# What a storm kills: of a bus all processes, its own, its adapter, its drive; or a command that adds orders.
-VICTIMS = ("all", "own", "adapter", "drive", "add")
-
-
-class Storm:
-    """Two buses whose processes are killed and started again, while orders are added, cancelled and labelled."""
-
-    def __init__(self, bench, chance, kills, server=None):
-        self.bench, self.chance, self.left, self.server = bench, chance, kills, server
-        bench.pace = PACE
-        self.processes, self.counts, self.labels = {}, collections.Counter(), []
-
-    def keep_alive(self):
-        """Start what has ended, as a service does."""
-        for bus in BUSES:
-            process = self.processes.get(bus)
-            if process is None or process.poll() is not None:
-                self.processes[bus] = self.bench.start(bus, *self.options())
-                self.counts["starts"] += 1
-
-    def options(self):
-        """Give the options of the next process."""
-        return ()
-
-    def go_on(self):
-        """Go on until all kills are over."""
-        while self.left > 0:
-            self.keep_alive()
-            time.sleep(self.chance.uniform(0.0, 0.25))
-            if sum(state in LIVE for state in self.bench.states().values()) < 12:
-                self.add()
-            if self.chance.random() < 0.1:
-                self.cancel_or_take()
-            self.kill()
-
-    def add(self, crash=()):
-        """Add some orders to a bus."""
-        units = (*GOOD, *GOOD, *GOOD, *GOOD, FIXED, SHORT, ABSENT)
-        orders = [(self.chance.choice(units), self.chance.randrange(100), self.chance.randint(1, 53)) for _ in range(6)]
-        self.bench.add(orders, self.chance.choice(BUSES), crash=crash)
-
-    def cancel_or_take(self):
-        """Cancel the last order that waits, which may be at work by now, or take the labels."""
-        if self.chance.random() < 0.5:
-            states = self.bench.states()
-            number = max((it for it, state in states.items() if state == "added"), default=max(states, default=1))
-            ended = self.bench.give("cancel", str(number))
-            assert ended.status == 0 or re.search("is at work|has ended", ended.told) or self.server, ended
-            self.counts["cancelled"] += ended.status == 0
-        else:
-            ended = self.bench.give("labels", "--take")
-            self.labels += ended.lines() if ended.status == 0 else []
-
-    def kill(self):
-        """Kill one of the victims."""
-        victim = self.chance.choice((*VICTIMS, "server", "backend") if self.server else VICTIMS)
-        if victim == "add":
-            self.add(crash=("commit", str(1), self.chance.choice(("before", "behind"))))
-        elif victim in ("server", "backend"):
-            self.server.kill(is_whole=victim == "server")
-            if victim == "server":
-                time.sleep(self.chance.uniform(0, 0.3))
-                self.server.start()
-        else:
-            process = self.processes[self.chance.choice(BUSES)]
-            chain = processes_of(process)
-            chosen = {"all": chain, "own": chain[:1], "adapter": chain[1:2], "drive": chain[2:3]}[victim]
-            if not chosen:
-                return
-            for pid in chosen:
-                with_no_fault(os.kill, pid, signal.SIGKILL)
-            if process.pid in chosen:
-                process.wait()
-        self.counts[victim] += 1
-        self.left -= victim != "add"
-
-    def end(self):
-        """Have all orders end in quiet, and judge."""
-        wait_for(lambda: self.keep_alive() or not any(it in LIVE for it in self.bench.states().values()), 8 * PATIENCE)
-        wait_for(lambda: all(len(processes_of(process)) == 3 for process in self.processes.values()))
-        for process in self.processes.values():
-            want(stop(process), 0)
-        stored = judge(self.bench, BUSES)
-        self.labels += self.bench.does("labels", "--take")
-        self.counts["orders"], self.counts["labels"] = len(stored), len(self.labels)
-        for name, is_so in (("sent again", "sends > 1"), ("answered from the journal", "report like '%\"before\"%'"),
-                            ("ended by a later drive", "code = 0 and frames < expected")):
-            self.counts[name] = self.bench.rows(f"select count(*) from bench_orders where {is_so}")[0][0]
-        print(", ".join(f"{name} {count}" for name, count in sorted(self.counts.items())), flush=True)
+SHARES = 3  # of the calls of SQLite, each a case
 
 
 class StormTest(BenchTest):
@@ -130,7 +36,7 @@ class StormTest(BenchTest):
 
 
 def crash_points(bench, kind, first, step):
-    """Crash a bus's process at each call of a kind in turn, before and behind it, each time over a new order."""
+    """Crash a bus's process at each call of a kind in turn, before and after it, each time over a new order."""
     number, crashes = first, 0
     while True:
         for when in ("before", "behind"):
@@ -150,18 +56,13 @@ def crash_points(bench, kind, first, step):
 class CrashTest(BenchTest):
     """A crash at each call."""
 
-    def a_crash_at_each_call_of_a_bus(self, part, count):
-        kind, first = (("commit", "write", "read")[part % 3], 1 + part // 3)
-        crashes = crash_points(Bench(self.folder), kind, first, count // 3)
+    @in_cases(6)
+    def test_a_crash_at_each_call_of_a_bus(self, case):
+        """Of each kind of call, every other one from the first on, and from the second on."""
+        kind, first = ("commit", "write", "read")[case % 3], 1 + case // 3
+        crashes = crash_points(Bench(self.folder), kind, first, 2)
         print(f"crashes at a {kind}, from {first} on: {crashes}", flush=True)
         assert crashes >= {"commit": 4, "write": 1, "read": 4}[kind], (kind, crashes)
-
-    test_a_crash_at_each_call_of_a_bus_part_1 = partialmethod(a_crash_at_each_call_of_a_bus, 0, 6)
-    test_a_crash_at_each_call_of_a_bus_part_2 = partialmethod(a_crash_at_each_call_of_a_bus, 1, 6)
-    test_a_crash_at_each_call_of_a_bus_part_3 = partialmethod(a_crash_at_each_call_of_a_bus, 2, 6)
-    test_a_crash_at_each_call_of_a_bus_part_4 = partialmethod(a_crash_at_each_call_of_a_bus, 3, 6)
-    test_a_crash_at_each_call_of_a_bus_part_5 = partialmethod(a_crash_at_each_call_of_a_bus, 4, 6)
-    test_a_crash_at_each_call_of_a_bus_part_6 = partialmethod(a_crash_at_each_call_of_a_bus, 5, 6)
 
     def test_a_reply_that_a_crash_has_lost(self):
         """The order is done, and its end isn't in the store: answered from the journal, it has its label."""
@@ -178,11 +79,12 @@ class CrashTest(BenchTest):
             self.assertEqual((json.loads(report)["ended"], sends, len(bench.does("labels"))), ("before", 2, turn + 1))
             judge(bench)
 
-    def a_crash_amid_the_calls_of_sqlite(self, part, count):
+    @in_cases(SHARES)
+    def test_a_crash_amid_the_calls_of_sqlite(self, case):
         """Before each call, of every third, with which SQLite changes its files: also amid what it commits."""
         shim, bench, crashes = self.folder / "shim.so", Bench(self.folder), 0
         subprocess.run(["cc", "-shared", "-fPIC", "-o", shim, ROOT / "tests" / "line_shim.c", "-ldl"], check=True)
-        for number in itertools.count(1 + part, 3 * count):
+        for number in itertools.count(1 + case, 3 * SHARES):
             bench.add([(5, number % 100, 1)])
             words = bench.run_words("bus1", "--until-empty")
             ended = subprocess.run(words, cwd=self.folder,
@@ -196,10 +98,6 @@ class CrashTest(BenchTest):
             self.assertEqual((number, ended.returncode), (number, -signal.SIGKILL))
         print(f"crashes amid the calls of SQLite, of which the last is number {number}: {crashes}", flush=True)
         assert crashes > 3, crashes
-
-    test_a_crash_amid_the_calls_of_sqlite_part_1 = partialmethod(a_crash_amid_the_calls_of_sqlite, 0, 3)
-    test_a_crash_amid_the_calls_of_sqlite_part_2 = partialmethod(a_crash_amid_the_calls_of_sqlite, 1, 3)
-    test_a_crash_amid_the_calls_of_sqlite_part_3 = partialmethod(a_crash_amid_the_calls_of_sqlite, 2, 3)
 
     def test_a_crash_at_each_call_of_a_bus_over_postgresql(self):
         with Server(self.folder) as server:
@@ -217,7 +115,7 @@ class CrashTest(BenchTest):
         self.assertEqual(bench.run(), 0)
         stored = judge(bench)
         self.assertEqual((len(stored), sorted(set(stored))), (9, sorted(stored)))
-        self.assertEqual(len(bench.wanted), 3)  # the numbers that came out before the crash behind the write
+        self.assertEqual(len(bench.wanted), 3)  # those that came out before the crash after the write
 
     def test_a_crash_at_each_call_of_taking_labels(self):
         bench = Bench(self.folder)
@@ -236,8 +134,9 @@ class CrashTest(BenchTest):
         self.assertEqual([json.loads(line)["order"] for line in bench.does("labels", "--take")], [2])
         self.assertEqual(bench.does("labels"), [])
 
-    def a_crash_at_each_call_of_retiring(self, part, count):
-        kind = ("commit", "rename", "sync")[part % 3] if part < 3 else "commit"
+    @in_cases(3)
+    def test_a_crash_at_each_call_of_retiring(self, case):
+        kind = ("commit", "rename", "sync")[case]
         bench, number, crashes = Bench(self.folder), 1, 0
         while True:
             bench.add([(5, number, 1)])
@@ -255,11 +154,6 @@ class CrashTest(BenchTest):
                 self.assertEqual(bench.run(), 0)
                 judge(bench)
             number += 1
-
-    test_a_crash_at_each_call_of_retiring_part_1 = partialmethod(a_crash_at_each_call_of_retiring, 0, 4)
-    test_a_crash_at_each_call_of_retiring_part_2 = partialmethod(a_crash_at_each_call_of_retiring, 1, 4)
-    test_a_crash_at_each_call_of_retiring_part_3 = partialmethod(a_crash_at_each_call_of_retiring, 2, 4)
-    test_a_crash_at_each_call_of_retiring_part_4 = partialmethod(a_crash_at_each_call_of_retiring, 3, 4)
 
     def test_two_who_take_labels_at_once(self):
         bench = Bench(self.folder)

@@ -3,20 +3,18 @@
 import resource
 from typing import NamedTuple
 
-from address_runs import Addressing
-from address_streams import NONE_SENT, NONE_TOLD
+from address_runs import NONE_SENT, NONE_TOLD, Addressing
 from base import BenchTest, preloaded
 from drive_desk import ABSENT, ABSENT_FRAMES, GTIN, KEPT_SILENT, SILENCE, absent_records, desk_of
-from drive_follow import following
+from drive_fixtures import following
 from driven import HEADER, Ended, Following
-from read_desk import GIVEN_17, SENT_17, TEXT_17, TOLD_17
-from read_streams import SAME, VERIFY_GIVEN, VERIFY_SENT, as_lines, desk_for
+from read_desk import GIVEN_17, SAME, SENT_17, TEXT_17, TOLD_17, VERIFY_GIVEN, VERIFY_SENT, as_lines, desk_for
 
 KIBIBYTE = 1024
 MOST_STACK = 512 * KIBIBYTE
-# What a run may hold at once where it reads no file as a whole, where it reads one of them, and where it has an order
-# for each unit: each limit is over what such runs hold now, by less than a bank of each of the 64 units.
-NO_FILE, ONE_FILE, ALL_UNITS = 56 * KIBIBYTE, 150 * KIBIBYTE, 224 * KIBIBYTE
+# The most bytes that a run may hold at once if it reads no file as a whole, if it reads one of them, and if it has an
+# order for each unit: each limit is over what such runs hold now, by less than a bank of each of the 64 units.
+NO_FILE, ONE_FILE, ALL_UNITS = 58 * KIBIBYTE, 150 * KIBIBYTE, 224 * KIBIBYTE
 TAKEN = "reply 1 taken\n" + KEPT_SILENT
 ORDERS = [{"order": unit + 1, "unit": unit, "gtin": GTIN} for unit in range(64)]
 ALL_SILENT = Ended(
@@ -46,7 +44,7 @@ class Limited(NamedTuple):
 
 
 def behind_an_older_journal(desk):
-    """Have a desk drive over a journal of ten orders behind an older one, with a report."""
+    """Have a desk drive over a journal of ten orders with an older one, with a report."""
     older = desk.folder / "older.journal"
     older.write_bytes(HEADER + absent_records(20))
     desk.journal.write_bytes(HEADER + b"".join(absent_records(number) for number in range(2, 12)))
@@ -96,7 +94,7 @@ def ended_within(run, most):
 
 
 class MemoryTest(BenchTest):
-    """What is held at once."""
+    """The memory that is held at once."""
 
     def test_small_inputs_take_little_memory(self):
         for name, run in limited_runs(self.folder / "whole").items():

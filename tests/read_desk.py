@@ -1,4 +1,4 @@
-"""What the tests of `read`, `verify` and `scan` share: runs over a link, and units that do more than the desk's."""
+"""The base of the tests of `read`, `verify` and `scan`: runs over a link, and units that do more than the desk's."""
 
 import copy
 import json
@@ -6,6 +6,7 @@ import pathlib
 
 import driven
 from base import settings, want
+from drive_desk import PRESENT
 from driven import simulated_link
 from read_plan import check_passive, wanted_read, wanted_scan, wanted_verify
 
@@ -18,6 +19,11 @@ SENT_17 = "".join(word + "\n" for word in FRAMES_17).encode()
 GIVEN_17 = "".join(answer + "\n" for answer in ANSWERS_17).encode()
 TOLD_17 = "unit 5 bytes 17\n"
 SILENT = "unit 5 silent\n"
+# A bank of 120 that has the GTIN's bytes, and the answers that it gives to `verify`.
+VERIFY_SENT = (b"C301\n0B9C\nA300\n0B98\n0BC5\n0B98\n0B9C\n"
+               b"C301\n0B9C\nA303\n0B98\n" + b"0BC5\n" * 6 + b"0B98\n0B9C\n")
+VERIFY_GIVEN = "-- 01 -- 00 77 01 01 -- 01 -- 03 03 A4 CE EF AD AB 09 01"
+SAME = "order 1 unit 5 same\n"
 
 
 def varied_bank(length):
@@ -62,7 +68,7 @@ class Changing(simulated_link.Unit):
 
 
 class Reading(driven.Desk):
-    """Runs of `read`, `verify` or `scan` in a folder. What each of them sends is looked at, whatever it is run for."""
+    """Runs of `read`, `verify` or `scan` in a folder. The frames of each of them are looked at, in any test."""
 
     def __init__(self, folder, command="read", unit=5, orders=(), program=None):
         self.program = program or settings["program"]
@@ -139,3 +145,15 @@ def unit_of(length, short_address=5):
 def full_orders():
     """Give the order of all fields of examples/full.json, for unit 5."""
     return json.loads((driven.ROOT / "examples" / "full.json").read_text())
+
+
+def desk_for(folder, command, orders=None):
+    """Make a desk for a command, with the order of a GTIN for unit 5, and with no HEXFILE."""
+    desk = Reading(folder, command, orders=PRESENT if orders is None else orders)
+    desk.bank.unlink(missing_ok=True)
+    return desk
+
+
+def as_lines(text):
+    """Give the lines of answers that are spelled with spaces between them."""
+    return "".join(answer + "\n" for answer in text.split()).encode()

@@ -8,20 +8,18 @@ import shutil
 import signal
 import stat
 import subprocess
-from functools import partialmethod
 
 import driven
-from base import BenchTest, preloaded, settings, want
-from drive_calls import calls_in
-from drive_desk import NOBODY, last_line
-from drive_places import fill
+from base import BenchTest, in_cases, preloaded, settings, want
+from call_fixtures import calls_in
+from drive_desk import NOBODY, fill, last_line
 from driven import Ended
 from read_desk import GIVEN_17, SENT_17, SILENT, TEXT_17, TOLD_17, Reading
 
 SILENCE = b"--\n" * 16
 FOREIGN = "what stands in the way was not left by a reading of a unit"
 BEFORE = "AC DC 05\n"
-# What a reading that was stopped may leave in HEXFILE.new, and what it can't have left.
+# Bytes that a reading that was stopped may leave in HEXFILE.new, and some that it can't have left.
 LEFT = ["", TEXT_17[:1], TEXT_17[:30], TEXT_17, "FF FF\n", "10 A1 FF\r\n", "10\ta1 ff\n", "00 " * 255, "0" * 4096]
 NOT_LEFT = ["x", "10,A1", "G0", "\0", "0" * 4097, "DB1\x02"]
 
@@ -296,8 +294,9 @@ def check_whole(desk, call, start, ended):
 class CallsTest(BenchTest):
     """Each call failing, cut short, or the last one, and readings beside each other."""
 
-    def each_call_failing(self, part):
-        for desk, call, start, ended in each_call_spoiled(self.folder, "fail", (errno.EIO, errno.ENOSPC)[part]):
+    @in_cases(2)
+    def test_each_call_failing(self, case):
+        for desk, call, start, ended in each_call_spoiled(self.folder, "fail", (errno.EIO, errno.ENOSPC)[case]):
             lines = {"in": ["drive fault 2 Link"], "out": ["drive fault 2 Link"], "err": [""]}
             assert ended.status == 2 and last_line(ended)[2] in lines.get(call.target, ["fault 21 File"]), (call, ended)
             assert SENT_17.startswith(ended.sent), (call, ended)
@@ -306,9 +305,6 @@ class CallsTest(BenchTest):
             check_whole(desk, call, start, ended)
             assert call.target not in ("in", "out") or desk.text() == start[0], (call, ended)
             goes_on(desk)
-
-    test_each_call_failing_part_1 = partialmethod(each_call_failing, 0)
-    test_each_call_failing_part_2 = partialmethod(each_call_failing, 1)
 
     def test_interrupted_calls_change_nothing(self):
         for desk, call, _, ended in each_call_spoiled(self.folder, "fail", errno.EINTR):
@@ -323,14 +319,12 @@ class CallsTest(BenchTest):
             ended = desk.give(GIVEN_17, shim(desk, f"{kind} {target} 0 short"))
             self.assertEqual((kind, target, ended, desk.text()), (kind, target, Ended(0, SENT_17, TOLD_17), TEXT_17))
 
-    def kills_at_each_call(self, part):
-        for desk, call, start, ended in each_call_spoiled(self.folder, ("kill", "killed")[part]):
+    @in_cases(2)
+    def test_kills_at_each_call(self, case):
+        for desk, call, start, ended in each_call_spoiled(self.folder, ("kill", "killed")[case]):
             self.assertEqual((call, ended.status), (call, -signal.SIGKILL))
             check_whole(desk, call, start, ended)
             goes_on(desk)
-
-    test_kills_at_each_call_part_1 = partialmethod(kills_at_each_call, 0)
-    test_kills_at_each_call_part_2 = partialmethod(kills_at_each_call, 1)
 
     def test_kills_within_a_write(self):
         for length in range(1, len(TEXT_17)):

@@ -1,7 +1,7 @@
-"""What `read`, `verify` and `scan` have to send and to tell, in plain Python: for test_read.py and fuzz.
+"""The frames and output due of `read`, `verify` and `scan`, in plain Python: for test_read.py and fuzz.
 
-Nothing here comes from the program: it is written from the words of its pages alone. What an order writes is told by
-benchmarks/baseline.py, which knows nothing of the program either.
+Nothing here comes from the program: it is written from the words of its pages alone. The bytes that an order writes are
+those of benchmarks/baseline.py, which knows nothing of the program either.
 """
 
 import re
@@ -94,7 +94,7 @@ class Reader:
         return found
 
     def finding(self, unit, updates):
-        """Give the word of an order's line, and what stands behind it."""
+        """Give the word of an order's line, and the words after it."""
         greatest = max(updates)
         last = self.block(unit, 0x00, 1)
         if last is None or last[0] < greatest:
@@ -136,7 +136,7 @@ def bytes_of(order):
 
 
 def wanted_of(carry, course):
-    """Follow a course over a link; it takes the reader and a list for what is told, and gives status and text."""
+    """Follow a course over a link; it takes the reader and a list for its lines, and gives status and text."""
     reader, told = Reader(carry), []
     try:
         status, text = course(reader, told)

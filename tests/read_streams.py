@@ -5,21 +5,25 @@ import subprocess
 
 import driven
 from base import BenchTest, preloaded, want
-from drive_desk import ABSENT, GTIN, last_line, unread, unwritten
+from drive_desk import ABSENT, PRESENT, last_line, unread, unwritten
 from driven import Ended
 from read_desk import (
     ANSWERS_17,
     GIVEN_17,
+    SAME,
     SENT_17,
     SILENT,
     TEXT_17,
     TOLD_17,
-    Reading,
+    VERIFY_GIVEN,
+    VERIFY_SENT,
+    as_lines,
+    desk_for,
 )
 from read_plan import carried
 
 COMMANDS = ("read", "verify", "scan")
-# What each command sends and tells where nobody answers, and with which status it ends then.
+# The frames, lines and status of each command if nobody answers.
 NOBODY_SENT = b"C301\n0B9C\n" * 8
 SCAN_SENT = b"".join((b"C301\n%02X9C\n" % (2 * unit + 1)) * 8 for unit in range(64))
 NOBODY = {
@@ -29,27 +33,9 @@ NOBODY = {
 }
 SILENCE = b"--\n" * 1024
 MOST_ORDERS = 16777216
-PRESENT = [{"order": 1, "unit": 5, "gtin": GTIN}]
-# A bank of 120 that has the GTIN's bytes, and the answers that it gives to `verify`.
-VERIFY_SENT = (b"C301\n0B9C\nA300\n0B98\n0BC5\n0B98\n0B9C\n"
-               b"C301\n0B9C\nA303\n0B98\n" + b"0BC5\n" * 6 + b"0B98\n0B9C\n")
-VERIFY_GIVEN = "-- 01 -- 00 77 01 01 -- 01 -- 03 03 A4 CE EF AD AB 09 01"
-SAME = "order 1 unit 5 same\n"
 LINES = {"123456789": "6 TooLong", "12345678": "3 Line", "-5": "3 Line", "": "3 Line", "-": "3 Line", "---": "3 Line",
          "0G": "3 Line", " 05": "3 Line", "5": "3 Line", "\r": "3 Line", "--\r\r": "3 Line", "12345678\r": "6 TooLong",
          "1234567\r": "3 Line", "x" * 5000: "6 TooLong", "\0\0": "3 Line", "\xff\xfe": "3 Line"}
-
-
-def desk_for(folder, command, orders=None):
-    """Make a desk for a command, with the order of a GTIN for unit 5, and with no HEXFILE."""
-    desk = Reading(folder, command, orders=PRESENT if orders is None else orders)
-    desk.bank.unlink(missing_ok=True)
-    return desk
-
-
-def as_lines(text):
-    """Give the lines of answers that are spelled with spaces between them."""
-    return "".join(answer + "\n" for answer in text.split()).encode()
 
 
 def want_no_file(desk):
@@ -205,7 +191,7 @@ class StreamsTest(BenchTest):
                 self.assertEqual((desk.text(), desk.new().exists()), (TEXT_17 if given is GIVEN_17 else None, False))
 
     def test_standard_error_that_takes_no_line_of_a_scan(self):
-        # The first line that can't be written ends it: no frame is sent for nobody to be told.
+        # The first line that can't be written ends the run: no frame is sent whose result nobody can read.
         given = as_lines("-- 01 -- 00 10 01 01") * 64
         for how, error in failing_errors().items():
             ended = desk_for(self.folder, "scan").give(given, stderr=error)

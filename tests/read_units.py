@@ -3,11 +3,10 @@
 import copy
 import signal
 import subprocess
-from functools import partialmethod
 
 import driven
-from adapter_serial import Interface
-from base import BenchTest, want
+from adapter_fixtures import SerialInterface
+from base import BenchTest, in_cases, want
 from driven import Ended, simulated_link
 from read_desk import (
     ANSWERS_17,
@@ -26,13 +25,14 @@ from read_desk import (
 )
 from read_plan import block_frames, text_of
 
-# How many frames the reading of a bank of so many locations takes with nothing lost.
+# The frames that the reading of a bank of this many locations takes with nothing lost.
 FRAMES = {17: 29, 18: 36, 33: 51, 34: 58, 120: 174, 254: 356, 255: 357}
 ADAPTER = driven.ROOT / "adapters" / "simulated_link.py"
+SHARES = 4  # of a long test, each a case
 
 
 def told_of(length):
-    """Give the line of unit 5, of which so many bytes were read."""
+    """Give the line of unit 5, of which this many bytes were read."""
     return f"unit 5 bytes {length}\n"
 
 
@@ -94,13 +94,9 @@ class ReadTest(BenchTest):
     def test_each_loss_in_a_bank_of_17(self):
         lose_each(self.folder, 17, 0, 1)
 
-    def each_loss_in_a_bank_of_120(self, part, count):
-        lose_each(self.folder, 120, part, count)
-
-    test_each_loss_in_a_bank_of_120_part_1 = partialmethod(each_loss_in_a_bank_of_120, 0, 4)
-    test_each_loss_in_a_bank_of_120_part_2 = partialmethod(each_loss_in_a_bank_of_120, 1, 4)
-    test_each_loss_in_a_bank_of_120_part_3 = partialmethod(each_loss_in_a_bank_of_120, 2, 4)
-    test_each_loss_in_a_bank_of_120_part_4 = partialmethod(each_loss_in_a_bank_of_120, 3, 4)
+    @in_cases(SHARES)
+    def test_each_loss_in_a_bank_of_120(self, case):
+        lose_each(self.folder, 120, case, SHARES)
 
     def test_frames_beyond_a_loss_by_hand(self):
         for losses, frames in [({"lost_answers": [2]}, 31), ({"lost_frames": [1]}, 31), ({"lost_answers": [5]}, 34),
@@ -153,7 +149,7 @@ class ReadTest(BenchTest):
             self.assertEqual(bytes(found[4:-2]), bytes(byte ^ 0x55 for byte in BANK_17[block[0]:block[0] + block[1]]))
 
     def test_a_last_location_that_changes(self):
-        # What 00h said at first holds. Where it says more than there is, what isn't there stays silent.
+        # The first answer at 00h holds. If it is greater than the last location, those beyond that stay silent.
         bank = varied_bank(120)
         for changes, status, told, data, frames in [
                 ({8: (0x00, 0x10)}, 0, told_of(120), bank, 174),
@@ -204,7 +200,7 @@ class ReadTest(BenchTest):
 
 
 def scan(folder, bus, frames):
-    """Scan a bus, and give the lines that are told; it has to take so many frames."""
+    """Scan a bus, and give the lines of the output; it has to take this many frames."""
     desk = Reading(folder, "scan")
     wanted = desk.run(bus)
     want((wanted.status, bus.frames), (0, frames))
@@ -212,7 +208,7 @@ def scan(folder, bus, frames):
 
 
 def scan_some(folder, bus, frames, units, with_gtin=False):
-    """Scan some units of a bus, or all where none is named, and give the lines; it has to take so many frames."""
+    """Scan some units of a bus, or all if none is named, and give the lines; it has to take this many frames."""
     desk = Reading(folder, "scan")
     desk.units, desk.with_gtin = units, with_gtin
     wanted = desk.run(bus)
@@ -227,7 +223,7 @@ def known_unit(address, length, known):
     return simulated_link.Unit(address, bytes(bank))
 
 
-# What stands from 03h to 10h: a GTIN with its check digit, one with another, one that is blank, and one of fifteen
+# The bytes from 03h to 10h: a GTIN with its check digit, one with another, one that is blank, and one of fifteen
 # digits.
 IDENTITIES = {
     "03A4CEEFADAB 0102030405060708": "gtin 04006381333931 identification 0102030405060708",
@@ -327,7 +323,7 @@ class AdaptersTest(BenchTest):
 
     def test_over_the_serial_adapter(self):
         replies = [[b"N\r" if answer == "--" else f"J{answer}\r".encode()] for answer in ANSWERS_17]
-        interface, desk = Interface(replies), Reading(self.folder)
+        interface, desk = SerialInterface(replies), Reading(self.folder)
         adapter = [driven.ROOT / "adapters" / "serial_link.py", interface.device, "--"]
         ended = subprocess.run([*adapter, *desk.words()], capture_output=True, text=True, timeout=driven.PATIENCE)
         interface.close()

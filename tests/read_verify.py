@@ -1,15 +1,14 @@
-"""Tests of `verify` over simulated units: each finding, its frames, with losses, and behind `drive` with its kills."""
+"""Tests of `verify` over simulated units: each finding, its frames, with losses, and after `drive` with its kills."""
 
 import copy
 import json
 import subprocess
-from functools import partialmethod
 
 import driven
-from base import BenchTest, want
+from base import BenchTest, in_cases, want
 from drive_desk import GTIN, desk_of
-from drive_units import BLANK, CHANGED_BY_KILLS, SCENES, bank_of, finish, whole_run
-from driven import groups_of, simulated_link
+from drive_fixtures import BLANK, CHANGED_BY_KILLS, SCENES, bank_of, finish, whole_run
+from driven import FIELDS, groups_of, simulated_link
 from read_desk import Changing, Reading, WithBank0, bus_of, full_orders, unit_of
 from read_plan import bytes_of, compared
 
@@ -31,6 +30,7 @@ ROWS = [
 ]
 FULL = full_orders()
 FULL_FRAMES = 7 + 8 + 20 + 6 * 22 + 11
+BYTE_SHARES, KILL_SHARES = 2, 4  # of a long test, each a case
 
 
 def order_of(number=1, unit=5, **fields):
@@ -90,7 +90,7 @@ def with_bytes(bank, changes):
 
 
 def verify(folder, orders, bus, lines=None, frames=None):
-    """Compare the units of a bus with orders; what is told has to be as the banks are, and as the plan has it."""
+    """Compare the units of a bus with orders; the lines have to be as the banks are, and as the plan has it."""
     before = bus.frames
     wanted = Reading(folder, "verify", orders=orders).run(bus)
     by_bank = [line_by_bank(order, bus.units) for order in orders]
@@ -113,9 +113,10 @@ class VerifyTest(BenchTest):
                FULL_FRAMES)
         verify(self.folder, [], bus_of(), ["error: nothing was done: ORDERS has no orders"], 0)
 
-    def each_other_byte(self, part, count):
+    @in_cases(BYTE_SHARES)
+    def test_each_other_byte(self, case):
         held, updates = held_by(BLANK, *FULL), bytes_of(FULL[0])
-        for location in range(part, len(held), count):
+        for location in range(case, len(held), BYTE_SHARES):
             bank = bytearray(held)
             if location not in (0x00, 0x02, 0x11, 0x12):
                 bank[location] ^= 0x40
@@ -126,9 +127,6 @@ class VerifyTest(BenchTest):
             bus = bus_of(simulated_link.Unit(5, bytes(bank)))
             line = f"order 1 unit 5 {line if location != 0x77 else f'other 77 {bank[0x77]:02X}'}"
             verify(self.folder, FULL, bus, [line], FULL_FRAMES)
-
-    test_each_other_byte_part_1 = partialmethod(each_other_byte, 0, 2)
-    test_each_other_byte_part_2 = partialmethod(each_other_byte, 1, 2)
 
     def test_short_banks(self):
         for fields, greatest in [({"year": 24}, 0x13), ({"week": 5}, 0x14), ({"cct": 4000}, 0x22),
@@ -148,7 +146,7 @@ class VerifyTest(BenchTest):
             verify(self.folder, [order_of(gtin=GTIN, year=24)], bus, ["order 1 unit 5 format"], 15)
             verify(self.folder, [order_of(year=24)], bus, ["order 1 unit 5 format"], 15)
             verify(self.folder, [order_of(gtin=GTIN)], bus, ["order 1 unit 5 other 03 FF"], 19)
-        # Too short and of another format is told as short.
+        # A bank that is too short and of another format is reported as short.
         bus = bus_of(simulated_link.Unit(5, bank_of(0x13, x11=1)))
         verify(self.folder, [order_of(year=24)], bus, ["order 1 unit 5 short"], 7)
 
@@ -213,7 +211,7 @@ class FieldsTest(BenchTest):
             ({0x24: bytes(24)}, [("colour", "raw " + "00" * 24)]),
             ({0x3C: b"p"}, [("luminaire", 'text panel "A\\B"')]),
             ({0x77: b"\x01"}, [("luminaire", "raw " + b'Panel "A\\B"'.hex().upper() + "00" * 48 + "01")]),
-            # What the order doesn't write is of no matter.
+            # Bytes that the order doesn't write don't matter.
             ({0x17: bytes(9), 0x21: bytes(3)}, []),
         ]
         for changes, wanted in cases:
@@ -231,7 +229,7 @@ class FieldsTest(BenchTest):
         bus = bus_of(simulated_link.Unit(5, bank_of(0x78, x12=0x04)))
         self.assertEqual(differing(self.folder, [year, gtin], bus),
                          [("format", []), ("other", [("gtin", "unknown", "04006381333931")])])
-        # Silent from the start, and at the block of its last field, behind other bytes of the first.
+        # Silent from the start, and at the block of its last field, after other bytes of the first.
         self.assertEqual(differing(self.folder, [order_of(unit=6, gtin=GTIN)], bus_of(simulated_link.Unit(5))),
                          [("silent", [])])
         bus = bus_of(simulated_link.Unit(5), lost_answers=[27 + 2 * turn for turn in range(1, 9)])
@@ -239,12 +237,9 @@ class FieldsTest(BenchTest):
 
     def test_each_field_alone(self):
         # Each byte of a unit that holds the order is changed in turn, and then its field alone differs.
-        fields = [(0x03, "gtin"), (0x09, "identification"), (0x13, "year"), (0x14, "week"), (0x15, "input_power"),
-                  (0x17, "min_dim_power"), (0x19, "min_voltage"), (0x1B, "max_voltage"), (0x1D, "light_output"),
-                  (0x20, "cri"), (0x21, "cct"), (0x23, "distribution"), (0x24, "colour"), (0x3C, "luminaire")]
         held = held_by(BLANK, *FULL)
         for location in sorted(bytes_of(FULL[0])):
-            field = [name for first, name in fields if first <= location][-1]
+            field = [it["key"] for it in FIELDS if it["first"] <= location][-1]
             bus = bus_of(simulated_link.Unit(5, with_bytes(held, {location: bytes([held[location] ^ 0x40])})))
             [(word, differs)] = differing(self.folder, FULL, bus)
             self.assertEqual((location, word, [one[0] for one in differs]), (location, "other", [field]))
@@ -278,7 +273,7 @@ def verify_after(folder, scene, bus, data):
 
 
 class BehindDriveTest(BenchTest):
-    """Comparisons behind drives."""
+    """Comparisons after drives."""
 
     def test_behind_whole_runs(self):
         same = {"lossy": ["same", "short", "silent", "same"], "doubtful": ["other 05 FF", "format", "same"],
@@ -293,14 +288,15 @@ class BehindDriveTest(BenchTest):
             if name in same:
                 self.assertEqual((name, [line.split(" ", 4)[4] for line in lines]), (name, same[name]))
 
-    def behind_killed_runs(self, part, count):
+    @in_cases(KILL_SHARES)
+    def test_behind_killed_runs(self, case):
         for name, scene in SCENES.items():
             room = self.folder / name
             room.mkdir()
             desk, _, ended = whole_run(room, scene)
             total, codes = len(ended.sent) // 5, None if name in CHANGED_BY_KILLS else scene.codes
             step = max(7, total // 30)
-            for frame in range(1 + part * step, total + 1, count * step):
+            for frame in range(1 + case * step, total + 1, KILL_SHARES * step):
                 try:
                     desk.journal.write_bytes(b"")
                     bus = scene.bus()
@@ -311,11 +307,6 @@ class BehindDriveTest(BenchTest):
                     verify_after(room, scene, bus, desk.held())
                 except Exception as fault:
                     raise AssertionError(f"{name}, killed once frame {frame} was carried") from fault
-
-    test_behind_killed_runs_part_1 = partialmethod(behind_killed_runs, 0, 4)
-    test_behind_killed_runs_part_2 = partialmethod(behind_killed_runs, 1, 4)
-    test_behind_killed_runs_part_3 = partialmethod(behind_killed_runs, 2, 4)
-    test_behind_killed_runs_part_4 = partialmethod(behind_killed_runs, 3, 4)
 
     def test_a_unit_that_drive_left_open(self):
         order = order_of(gtin=GTIN)

@@ -8,7 +8,7 @@
 #include <stdlib.h>
 #include <unistd.h>
 
-/* What the C library allocates by other calls is given back by the same one, so it may be under none. */
+/* Memory that the C library allocates by other calls is given back by `free` too, so this may be below zero. */
 static long held;
 
 static int is_over(const char *name, long size)

@@ -3,8 +3,8 @@
 
     station_adapter.py FOLDER LOSS SEED MILLISECONDS -- COMMAND WORDS..
 
-Its bank 1 stands in FOLDER as of adapters/simulated_link.py. While the file `absent_5` is there nothing is at the seat;
-while `unplugged` is there the interface is gone. Frames are lost by the chance LOSS, and take so many milliseconds.
+Its bank 1 is kept in FOLDER, as by adapters/simulated_link.py. While the file `absent_5` is there nothing is at the
+seat; while `unplugged` is there the interface is gone. Frames are lost by the chance LOSS, and take MILLISECONDS each.
 """
 
 import sys

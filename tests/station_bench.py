@@ -1,4 +1,4 @@
-"""A station with its seat and a person, for tests of the line computer's station: what it says, and what it is told."""
+"""A station with its seat and a person, for tests of the line computer's station: its words, and those that it gets."""
 
 import json
 import os
@@ -71,7 +71,7 @@ class StationBench(Bench):
         return found
 
     def seat(self, bank=BLANK, bus="bus1"):
-        """Put a luminaire at the seat, or take away what stands there."""
+        """Put a luminaire at the seat, or take the one there away."""
         path, absent = self.folder / bus / f"unit_{UNIT}.hex", self.folder / bus / f"absent_{UNIT}"
         path.unlink(missing_ok=True)
         if bank is None:

@@ -4,12 +4,13 @@ import os
 import re
 import signal
 import subprocess
-from functools import partialmethod
 
-from base import BenchTest
+from base import BenchTest, in_cases
 from line_bench import ADAPTER, SHORT_BANK, Server, wait_for
 from station_bench import (BLANK, FIRST, LOOKING, NAME_1, NAME_2, NOT_TAKEN, NUMBER_1, NUMBER_2, SCAN_1, SCAN_2, STAYS,
                            StationBench, bank_with, passed, stopped)
+
+SHARES = 3  # of a long test, each a case
 
 
 class StationTest(BenchTest):
@@ -31,9 +32,10 @@ class StationTest(BenchTest):
         self.assertEqual(station.serves(SCAN_2), passed(NAME_2, 2))
         self.assertEqual(bench.seated(), bank_with(NUMBER_2))
         self.assertEqual(station.end(), 0)
-        # 15 bytes and 2 behind them take 280 frames; a look 30 before them, and 40 to verify.
-        times = [f"WORK: {NAME_1}. Leave the luminaire in, and don't scan. It takes some 15 s.",
-                 f"WORK: {NAME_1}, order 1. Leave the luminaire in, and don't scan. It takes some 14 s."]
+        # 15 bytes take 280 frames by the checked plan, of which the short one takes 0.45; a look before them takes 30,
+        # and `verify` 40.
+        times = [f"WORK: {NAME_1}. Leave the luminaire in, and don't scan. It takes some 9 s.",
+                 f"WORK: {NAME_1}, order 1. Leave the luminaire in, and don't scan. It takes some 8 s."]
         self.assertEqual(station.lines[:5], [LOOKING, FIRST, *times, passed(NAME_1, 1)])
         self.assertEqual(bench.log(), "")
         self.assertEqual(bench.does("orders"), ["order 1 bus bus1 unit 5 ended: kept 0 Done",
@@ -117,7 +119,7 @@ class StationTest(BenchTest):
                          " then scan again.")
         (self.folder / "bus1" / "unplugged").unlink()
         bench.seat()
-        # What was refused or failed may be scanned again.
+        # A name that was refused or failed may be scanned again.
         self.assertEqual(station.serves(SCAN_1), passed(NAME_1, 3))
         self.assertEqual(station.end(), 0)
         self.assertEqual(bench.labels_left(), [NUMBER_1])
@@ -200,7 +202,7 @@ class StopTest(BenchTest):
         station.asked()
         self.assertEqual(station.serves(SCAN_1), None)
         self.assertEqual(bench.states(), {1: "sent"})
-        # No other process of the bus takes it, for whatever stands there then.
+        # No other process of the bus takes it, for any luminaire that is there then.
         self.assertEqual(bench.run(adapter=bench.station_words()[-5:]), 0)
         self.assertEqual((bench.states(), bench.seated()), ({1: "sent"}, BLANK))
         station = bench.station()
@@ -231,7 +233,7 @@ class StopTest(BenchTest):
             station = bench.station()
             self.assertEqual(station.asked(), stopped(NAME_1, 1))
             before = bench.seated()
-            # Another one that stands there now is not written.
+            # Another luminaire that is there now is not written.
             bench.seat()
             self.assertEqual(station.serves(SCAN_2), f"FAIL: {NAME_2} isn't taken: order 1 isn't finished. "
                              + STAYS.format(name=NAME_1))
@@ -258,10 +260,11 @@ class StopTest(BenchTest):
         self.assertEqual(station.end(), 0)
         self.assertEqual((bench.seated(), bench.labels_left()), (bank_with(NUMBER_1), [NUMBER_1]))
 
-    def a_stop_at_each_commit(self, part, count):
+    @in_cases(SHARES)
+    def test_a_stop_at_each_commit(self, case):
         """Each time the person scans once more; the luminaire has its numbers and one label, whatever comes."""
         bench = self.bench()
-        bench.pace, number, stops = 0, 1 + part, 0
+        bench.pace, number, stops = 0, 1 + case, 0
         while True:
             for when in ("before", "behind"):
                 serial = f"{2 * number + (when == 'behind'):016X}"
@@ -271,17 +274,13 @@ class StopTest(BenchTest):
                 said = station.asked() if asked and station.scan(serial) else None
                 is_passed = said is not None and said.startswith("PASS")
                 if is_passed and station.end() == 0:
-                    assert stops > 20 / count, stops
+                    assert stops > 20 / SHARES, stops
                     print(f"stops of a station at a commit: {stops}", flush=True)
                     return
                 self.assertEqual((number, when, said if not is_passed else None), (number, when, None))
                 stops += 1
                 self.ends_well(bench, serial)
-            number += count
-
-    test_a_stop_at_each_commit_part_1 = partialmethod(a_stop_at_each_commit, 0, 3)
-    test_a_stop_at_each_commit_part_2 = partialmethod(a_stop_at_each_commit, 1, 3)
-    test_a_stop_at_each_commit_part_3 = partialmethod(a_stop_at_each_commit, 2, 3)
+            number += SHARES
 
     def ends_well(self, bench, serial):
         """Have a person bring a luminaire to its end after a stop."""

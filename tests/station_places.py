@@ -14,7 +14,7 @@ import urllib.parse
 
 from base import BenchTest, settings, want
 from line_bench import ADAPTER, Server, wait_for
-from line_look import Page, text_of, told_by_browser
+from line_fixtures import Page, text_of, told_by_browser
 from station_bench import (BLANK, FIRST, NAME_1, NAME_2, NEXT, NOT_TAKEN, NUMBER_1, SCAN_1, SCAN_2, StationBench,
                            bank_with, passed)
 
@@ -49,17 +49,17 @@ class PlacesTest(BenchTest):
         self.assertEqual((numbers, bench.does("labels")), ([1, 2], []))
         self.assertEqual(station.end(), 0)
 
-    def test_the_short_plan_and_a_label_of_its_own(self):
+    def test_a_plan_and_a_label_of_its_own(self):
         bench = StationBench(self.folder)
         bench.seat()
         (self.folder / "label.txt").write_text("{gtin} {identification} {gs1}\n")
-        station = bench.station("bus1", "--short-plan", "--label-command", "sh -c 'cat >>labels'", "--label",
+        station = bench.station("bus1", "--checked-plan", "--label-command", "sh -c 'cat >>labels'", "--label",
                                 "label.txt")
         station.asked()
         self.assertEqual(station.serves(SCAN_1), f"PASS: {NAME_1}. The label of order 1 is out: put it on. {NEXT}")
         self.assertEqual((self.folder / "labels").read_text(),
                          f"4006381333931 {NUMBER_1} 010400638133393121{NUMBER_1}\n")
-        self.assertEqual(bench.rows("select plan, frames = expected from bench_orders"), [("short", 1)])
+        self.assertEqual(bench.rows("select plan, frames = expected from bench_orders"), [("checked", 1)])
         self.assertEqual(station.end(), 0)
         # An order that stands for a scan is repeated by a scan alone: so its number gets one label.
         ended = bench.give("again", "1")
@@ -188,7 +188,7 @@ class PageOfStationTest(BenchTest):
         return answer.status, text
 
     def told(self, scan, **headers):
-        """Give the status, and what is told of a scan that isn't taken."""
+        """Give the status, and the message for a scan that isn't taken."""
         status, text = self.post(scan, **headers)
         found = re.search('role="alert">(.*?)</p>', text)
         return status, found and found[1]
@@ -225,7 +225,7 @@ class PageOfStationTest(BenchTest):
         station.process.wait()
         self.assertEqual(self.told(SCAN_1), (409, "The station isn&#x27;t running."))
         assert "OFF It hasn't run since" in text_of(self.page.get("/state"))
-        # The scan isn't for whoever stands there later.
+        # The scan isn't for a luminaire that comes later.
         station = self.bench.station()
         self.assertEqual(station.asked(), FIRST)
         time.sleep(0.5)

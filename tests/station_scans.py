@@ -29,7 +29,7 @@ GS1 = {
     f"0104006381333931211A2B{FNC1}10LOT": ("04006381333931", "1A2B"),
     f"010400638133393110LOT21{FNC1}211A2B": ("04006381333931", "1A2B"),
     f"]d2211A2B{FNC1}0104006381333931": ("04006381333931", "1A2B"),
-    # A date and a weight have their lengths, with FNC1 behind them or without.
+    # A date and a weight have their lengths, with FNC1 after them or without.
     "]d20104006381333931112611303100000124211A2B": ("04006381333931", "1A2B"),
     f"]d2010400638133393111261130{FNC1}211A2B": ("04006381333931", "1A2B"),
     # Digits that look like an application identifier stand within a lot, and a serial number.
@@ -101,7 +101,7 @@ UNWANTED = [
     (GTIN_ALONE, "400638133393", "the check digit of the GTIN 400638133393 is wrong"),
     (GTIN_ALONE, "123", "a GTIN has 8, 12, 13 or 14 digits, and not 123"),
 ]
-# A day, and its year and week: of the week where that is asked for too, else of the calendar.
+# A day, and its year and week: the year is that of the week if both are asked for, else of the calendar.
 DAYS = {
     ("2026-11-30", "year", "week"): {"year": 26, "week": 49},
     ("2027-01-01", "year", "week"): {"year": 26, "week": 53},
@@ -131,7 +131,7 @@ def refused(act, *arguments):
 
 
 class ScanTest(unittest.TestCase):
-    """What a scan says."""
+    """The reading of a scan."""
 
     def test_gs1(self):
         for text, (gtin, serial) in GS1.items():
@@ -142,7 +142,7 @@ class ScanTest(unittest.TestCase):
             self.assertEqual((text, refused(scans.read, text)), (text, why))
 
     def test_the_lengths_of_element_strings(self):
-        """By the table of the General Specifications: each, with a serial number behind it, and one character less."""
+        """By the table of the General Specifications: each, with a serial number after it, and one character less."""
         lengths = {"00": 20, "01": 16, "02": 16, "03": 16, "04": 18, "11": 8, "12": 8, "13": 8, "14": 8, "15": 8,
                    "16": 8, "17": 8, "18": 8, "19": 8, "20": 4, "31": 10, "32": 10, "33": 10, "34": 10, "35": 10,
                    "36": 10, "41": 16}
@@ -177,7 +177,7 @@ class ScanTest(unittest.TestCase):
 
 
 class TemplateTest(BenchTest):
-    """What a template makes of a scan."""
+    """The order that a template makes of a scan."""
 
     def made(self, keys):
         """Give a template of these keys."""

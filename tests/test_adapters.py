@@ -8,10 +8,7 @@ import sys
 
 sys.dont_write_bytecode = True
 
-import adapter_daliserver  # noqa: E402
 import adapter_desk  # noqa: E402
-import adapter_python_dali  # noqa: E402
-import adapter_serial  # noqa: E402
 
 if __name__ == "__main__":
-    sys.exit(adapter_desk.main(adapter_serial, adapter_daliserver, adapter_python_dali))
+    sys.exit(adapter_desk.main("adapter_serial", "adapter_daliserver", "adapter_python_dali"))

@@ -3,9 +3,9 @@
 
     test_address.py [PROGRAM [FOLDER]]
 
-PROGRAM is that of the checkout, where none is given. FOLDER has drive_shim.so and refuse_alloc.so, built from the C
-files of this folder; without it they are built here. The last line is `N passed, M failed`, and the status is 0 only
-where none failed. What couldn't be tested on this machine has a line that begins with `skipped`.
+PROGRAM is by default that of the checkout. FOLDER has drive_shim.so and refuse_alloc.so, built from the C files of
+this folder; without it they are built here. The last line is `N passed, M failed`, and the status is 0 only
+where none failed. A line that begins with `skipped` names each test that this machine can't run.
 """
 
 import sys

@@ -9,41 +9,21 @@ another one comes first. PROGRAM and FOLDER are as of test_drive.py. The last li
 status is 0 only where none failed.
 """
 
-import re
-import subprocess
 import sys
 
 sys.dont_write_bytecode = True
 
 import beside  # noqa: E402
-from base import BenchTest, settings, want  # noqa: E402
+from base import BenchTest, settings  # noqa: E402
 from driven import ROOT  # noqa: E402
+from release_fixtures import BLOCK, run_commands  # noqa: E402
 
 PAGE = ROOT / "docs" / "BENCH.md"
-BLOCK = re.compile("^```([a-z]*)\n(.*?)^```$", re.MULTILINE | re.DOTALL)
-# What the page tells of besides, which no command of it shows.
+# Words of the page that no command of it shows.
 CODES = ("Done", "Short", "Format", "Silent", "Doubt", "DoubtOpen")
 REPLIES = (*(f"`kept {code} {name}`" for code, name in enumerate(CODES)), "`blocked U`", "`reused`", "`full`", "`busy`",
            "`taken`")
 DRIVE_FAULTS = ("1 Journal", "2 Link", "3 Line", "4 End", "6 TooLong")
-
-
-def commands(page):
-    """Give the blocks of commands, each with what it is said to print."""
-    blocks = BLOCK.findall(page)
-    behind = [*blocks[1:], ("", "")]
-    pairs = zip(blocks, behind)
-    return [(text, told if kind == "text" else "") for (name, text), (kind, told) in pairs if name == "sh"]
-
-
-def run_commands(page, folder, least=11):
-    """Run the commands of a page in a folder, so many blocks at least; raise unless each prints what is said."""
-    shown = commands(page.read_text(encoding="utf-8"))
-    assert len(shown) >= least, shown
-    for text, told in shown:
-        how = {"stdin": subprocess.DEVNULL, "stdout": subprocess.PIPE, "stderr": subprocess.STDOUT, "text": True}
-        ended = subprocess.run(["sh", "-c", text], cwd=folder, timeout=120, **how)
-        want((text, ended.returncode, ended.stdout), (text, 0, told))
 
 
 class BenchPageTest(BenchTest):

@@ -1,15 +1,17 @@
 #!/usr/bin/env python3
-"""Test what a build tells of how far it is: by hand, and over a kit that proves nothing.
+"""Test the progress that a build prints: by hand, and over a kit that proves nothing.
 
 The last line is `N passed, M failed`, and the status is 0 only where none failed.
 """
 
 import fcntl
+import json
 import os
 import re
 import shutil
 import subprocess
 import sys
+from unittest import mock
 
 sys.dont_write_bytecode = True
 
@@ -20,62 +22,68 @@ from driven import ROOT, load  # noqa: E402
 sys.path.insert(0, str(ROOT / "scripts"))
 crates, progress = (load(ROOT / "scripts" / f"{name}.py") for name in ("crates", "progress"))
 LAUNCHED = ("crates.txt", "HANDLES", "dali_bench", "scripts/built.sh", "scripts/start.sh", "scripts/build",
-            "scripts/crates.py", "scripts/progress.py", "scripts/sums.py")
+            "scripts/crates.py", "scripts/progress.py", "scripts/build_seconds.json", "scripts/sums.py")
 RT = '#!/bin/sh\ncase $1 in doc) echo {kit}/START-HERE.md ;; version) echo kit 1 logic 2 ;; *) exit 1 ;; esac\n'
 OUT_OF = 'while [ $# -gt 0 ]; do [ "$1" = -o ] && out=$2; shift; done\n'
 RATTLE = f'#!/bin/sh\n{OUT_OF}echo >"$out"\n'
 LINK = f'#!/bin/sh\n{OUT_OF}printf \'#!/bin/sh\\necho ran\\n\' >"$out"; chmod +x "$out"\n'
 NEEDS = (r"dali_bench: {} and the program take {} on four cores, up to 2.1 GB of disk \(\d+\.\d GB are"
          r" free\) and at least 4.3 GB of memory \(\d+\.\d GB are free\)")
+NAMES = json.loads((ROOT / "scripts/build_seconds.json").read_text())
 IS_PROVED = re.compile(r"dali_bench: (dali_\w+) is proved: (\d+) of 23 libraries, (a|some \d+) minutes? left")
 
 
-class Clock:
-    """A clock that a test sets, in minutes."""
-
-    def __init__(self):
-        self.minutes = 0
-
-    def __call__(self):
-        return 1000 + 60 * self.minutes
+# A program over four libraries, and the seconds that each took where it was measured.
+USED = {"low": [], "left": ["low"], "right": ["low"], "top": ["left", "right"], "dali_bench": ["top"]}
+SECONDS = {"low": 60, "left": 300, "right": 120, "top": 60, "dali_bench": 60}
 
 
-def told(known, *turns):
-    """Give what is told where libraries are done at minutes."""
-    clock = Clock()
-    state = progress.Progress(set(progress.DONE_AFTER), known, clock)
+def told(known, *turns, processors=2):
+    """Give the lines printed if libraries begin and are done at these minutes."""
+    minutes = 0
+    with mock.patch.object(progress, "measured", lambda: SECONDS):
+        state = progress.Progress(known, USED, processors, lambda: 1000 + 60 * minutes)
     lines = []
-    for name, clock.minutes in turns:
-        lines.append(state.done(name))
-    return lines
+    for minutes, verb, name in turns:
+        lines.append(getattr(state, verb)(name))
+    return [line for line in lines if line is not None]
 
 
-def test_each_library_has_its_minutes(folder):
-    want(set(progress.DONE_AFTER), crates.below("dali_bench", crates.uses()))
+def test_each_library_has_its_seconds(folder):
+    want(set(progress.measured()), {"dali_bench", *crates.below("dali_bench", crates.uses())})
+
+
+def test_time_of_a_build(folder):
+    # The longest chain with enough processors; all of it by one; what is at work takes what is left of it.
+    want([progress.time_of(SECONDS, USED, count) for count in (1, 2, 9)], [600, 480, 480])
+    want(progress.time_of({"top": 60, "left": 300, "right": 120}, USED, 1, {"right": 20}), 20 + 300 + 60)
+    want([progress.time_of({}, USED, 4), progress.time_of({"dali_bench": 60}, USED, 4)], [0, 60])
+    # The longer chain comes first: else it would take 120 + 300 + 60.
+    want(progress.time_of({"right": 120, "left": 300, "right_too": 120, "top": 60},
+                          {**USED, "right_too": ["low"], "top": ["left", "right", "right_too"]}, 2), 360)
 
 
 def test_time_that_is_left(folder):
-    # As it was measured: 11.3 minutes in all, of which these take 1.5.
-    want(told(set(), ("dali_frame", 0.45), ("dali_bank", 0.9), ("dali_gear", 1.2), ("dali_bus", 1.5))[1:],
-         ["2 of 23 libraries, some 10 minutes left",
-          "3 of 23 libraries, some 10 minutes left", "4 of 23 libraries, some 10 minutes left"])
-    # On a machine that takes three times as long, and one that takes a tenth.
-    want(told(set(), ("dali_frame", 1.35), ("dali_bank", 2.7))[1], "2 of 23 libraries, some 31 minutes left")
-    want(told(set(), ("dali_frame", 0.045), ("dali_bank", 0.09))[1], "2 of 23 libraries, a minute left")
+    # As it was measured.
+    turns = ((0, "begin", "low"), (1, "done", "low"), (1, "begin", "left"), (1, "begin", "right"), (3, "done", "right"),
+             (6, "done", "left"), (6, "begin", "top"), (7, "done", "top"))
+    want(told(set(), *turns), ["1 of 4 libraries, some 7 minutes left", "2 of 4 libraries, some 5 minutes left",
+                               "3 of 4 libraries, some 2 minutes left", "4 of 4 libraries, a minute left"])
+    # On a machine that takes three times as long: so it is from the first one on.
+    slow = tuple((3 * minutes, verb, name) for minutes, verb, name in turns)
+    want(told(set(), *slow), ["1 of 4 libraries, some 21 minutes left", "2 of 4 libraries, some 15 minutes left",
+                              "3 of 4 libraries, some 6 minutes left", "4 of 4 libraries, some 3 minutes left"])
 
 
 def test_time_of_what_was_proved_before(folder):
-    names = sorted(progress.DONE_AFTER, key=progress.DONE_AFTER.get)
-    known = set(names[:-2])
-    lines = told(known, *((name, 0) for name in names[:-2]), (names[-2], 1.6), (names[-1], 2.6))
-    # 1.3 of link_commands and file_commands, and 1.4 of the program; then twice as slow: 0.5 and 1.4 take 3.8.
-    want([lines[0], lines[20], *lines[21:]],
-         ["1 of 23 libraries, some 3 minutes left", "21 of 23 libraries, some 3 minutes left",
-          "22 of 23 libraries, some 4 minutes left", "23 of 23 libraries, some 3 minutes left"])
+    turns = ((0, "begin", "low"), (0, "done", "low"), (0, "begin", "left"), (0, "begin", "right"), (0, "done", "left"),
+             (4, "done", "right"))
+    want(told({"low", "left"}, *turns), ["1 of 4 libraries, some 4 minutes left", "2 of 4 libraries, some 4 minutes left",
+                                         "3 of 4 libraries, some 4 minutes left"])
 
 
 def test_no_time_where_nobody_knows_what_is_proved(folder):
-    want(told(None, ("dali_frame", 5)), ["1 of 23 libraries"])
+    want(told(None, (0, "begin", "low"), (5, "done", "low")), ["1 of 4 libraries"])
 
 
 def repository(folder):
@@ -84,7 +92,7 @@ def repository(folder):
     for name in LAUNCHED:
         (root / name).parent.mkdir(parents=True, exist_ok=True)
         shutil.copy(ROOT / name, root / name)
-    for name in (*progress.DONE_AFTER, "dali_bench"):
+    for name in NAMES:
         for part in ("src", "specs", "proofs"):
             (root / "crates" / name / part).mkdir(parents=True)
         (root / "crates" / name / "src" / "lib.rt").write_text(name)
@@ -108,10 +116,10 @@ def test_the_first_command_tells_how_far_it_is(folder):
     first, needs, *proved, last = build(root, environment)
     want((first, last), ("dali_bench: proving and building the program, once for these sources; this takes minutes",
                          "dali_bench: built"))
-    assert re.fullmatch(NEEDS.format("23 libraries", "some 11 minutes"), needs), needs
+    assert re.fullmatch(NEEDS.format("23 libraries", r"some \d+ minutes"), needs), needs
     found = [IS_PROVED.fullmatch(line) for line in proved]
     assert None not in found, proved
-    want(sorted(it[1] for it in found), sorted(progress.DONE_AFTER))
+    want(sorted(it[1] for it in found), sorted(set(NAMES) - {"dali_bench"}))
     want([int(it[2]) for it in found], list(range(1, 24)))
     want(build(root, environment), [])
 
@@ -144,11 +152,12 @@ def test_a_later_build_counts_what_is_left(folder):
     build(root, environment)
     (root / "crates/dali_file_commands/src/lib.rt").write_text("another")
     _, needs, *proved, _ = build(root, environment)
-    # 0.6 minutes of that library, and 1.6 of the program.
-    assert re.fullmatch(NEEDS.format("1 library", "some 2 minutes"), needs), needs
+    # Those of that library and of the program, one after the other.
+    minutes = progress.about(NAMES["dali_file_commands"] + NAMES["dali_bench"])
+    assert re.fullmatch(NEEDS.format("1 library", minutes), needs), needs
     want(len(proved), 23)
-    assert proved[0].endswith(" is proved: 1 of 23 libraries, some 2 minutes left"), proved[0]
+    assert proved[0].endswith(f" is proved: 1 of 23 libraries, {minutes} left"), proved[0]
 
 
 if __name__ == "__main__":
-    sys.exit(adapter_desk.main(sys.modules[__name__]))
+    sys.exit(adapter_desk.main(__name__))

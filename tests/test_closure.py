@@ -1,6 +1,6 @@
 #!/usr/bin/env python3
-"""Test which edits are tried again after a change: those whose refusal hangs on it, and no others. And what becomes of the
-record of refusals: one that lies, one with an edit that is no more, one of another kit.
+"""Test which edits are tried again after a change: those whose refusal depends on it, and no others. And the record of
+refusals: one that lies, one with an edit that is no more, one of another kit.
 
 The last line is `N passed, M failed`, and the status is 0 only where none failed.
 """
@@ -308,7 +308,7 @@ ALL = {"low/size", *(f"mid/{it}" for it in (*MIDS, "fact", "by_nothing")), *BY_F
 WIDE = {"mid/by_nothing"}
 OF_HELD = {"mid/of_held"}
 WRITTEN = {"mid/written"}
-# What is changed, where, from what to what, and which edits are tried again.
+# Changes: a name, the file, the text and the one in its place, and which edits are tried again.
 CHANGES = (
     ("a body below", "low/src/code.rt", "2 + more", "more + 2", {"low/size"} | WIDE),
     ("a body in the middle", "mid/src/code.rt", "a_size() + a_size()\n}", "2 * a_size()\n}", {"mid/twice"} | WIDE),
@@ -351,6 +351,11 @@ CHANGES = (
     ("what a fact rests on", "mid/proofs/Steps.antt", "step : IsFour 4", "step : IsFour (2 + 2)", {"mid/fact"} | WIDE),
     ("how that is proved", "mid/proofs/Steps.antt", "step = refl", "step = by refl", WIDE),
     ("a comment", "low/src/code.rt", "/// A size.", "/// Some size.", WIDE),
+    ("a line of comment in a body", "low/src/code.rt", "    let more = 1;\n", "    // One more.\n    let more = 1;\n", WIDE),
+    ("a comment after code", "low/src/code.rt", "    let more = 1;\n", "    let more = 1; // one more\n", WIDE),
+    ("a text that looks as a comment", "low/src/code.rt", "    let more = 1;\n", "    let more = 1; \"// one\";\n",
+     {"low/size"} | WIDE),
+    ("a blank line, as in a text", "low/src/code.rt", "    let more = 1;\n", "\n    let more = 1;\n", {"low/size"} | WIDE),
     ("what brings a name in", "mid/src/code.rt", "size as a_size", "other as a_size", {"mid/twice"} | WIDE),
     ("a name of the kit", "mid/specs/Twice.antt", "Prelude.{◌≡◌, ℕ}", "Other.{◌≡◌}\nuse Rattle.std.specs.Prelude.{ℕ}",
      {f"mid/{it}" for it in MIDS} | BY_FUNCTIONS | {"mid/fact", "top/again"} | WIDE),

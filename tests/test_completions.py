@@ -15,10 +15,10 @@ sys.dont_write_bytecode = True
 import beside  # noqa: E402
 from base import BenchTest, settings  # noqa: E402
 from driven import ROOT  # noqa: E402
-from test_release import run, unpacked  # noqa: E402
+from release_fixtures import run, unpacked  # noqa: E402
 
 COMPLETE = 'COMP_WORDS=("$@"); COMP_CWORD=$(($# - 1)); _dali_bench; printf "%s\\n" "${COMPREPLY[@]}"'
-COMMANDS = "check run frame show journal drive read verify scan address help".split()
+COMMANDS = "check run frame show journal fields drive read verify scan address help".split()
 # Words of a command line, of which the last is to be completed, and what it is completed to.
 COMPLETED = [
     (["dali_bench", ""], COMMANDS), (["./dali_bench", "ch"], ["check"]), (["dali_bench", "he"], ["help"]),
@@ -27,6 +27,7 @@ COMPLETED = [
     (["dali_bench", "scan", "--g"], ["--gtin"]), (["dali_bench", "scan", "--gtin", "tab"], []),
     (["dali_bench", "check", "tab"], ["table.csv"]), (["dali_bench", "check", "--journal", "tab"], ["table.csv"]),
     (["dali_bench", "drive", "--moment", ""], []), (["dali_bench", "frame", "tab"], []),
+    (["dali_bench", "fi"], ["fields"]), (["dali_bench", "fields", "tab"], []),
     (["adapters/serial_link.py", "--l"], ["--letter", "--line-feed", "--list"]), (["serial_link.py", "--baud", "t"], []),
     (["dali_daliserver_link", "--t"], ["--time-limit"]), (["dali_simulated_link", "--folder", ""], ["tables"]),
     (["dali_simulated_link", "--frames", "--", "./too"], ["./tool"]),
@@ -41,7 +42,7 @@ COMPLETED = [
 
 
 class CompletionsTest(BenchTest):
-    """What a command line is completed to."""
+    """The words that complete a command line."""
 
     def test_completions(self):
         top = unpacked(self.folder)

@@ -16,7 +16,6 @@ import time
 sys.dont_write_bytecode = True
 
 import adapter_desk  # noqa: E402
-import desk_addressing  # noqa: E402
 from adapter_desk import (ADAPTERS, player, run, shown_frames, want_link_without_frames,  # noqa: E402
                           want_named_descriptors)
 from cases import case_of  # noqa: E402
@@ -385,4 +384,4 @@ def test_a_stopped_link_has_saved(folder):
 
 
 if __name__ == "__main__":
-    sys.exit(adapter_desk.main(sys.modules[__name__], desk_addressing))
+    sys.exit(adapter_desk.main(__name__, "desk_addressing"))

@@ -2,14 +2,16 @@
 """Test that what the documents say of code and definitions is there.
 
 A name that is linked to a file, as [`IsGtin`](../crates/dali_bank/specs/Gtin.antt), has to stand there: an item of the
-code, or a definition. A table with the columns of HEAD says where rules live: each row has such a link. What else
-belongs to a rule, its contracts and laws, its edits and tests, `scripts/where` tells.
+code, or a definition. A table with the columns of HEAD says where rules live: each row has such a link. Its contracts
+and laws, edits and tests are listed by `scripts/where`.
 
 Each promise of README names the laws and calls that carry it, each of which has a contract.
 
-It fails besides where a name of several words, as `IsGtin`, stands in no code, definition or proof and in no unit of the
-service; where README doesn't say in the words of the help what the program is; where a diagram has no arrows; where a
-link leads nowhere; and where a script that BENCHMARKS.md names can't be begun. The last line is `N passed, M failed`.
+It fails besides if a name of several words, as `IsGtin`, is in no code, definition or proof and in no unit of the
+service; if README doesn't say in the words of the help what the program is; if a diagram has no arrows; if a link leads
+nowhere; if a script that BENCHMARKS.md names can't be begun; if a book has a word that is avoided (AVOIDED), a paragraph
+or a cell that is too long; if README or all books are too long; if a walk of TOUR doesn't follow the code; and
+if a term of the glossary has several rows, or is used in no other book. The last line is `N passed, M failed`.
 """
 
 import os
@@ -29,6 +31,24 @@ HEAD = "| rule | where it lives |"
 SEVERAL_WORDS = re.compile(r"`([A-Z][a-z]+[A-Z][a-z]\w*)[`.]")
 LINK = re.compile(r"\[(?P<text>[^\]]*)\]\((?P<path>[^)#\s]*)(?:#(?P<anchor>[^)\s]*))?\)")
 DIAGRAM = re.compile(r"```mermaid\n(.*?)```", re.DOTALL)
+FENCED = re.compile(r"^```.*?^```$", re.DOTALL | re.MULTILINE)
+
+# The most bytes of README and of all books, and the most characters of a paragraph and of a cell, without links' targets.
+KIB = 1024
+MOST_README, MOST_BOOKS = 9 * KIB, 230 * KIB
+MOST_PARAGRAPH, MOST_CELL = 720, 300
+# Words that books and comments avoid, with what is said in their place.
+AVOIDED = {
+    r"\bbehind\b": "after, past, below",
+    r"\bso many\b": "this many, as many as, N",
+    r"\b(?:is|are|was|were|be) told\b": "reported, printed, shown, known",
+    r"\bwhere that is asked\b": "with the option",
+    r"\b(?:goes|go|going|went) by\b": "uses, follows, depends on",
+    r"\bstands (?:still|there|here|so)\b": "is",
+    r"(?<![\w.]) but for\b": "except",
+}
+# Sentences that begin with a clause in place of a subject. A question may.
+CLAUSE_FIRST = re.compile(r"(?:^|[.:;] |^- |^\d+\. |\| )(?:\*\*)?(?:What|Who|Whoever)\b(?![^.|:;]*[?])")
 
 
 def names_of(path):
@@ -40,7 +60,7 @@ def names_of(path):
 
 
 class Judge:
-    """What was looked at, and what was wrong."""
+    """The count of what was right, and each wrong thing."""
 
     def __init__(self):
         self.passed, self.wrong = 0, []
@@ -73,9 +93,9 @@ class Judge:
                 self.look(target.exists(), where, f"{found['path']} isn't there")
                 if found["anchor"] and target.is_file():
                     self.look(found["anchor"] in anchors_of(target), where, f"no heading {found['anchor']} there")
-                name = found["text"].strip("`")
-                if target.suffix in (".rt", ".antt") and target.is_file() and name != target.name:
-                    self.look(name in names_of(target), where, f"{name} isn't in {found['path']}")
+                for name in found["text"].replace("`", "").split(", "):
+                    if target.suffix in (".rt", ".antt") and target.is_file() and name != target.name:
+                        self.look(name in names_of(target), where, f"{name} isn't in {found['path']}")
 
     def diagrams(self, path):
         """Look whether each diagram has arrows."""
@@ -87,6 +107,51 @@ class Judge:
         for number, line in enumerate(text_of(path).split("\n"), 1):
             for name in SEVERAL_WORDS.findall(line):
                 self.look(name in self.names, f"{path.relative_to(ROOT)}:{number}", f"{name} is nowhere")
+
+    def wording(self, path):
+        """Look for words that are avoided, sentences that begin with a clause, and what is too long, outside of blocks."""
+        text = FENCED.sub(lambda it: re.sub(r"[^\n]", "", it[0]), text_of(path))
+        for number, line in enumerate(text.split("\n"), 1):
+            where, words = f"{path.relative_to(ROOT)}:{number}", re.sub(r"\]\([^)]*\)", "]", line)
+            plain = re.sub(r"`[^`]*`", "`x`", words)
+            for avoided, better in AVOIDED.items():
+                found = re.search(avoided, plain)
+                self.look(not found, where, f"{found and found[0]!r}, better: {better}")
+            is_heading = line.startswith("#")
+            self.look(is_heading or not CLAUSE_FIRST.search(plain), where, "it begins with a clause in place of a subject")
+            if line.startswith("|"):
+                longest = max(map(len, words.split("|")))
+                self.look(longest <= MOST_CELL, where, f"a cell of {longest} characters")
+            else:
+                self.look(len(words) <= MOST_PARAGRAPH, where, f"a paragraph of {len(words)} characters")
+
+    def glossary(self, path, books):
+        """Look whether each term of the glossary has one row alone, and is used in another book."""
+        usual, _, ours = text_of(path).partition("\n| word | meaning |\n|---|---|\n")
+        terms = re.findall(r"(?<!\*)\*([a-z][a-z -]*)\*(?!\*)", usual)
+        terms += [term for row in ours.strip().split("\n") for term in row.split("|")[1].strip(" `").split(", ")]
+        others = "\n".join(text_of(book) for book in books if book != path)
+        for term in sorted(set(terms)):
+            self.look(terms.count(term) == 1, path.relative_to(ROOT), f"{term} has several rows")
+            self.look(re.search(rf"\b{term}", others, re.IGNORECASE), path.relative_to(ROOT), f"{term} is used nowhere")
+
+    def walks(self, path):
+        """Look whether each function of a walk names one before it in the walk, or is named by one."""
+        walk = []
+        for number, line in enumerate(text_of(path).split("\n"), 1):
+            steps = re.findall(r"\[(`[\w`, ]+`)\]\((\S+\.rt)\)", line) if re.match(r"\d+\. \[`", line) else []
+            walk = walk if steps and not line.startswith("1.") else []
+            for name, file in ((name, file) for names, file in steps for name in re.findall(r"\w+", names)):
+                text = body_of((path.parent / file).resolve(), name)
+                is_joined = any(re.search(rf"\b{name}\b", its) or re.search(rf"\b{other}\b", text) for other, its in walk)
+                self.look(is_joined or not walk, f"{path.relative_to(ROOT)}:{number}", f"{name} isn't on the way")
+                walk.append((name, text))
+
+    def lengths(self, readme, books):
+        """Look whether README and all books are short enough."""
+        of_readme, of_all = len(text_of(readme).encode()), sum(len(text_of(path).encode()) for path in books)
+        self.look(of_readme <= MOST_README, readme.name, f"{of_readme} bytes, over {MOST_README}")
+        self.look(of_all <= MOST_BOOKS, "README and docs", f"{of_all} bytes, over {MOST_BOOKS}")
 
     def promises(self, path):
         """Look whether each promise of README names what carries it, and whether that is there with a contract."""
@@ -111,6 +176,13 @@ class Judge:
             self.look(is_begun, path.relative_to(ROOT), f"{name} can't be begun")
 
 
+def body_of(path, name):
+    """Give the texts of the functions of a name in a file, without their names."""
+    file = File(CRATES, path)
+    parts = [it for it in file.parts if it.kind == "fn" and it.name == name]
+    return "\n".join(file.text[it.start:it.end].partition(f"fn {name}")[2] for it in parts)
+
+
 def anchors_of(path):
     """Give the names by which the headings of a document are linked to."""
     found = set()
@@ -130,6 +202,10 @@ def main():
         judge.links(path)
         judge.words(path)
         judge.diagrams(path)
+        judge.wording(path)
+    judge.lengths(documents[0], documents)
+    judge.walks(ROOT / "docs" / "TOUR.md")
+    judge.glossary(ROOT / "docs" / "GLOSSARY.md", documents)
     about = re.search(r'ABOUT: &str = "\\\n(.*?)";', text_of(CRATES / "dali_job" / "src" / "usages.rt"), re.DOTALL)
     said = re.sub(r"\\\n", "", about[1])
     judge.look(said in text_of(ROOT / "README.md").replace("`", ""), "README.md", f"it doesn't say, as the help: {said}")

@@ -3,8 +3,8 @@
 
     test_examples.py PROGRAM ROOM    PROGRAM is what the launcher starts, ROOM has refuse_alloc.so
 
-A run with a refused allocation ends as want of memory, or as the case says where it could do with less; the last run, of
-which none is refused, as the case says. The last line is `N passed, M failed`.
+A run with a refused allocation ends as want of memory, or as the case says if it can do without; the last run, in which
+none is refused, ends as the case says. The last line is `N passed, M failed`.
 """
 
 import concurrent.futures
@@ -17,7 +17,8 @@ import tempfile
 from cases import ROOT, all_cases
 
 # The cases whose allocations are refused.
-SWEPT = ("gtin", "full", "show_bank", "frame_dtr0", "run_gtin", "run_left", "run_full", "run_stop", "journal_left")
+SWEPT = ("gtin", "full", "show_bank", "frame_dtr0", "fields", "run_gtin", "run_left", "run_full", "run_stop",
+         "journal_left")
 
 
 def ran(program, case, room, **environment):
@@ -61,11 +62,12 @@ def main(arguments):
     with tempfile.TemporaryDirectory() as room, concurrent.futures.ThreadPoolExecutor(os.cpu_count()) as pool:
         swept = [it for it in cases if it.name in SWEPT]
         runs = [(it.name, pool.submit(fault_without_memory, program, it, room, shims)) for it in swept]
-        # One behind the other, since some go on from the journals of those before them.
+        # One after the other, since some go on from the journals of those before them.
         faults = [(it.name, fault_of(it, room)) for it in cases]
         faults += [(f"{name} without memory", it.result()) for name, it in runs]
     used = {word for case in cases for word in case.words}
-    inputs = [it.relative_to(ROOT).as_posix() for it in sorted((ROOT / "examples").glob("*.json"))]
+    inputs = [it.relative_to(ROOT).as_posix() for it in sorted((ROOT / "examples").glob("*.json"))
+              if it.name != "orders.schema.json"]
     faults += [(it, None if it in used else "no case runs on it") for it in inputs]
     failed = [(name, fault) for name, fault in faults if fault]
     for name, fault in failed:

@@ -128,7 +128,7 @@ dali_file_commands frame(Global, &str, &mut W) -> Status
 dali_link_commands drive_files(&R, &str, &str, u64, &mut I, &mut L, &mut O) -> Status
 """
 FORM = re.compile(r"(?P<crate>\w+) (?P<form>(?:(?:enum|struct) )?(?P<name>[\w:]+).*)")
-# What is left out of a form: lifetimes, and how many bytes a record may have, as a name.
+# Parts that are left out of a form: lifetimes, and how many bytes a record may have, as a name.
 LEFT_OUT = [(r"'\w+ ?", ""), (r"<_?>", ""), (r"\bMOST_BYTES\b", "249"), (r"\s+", " ")]
 
 

@@ -1,5 +1,5 @@
 #!/usr/bin/env python3
-"""Test `check --journal`: what it tells of orders beside journals made by hand, and that a drive then replies so.
+"""Test `check --journal`: its words on orders, over journals made by hand, and that a drive then replies so.
 
     test_known.py [PROGRAM [FOLDER]]
 
@@ -58,7 +58,7 @@ def numbered(number, unit=5):
 
 
 def item(number, order, word):
-    """Give the lines of an accepted item with the GTIN, behind which the journal's word stands."""
+    """Give the lines of an accepted item with the GTIN, after which the journal's word comes."""
     return f"item {number} order {order['order']} unit {order['unit']} bytes 6\n{UPDATES}{word}\n"
 
 
@@ -99,10 +99,10 @@ def wants(folder, words, free, orders, journal, *older):
 
 
 class WordsTest(BenchTest):
-    """The words that are told."""
+    """The words on each order."""
 
     def test_each_word_in_both_versions(self):
-        """A table of journals with one order of number 1, and what is told of an order."""
+        """A table of journals with one order of number 1, and the words on an order."""
         rows = [
             (DONE_JOURNAL, PRESENT, "known kept 0 Done"),
             (ABSENT_JOURNAL, ABSENT, "known kept 3 Silent"),
@@ -129,7 +129,7 @@ class WordsTest(BenchTest):
             self.assertEqual((status, "\nknown reused\naccepted 1 refused 0\nfree 2\n" in lines, words), (0, True, ""))
 
     def test_each_code(self):
-        """An order that ended with each code that there is, with a unit closed behind it where one was left."""
+        """An order that ended with each code that there is, and its unit closed after it, if that was left."""
         for code, name in enumerate(NAMES):
             journal = HEADER + ended(1, code, opened=name in ("Done", "Doubt", "DoubtOpen"))
             wants(self.folder, [f"known kept {code} {name}"], 2, PRESENT, journal)
@@ -143,7 +143,7 @@ class WordsTest(BenchTest):
         wants(self.folder, [closed, closed, "new"], 3, orders, both + b"C\x05")
         wants(self.folder, [closed, closed, "known begun"], 4, orders, both + b"C\x05" + ended(3, 0)[:-4])
         wants(self.folder, [closed, closed, "known kept 0 Done"], 4, orders, both + b"C\x05" + ended(3, 0))
-        # One that ended otherwise isn't told so, whatever was closed behind it.
+        # One that ended otherwise isn't shown as closed, whatever was closed after it.
         wants(self.folder, ["known kept 4 Doubt", closed, "new"], 3, orders,
               HEADER + ended(1, 4) + ended(2, 5) + b"C\x05")
 
@@ -179,7 +179,7 @@ class WordsTest(BenchTest):
         self.assertEqual(words.startswith("item 1 order 5: unit: the number 64"), True)
 
     def test_notes_stay(self):
-        """That an earlier item has the number is told as without a journal; each is held beside the journal alone."""
+        """An earlier item with a number is reported as without a journal; each is compared with the journal alone."""
         orders = [numbered(2), numbered(2, 6)]
         status, lines, words = asked(self.folder, orders, DONE_JOURNAL)
         self.assertEqual((status, lines), (0, told(orders, ["new", "new"], 2)))
@@ -237,7 +237,7 @@ class OlderTest(BenchTest):
                              (2, "fault 21 File\n", f"error: the older journal can't be used: {path}: {words}\n"))
 
     def test_a_number_in_common_with_an_older_one(self):
-        """The journal's own name is told, as by a drive."""
+        """The journal's own name is printed, as by a drive."""
         common = f"error: order 1 stands in two journals: {self.folder / 'bench.journal'}, and an older one\n"
         for journal in (DONE_JOURNAL, ABSENT_JOURNAL, OLD_ABSENT_BEGAN):
             self.assertEqual(asked(self.folder, PRESENT, journal, DONE_JOURNAL), (1, "fault 15 Older\n", common))
@@ -283,7 +283,7 @@ class UnusedTest(BenchTest):
         self.assertEqual(ended, (2, "fault 21 File\n", f"error: the journal can't be used: -: {MISSING}\n"))
 
     def test_the_orders_are_told_as_without_a_journal(self):
-        """What is wrong with the orders as a whole stands as before, and the journal is read first."""
+        """A fault of the orders as a whole is reported as before, and the journal is read first."""
         (self.folder / "bench.journal").write_bytes(DONE_JOURNAL)
         for given, line in ((b"{", "fault 11 Json"), (b"{}", "fault 12 Document")):
             status, lines, words = run(["-", "--journal", self.folder / "bench.journal"], given)
@@ -321,7 +321,7 @@ def first_reply(desk, number):
 
 
 class RepliesTest(BenchTest):
-    """What a drive then replies."""
+    """The replies of a drive on the same orders."""
 
     def test_a_drive_replies_so(self):
         """Each word is what `drive` replies first to the order by itself; what is kept or refused sends nothing."""
@@ -347,7 +347,7 @@ class RepliesTest(BenchTest):
             wants(self.folder, ["known kept 0 Done"], 2, PRESENT, (self.folder / "bench.journal").read_bytes())
 
     def test_a_drive_behind_older_ones_replies_so(self):
-        """The same behind an older journal."""
+        """The same with an older journal."""
         for order, word, due in ((numbered(1), "known kept 0 Done", "kept 0 Done"),
                                  (numbered(1, 6), "known reused", "reused"), (numbered(2), "new", "taken")):
             wants(self.folder, [word], 2, [order], HEADER, DONE_JOURNAL)
@@ -356,7 +356,7 @@ class RepliesTest(BenchTest):
             self.assertEqual(first_reply(desk, order["order"])[1], due)
 
     def test_after_a_drive_all_is_known(self):
-        """What a drive has done is known to the next check, and the free number is above it."""
+        """The orders of a drive are known to the next check, and the free number is above them."""
         desk = desk_of(self.folder, ABSENT)
         self.assertEqual(desk.give(SILENCE).status, 0)
         wants(self.folder, ["known kept 3 Silent"], 2, ABSENT, desk.held())

@@ -3,7 +3,7 @@
 
     test_largest.py PROGRAM
 
-What is wanted is counted from the requirements, and never taken from the program. The last line is `N passed, M
+The results due are counted from the requirements, and never taken from the program. The last line is `N passed, M
 failed`, and the status is 0 only where none failed.
 """
 
@@ -13,6 +13,10 @@ import struct
 import subprocess
 import sys
 import tempfile
+
+sys.dont_write_bytecode = True
+
+from driven import FIELDS  # noqa: E402
 
 MOST_ORDERS = 100000
 MOST_EVENTS = 20000
@@ -59,19 +63,18 @@ def gtin_order(number, unit):
 
 def largest_order(number):
     """Give an order of all fourteen fields, with the longest texts: 115 updates."""
-    return {**gtin_order(number, 5), "identification": "0123456789abcdef", "year": 99, "week": 53,
-            "input_power": 65534, "min_dim_power": 65534, "min_voltage": 65534, "max_voltage": 65534,
-            "light_output": 16777214, "cri": 100, "cct": 65533, "distribution": 254, "colour": "c" * 24,
-            "luminaire": "l" * 60}
+    most = {it["key"]: it["most"] if it["form"] == "number" else it["key"][0] * it["most"]
+            for it in FIELDS if it["most"]}
+    return {**gtin_order(number, 5), "identification": "0123456789abcdef", **most}
 
 
 def filled(text, most):
-    """Give the JSON text with spaces behind it, as long as an input may be."""
+    """Give the JSON text with spaces after it, as long as an input may be."""
     return text.encode().ljust(most)
 
 
 def carried_out(number, unit, frames, code):
-    """Give what is told of an order of a GTIN that is opened: seven frames look, so many follow."""
+    """Give the lines of an order of a GTIN that is opened: seven frames look, and `frames` follow."""
     return [f"ask {number}", f"reply {number} taken", f"keep B order {number} unit {unit} at 0 bytes 6", "frames 7",
             f"keep O unit {unit}", f"frames {frames}", f"keep E {code}", f"reply {number} kept {code}"]
 
@@ -121,7 +124,7 @@ def test_submissions(program, _room):
 
 
 def test_absent(program, _room):
-    """As many orders of 115 updates as the events let end, and stops behind them.
+    """As many orders of 115 updates as the events let end, and stops after them.
 
     A unit that isn't there takes 16 frames, two records and a saying. The record of the last order is cut off, so that
     order is forgotten, and the next stop comes where nothing is due; then the first order has its kept reply.
@@ -240,16 +243,14 @@ def test_drive_upgrades(program, room):
 
 def test_bank(program, _room):
     """The longest text of the longest bank."""
-    names = ("gtin", "identification", "year", "week", "input_power", "min_dim_power", "min_voltage", "max_voltage",
-             "light_output", "cri", "cct", "distribution", "colour", "luminaire")
-    rows = [f"{name} unknown" for name in names]
+    rows = [f"{it['key']} unknown" for it in FIELDS]
     wanted = ["last FE", "indicator FF", "lock FF", *rows[:2], "format FFFF", *rows[2:]]
     given = LARGEST_BANK.hex(" ").encode().ljust(4096)
     return differs("a bank of 255 bytes", (0, text_of(wanted), b""), run(program, ["show", "-"], given))
 
 
 def test_texts_of_banks(program, _room):
-    """The limits of a bank's text and of its bytes: which of two stands is told by the order of the tests."""
+    """The limits of a bank's text and of its bytes: the order of the tests says which of the two is reported."""
     cases = [(b" " * 4096, 0, None), (b"0" * 510, 0, None), (b" " * 4097, 1, b"fault 13 TooBig\n"),
              (b"0" * 512, 1, b"fault 13 TooBig\n"), (b"g" * 4097, 1, b"fault 13 TooBig\n"), (b"0" * 513, 1, b"fault 14 Hex\n")]
     for given, status, line in cases:

@@ -25,15 +25,15 @@ sys.dont_write_bytecode = True
 import beside  # noqa: E402
 from base import BenchTest, settings, want  # noqa: E402
 from driven import ROOT, simulated_link  # noqa: E402
-from test_service import ALL, FIRST, LAST, UNITS, WEEK, YEAR, Instance  # noqa: E402
+from service_fixtures import ALL, FIRST, LAST, UNITS, WEEK, YEAR, Instance  # noqa: E402
 
 ADAPTER = ROOT / "tests" / "line_adapter.py"
 SEED = 20261128
 LUMINAIRES, MOST_AT_ONCE, KILLS, PLUGS = 220, 3, 45, 12
-MINUTE = 0.3  # in the place of the minute behind which a line without a reply is sent again
+MINUTE = 0.3  # in the place of the minute after which a line without a reply is sent again
 PATIENCE = 200
 REPLY = re.compile(r"reply (\d+) (taken|kept (\d) (\w+)|reused|full|blocked (\d+))")
-# What a kill may leave of a line, or break off.
+# Lines that a kill may cut, or that tell of one.
 DEBRIS = re.compile("item [0-9]+ fault (9 Shape|11 Json)")
 BROKEN = re.compile("(drive fault (2 Link|4 End)|error: the (frames can't be written|answers can't be read|interface is"
                     " gone|journal is in use).*|fault 21 File)")
@@ -46,7 +46,8 @@ class Killed(BaseException):
 class LineComputer:
     """Brings the orders of luminaires to a bus, by the rules of BENCH alone.
 
-    Its file has a line of JSON for each order that it keeps, and for each end of one. Whoever makes it anew has that.
+    Its file has a line of JSON for each order that it keeps, and for each end of one. A line computer that is made anew
+    has that.
     """
 
     def __init__(self, instance, chance, counts):
@@ -287,7 +288,7 @@ def judge(instance, wanted):
 
 
 def judge_told(instance):
-    """Raise unless what was told is replies that go with the journal, debris of kills, and why a drive broke off."""
+    """Raise unless each line is a reply that goes with the journal, debris of a kill, or why a drive broke off."""
     replies = collections.Counter()
     for line in instance.told():
         known = REPLY.fullmatch(line)

@@ -3,10 +3,9 @@
 
     test_line_computer.py [PROGRAM [FOLDER]]
 
-PROGRAM and FOLDER are as of test_drive.py. What is over PostgreSQL is tested where that and psycopg2 are installed
-(Debian: postgresql, python3-psycopg2), in a server of the test's own, and what a browser shows where chromium is; where
-they aren't, a line says so that begins with `skipped`. The last line is `N passed, M failed`, and the status is 0 only
-where none failed.
+PROGRAM and FOLDER are as of test_drive.py. The tests over PostgreSQL, in a server of their own, need it and psycopg2
+(Debian: postgresql, python3-psycopg2), and those of a browser chromium; without them a line that begins with `skipped`
+names each. The last line is `N passed, M failed`, and the status is 0 only where none failed.
 """
 
 import sys

@@ -18,7 +18,7 @@ sys.dont_write_bytecode = True
 import beside  # noqa: E402
 from base import BenchTest, settings, want  # noqa: E402
 from drive_desk import DONE_JOURNAL, DONE_TOLD, PRESENT, desk_of  # noqa: E402
-from drive_report import blank_bus  # noqa: E402
+from drive_fixtures import blank_bus  # noqa: E402
 from driven import HEADER, Desk, Following  # noqa: E402
 
 PATIENCE = 20
@@ -33,7 +33,7 @@ IS_BANK = "the input is hexadecimal digits, as the text of a bank, which `show` 
 IS_SCENARIO = "the input is an object with events, which `run` takes, and orders are an array"
 IS_TABLE = "the input is a table, as CSV, and has to be JSON: make orders of it by orders_from_csv"
 IS_ORDER = "the input is one order, and orders are an array: it stands between [ and ]"
-# What stands where ORDERS should: what `drive` and `verify` tell of it, and what `check` says that it is.
+# Other files in the place of ORDERS: the last line of `drive` and `verify`, and what `check` says that it is.
 AS_ORDERS = {
     "a comma too many": (b'[{"order": 1,}]', "fault 11 Json",
                          "line 1 column 14: the comma before this bracket is one too many"),
@@ -44,7 +44,7 @@ AS_ORDERS = {
     "a scenario": (SCENARIO, "fault 12 Document", IS_SCENARIO),
     "one order": (ORDERS[1:-1], "fault 12 Document", IS_ORDER),
 }
-# What stands where JOURNAL should: what `drive` tells of it, and what `check` says that it is.
+# Other files in the place of JOURNAL: the last line of `drive`, and what `check` says that it is.
 NO_JOURNAL = "journal fault 3 Record at 0"
 AS_JOURNAL = {
     "orders": (ORDERS, NO_JOURNAL, "accepted 1 refused 0"),
@@ -53,7 +53,7 @@ AS_JOURNAL = {
     "a scenario": (SCENARIO, NO_JOURNAL, IS_SCENARIO),
     "a journal of another version": (b"DB1\x03", "journal fault 7 Header", None),
 }
-# Lines of a stream that aren't one order each, and what is told of them.
+# Lines of a stream that aren't one order each, and the replies to them.
 PRETTY = json.dumps(PRESENT[0], indent=2)
 AS_LINES = {
     "an array": (json.dumps(PRESENT), ["item 1 fault 9 Shape"]),
@@ -127,7 +127,7 @@ def watched(kind, folder, orders, journal=None, **options):
 
 
 class WatchedTest(BenchTest):
-    """What a person who watches is told behind the lines that programs read."""
+    """The lines for a person who watches, after those that programs read."""
 
     def test_another_file_in_the_place_of_orders(self):
         for name, (data, line, meaning) in AS_ORDERS.items():

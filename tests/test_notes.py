@@ -35,7 +35,7 @@ A_BANK = "the input is hexadecimal digits, as the text of a bank, which `show` t
 AN_ARRAY = "the input is an array of JSON, as orders are, which `check` takes"
 AN_OBJECT = "the input is an object of JSON, as a scenario is, which `run` takes"
 NO_BANK = "and the bytes of a bank are hexadecimal digits"
-# What stands behind what is wrong with an input of `show` or `journal`.
+# The last line on a wrong input of `show` or `journal`.
 REFUSES = "error: the input is refused: standard input"
 # A journal of version 2 with one record, that order 1 of unit 5 begins with one update, and one of version 1.
 BEGAN = bytes.fromhex("42 0000000000000001 0000000000000000 05 01 13 18")
@@ -56,7 +56,7 @@ CURLY = "here stands a curly quote, as of a word processor, and JSON has straigh
 NO_NUMBER = "here stands a number that is none, as NaN, and JSON has none such: null writes a field as unknown"
 PYTHON = "here stands a word of Python, as None, and JSON has null, true and false"
 ADDRESS = "and a short address is 0 to 63"
-# Two refused orders with two mistakes each, and a sound one between them; and what is told of each.
+# Two refused orders with two mistakes each, and a sound one between them; and the lines on each.
 REFUSED = (b'[{"order": 7, "unit": 5, "yeer": 1, "week": 54}, {"order": 8, "unit": 5, "year": 1},'
            b' {"order": 18446744073709551615, "unit": 64, "year": 100}]')
 REFUSED_FIRST = [
@@ -68,10 +68,10 @@ REFUSED_THIRD = [
     f"item 3 order 18446744073709551615: year: the number 100, and it is {YEAR}",
 ]
 
-# Mistakes in one item: what stands behind its number 6 and its unit 5, and the lines behind `item 1 order 6: `.
+# Mistakes in one item: its text after its number 6 and its unit 5, and the lines without their `item 1 order 6: `.
 ITEMS = [
     ('"gtin": 4006381333931', [f"gtin: the number 4006381333931, and it is {GTIN}"]),
-    # (GS1: behind 400638133393 the check digit is 1, and behind 40063813339 it is 0)
+    # (GS1: after 400638133393 the check digit is 1, and after 40063813339 it is 0)
     ('"gtin": "4006381333932"', [
         f'gtin: the text "4006381333932", and it is {GTIN}; its check digit is 2, and would be 1',
     ]),
@@ -333,7 +333,7 @@ INPUTS = [
     ("journal", HEADER + BEGAN + b"E", []),
 ]
 
-# Arguments of `frame` that are no word, and what is told of each.
+# Arguments of `frame` that are no word, and the message for each.
 WORDS = [
     ("A30", "it has 3 hexadecimal digits, and a word is four"),
     ("A3030", "it has 5 hexadecimal digits, and a word is four"),
@@ -343,14 +343,14 @@ WORDS = [
     ("A3 0", 'its character 3 is " ", and a word is four hexadecimal digits'),
 ]
 
-# What stands behind a wrong moment, and the tip behind an option that a command doesn't have.
+# The line after a wrong moment, and the tip after an option that a command doesn't have.
 A_MOMENT = "A moment is a whole number from 0 to 18446744073709551615, as the clock's seconds: --moment $(date +%s)"
 HELP = "  tip: dali_bench {} --help tells what it takes"
 
-# What stands behind a wrong unit of `read`.
+# The line after a wrong unit of `read`.
 A_UNIT = "UNIT, 0 to 63, comes first, then HEXFILE"
 
-# Wrong command lines: their words, and lines that are told of them.
+# Wrong command lines: their words, and lines of the message.
 COMMAND_LINES = [
     (["drive", "--moment", "now", "o", "j"], ["error: invalid value 'now' for '--moment <M>': invalid digit found in"
                                               " string", A_MOMENT]),
@@ -457,7 +457,7 @@ def fails_at_a_terminal(program):
 
 
 def fails_on_many(program):
-    """Give what is wrong where more than a thousand lines could be told, of many items or of one."""
+    """Give what is wrong if more than a thousand lines could be printed, of many items or of one."""
     told = "item {0}: the number 7, and an order is an object with order, unit and fields"
     items = run(program, "check", f"[{','.join(1002 * ['7'])}]".encode())
     wanted = [told.format(it) for it in range(1, 1001)] + [LEFT_OUT]
@@ -487,7 +487,7 @@ def fails_on_readers(program):
 
 
 def fails_on_words(program):
-    """Give what is wrong with what is told of words that the command line doesn't take."""
+    """Give what is wrong with the messages for words that the command line doesn't take."""
     for word, told in WORDS:
         ended = subprocess.run([program, "frame", "--", word], capture_output=True, timeout=60)
         wanted = (1, b"fault 14 Hex\n", f'the argument "{word}": {told}\n')
@@ -499,7 +499,7 @@ def fails_on_words(program):
 
 
 def fails_on_command_lines(program):
-    """Give what is wrong with what is told of command lines that are none."""
+    """Give what is wrong with the messages for command lines that are none."""
     for words, wanted in COMMAND_LINES:
         ended = subprocess.run([program, *words], stdin=subprocess.DEVNULL, capture_output=True, timeout=60)
         lines = ended.stderr.decode().splitlines()

@@ -3,8 +3,8 @@
 
     test_package.py [PROGRAM [FOLDER]]
 
-PROGRAM and FOLDER are as of test_release.py. What can't be tested on this machine has a line that begins with
-`skipped`. The last line is `N passed, M failed`, and the status is 0 only where none failed.
+PROGRAM and FOLDER are as of test_release.py. A line that begins with `skipped` names each test that this machine can't
+run. The last line is `N passed, M failed`, and the status is 0 only where none failed.
 """
 
 import os
@@ -21,8 +21,7 @@ sys.dont_write_bytecode = True
 import beside  # noqa: E402
 from base import BenchTest, settings, want  # noqa: E402
 from driven import ROOT  # noqa: E402
-from test_bench import run_commands  # noqa: E402
-from test_release import RELEASE, made, run, unpacked  # noqa: E402
+from release_fixtures import RELEASE, made, run, run_commands, unpacked  # noqa: E402
 
 HOME = "usr/lib/dali-bench"
 # Seconds in which a Debian has to be there to install into, and a package to be installed.
@@ -109,7 +108,7 @@ class PackageTest(BenchTest):
         self.assertEqual(completions.read_text(), (top / "completions.bash").read_text())
         self.assertEqual([str(it.relative_to(root)) for it in root.rglob("*") if it.is_symlink() and not it.exists()],
                          [])
-        # What a service starts is there, and what SETUP.md names.
+        # The programs that a service starts are there, and the files that SETUP.md names.
         units = sorted((root / "usr/lib/systemd/system").iterdir())
         self.assertEqual([it.name for it in units],
                          ["dali-bench-page.service", "dali-bench-pipe@.service", "dali-bench@.service"])
@@ -118,7 +117,7 @@ class PackageTest(BenchTest):
         named = set(re.findall(r"/(usr/[\w./@-]+\w)", text))
         self.assertEqual((len(named) > 6, [it for it in named if not (root / it).exists()]), (True, []))
         assert "/opt/" not in "".join(it.read_text() for it in units)
-        # Who may open an interface over HID, and how it is called.
+        # The group that may open an interface over HID.
         rules = (root / "usr/lib/udev/rules.d/60-dali-bench.rules").read_text()
         self.assertEqual(re.findall('GROUP="([^"]*)", MODE="([^"]*)"', rules), [("dali-bench", "0660")] * 2)
 

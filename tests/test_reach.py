@@ -1,6 +1,6 @@
 #!/usr/bin/env python3
-"""Test what `believe` finds that contracts reach, `unused` that nothing uses, and `where` of a rule, in a repository made
-for it.
+"""Test `believe` (what contracts reach), `unused` (what nothing uses) and `where` (where a rule is), in a repository
+made for it.
 """
 
 import pathlib
@@ -216,18 +216,37 @@ PROMISES = """# Promises
 
 ## What has to be believed
 
-| set | contracts | most lines |
-|---|---|---|
-| the law | `top::main::law` | 11 |
-| all | `the law`, `top::parts` | {limit} |
+At most as many lines as `believed.txt` has.
+"""
+BELIEVED = """# sets
 
-## Others
+11 the law
+    top::main::law
 
-| other | `nothing::at::all` | 1 |
+13 all
+    : the law
+    top::parts
+"""
+TRIED = """// How often a thing
+// is tried.
+const MOST_TRIES: u32 = 20_000;
+"""
+TOOL = """#!/usr/bin/env python3
+# Tries before it gives up.
+PATIENCE = 3
+
+
+def gives_up(tries):
+    \"\"\"Tell whether it gives up.
+
+    That is so after the last try.
+    \"\"\"
+    return tries > PATIENCE
 """
 EXCEPTIONS = {
     ("top/proofs/TopLemmas.antt", "kept"): "it calls what only it calls",
     ("top/src/parts.rt", "kept_too"): "a bench calls it",
+    ("top/src/tried.rt", "MOST_TRIES"): "a bench tries",
 }
 UNUSED = [
     "low/specs/Base.antt:22 hidden",
@@ -255,7 +274,10 @@ FILES = {
     "crates/top_tests/src/lib.rt": TESTS,
     "crates/top/wrong-bodies/parts.edits": EDITS,
     "crates/top/wrong-bodies/Top.edits": LINE_EDIT,
-    "docs/PROMISES.md": PROMISES.format(limit=13),
+    "docs/PROMISES.md": PROMISES,
+    "crates/top/src/tried.rt": TRIED,
+    "tools/tried": TOOL,
+    "believed.txt": BELIEVED,
 }
 
 
@@ -301,13 +323,15 @@ def outcomes_of_believe(root):
     yield "no words", ran(root, "believe") == (2, [])
     status, told = ran(root, "believe", "--limits")
     yield "sets within their limits", status == 0 and told[-1] == "2 passed, 0 failed"
-    changed(root, "docs/PROMISES.md", "| 13 |", "| 10 |")
+    changed(root, "believed.txt", "13 all", "10 all")
     status, told = ran(root, "believe", "--limits")
     failed = "FAILED: all reaches 11 lines of definitions, and may reach 10"
     yield "a set that grew", status == 1 and failed in told and told[-1] == "1 passed, 1 failed"
-    changed(root, "docs/PROMISES.md", "| 10 |", "| some |")
-    yield "a row without a limit", ran(root, "believe", "--limits") == (2, [])
-    changed(root, "docs/PROMISES.md", "## What has", "## What had")
+    changed(root, "believed.txt", "10 all", "some all")
+    yield "a set without a limit", ran(root, "believe", "--limits") == (2, [])
+    changed(root, "believed.txt", "some all\n    : the law", "10 all\n    : another")
+    yield "an earlier set that isn't there", ran(root, "believe", "--limits") == (2, [])
+    (root / "believed.txt").write_text("# sets\n", encoding="utf-8")
     status, told = ran(root, "believe", "--limits")
     yield "no sets", status == 1 and told[-1] == "0 passed, 1 failed"
 
@@ -354,7 +378,18 @@ def outcomes_of_where(root):
     yield "what a test names", "test        crates/top_tests/src/lib.rt:5 only_tested();" in ran(root, "where", "only_tested")[1]
     edits = [f"edit        top/{it}: kinds are weighed" for it in ("another", "weighed_beside_the_code")]
     yield "a rule", ran(root, "where", "kinds", "weighed") == (0, edits)
-    yield "a book", ran(root, "where", "most", "lines") == (0, ["book        docs/PROMISES.md:5: What has to be believed"])
+    yield "a book", ran(root, "where", "most", "lines")[1][0] == "book        docs/PROMISES.md:5: What has to be believed"
+    constant = "crates/top/src/tried.rt:3 MOST_TRIES = 20000"
+    yield "a constant by its value", ran(root, "where", "20000") == (0, [f"constant    {constant}"])
+    yield "a constant by its name", f"constant    {constant}" in ran(root, "where", "MOST_TRIES")[1]
+    function = "python      tools/tried:6 gives_up: Tell whether it gives up."
+    yield "a function in Python", ran(root, "where", "gives_up") == (0, [function])
+    yield "its docstring", ran(root, "where", "after", "last", "try") == (0, [function])
+    patience = "python      tools/tried:3 PATIENCE: Tries before it gives up."
+    yield "a constant in Python", ran(root, "where", "PATIENCE") == (0, [patience])
+    yield "its comment", ran(root, "where", "Tries", "before") == (0, [patience])
+    comment = "comment     crates/top/src/tried.rt:1 How often a thing is tried."
+    yield "a comment", ran(root, "where", "thing", "tried") == (0, [comment])
     yield "nothing", ran(root, "where", "nowhere") == (1, [])
     yield "no words", ran(root, "where") == (2, [])
 

@@ -1,6 +1,6 @@
 #!/usr/bin/env python3
-"""Test who tries wrong bodies, what refuses one in a cycle of calls, which are tried on the whole crate, what is a refusal
-by the function or the fact that an edit names, and which names several functions have.
+"""Test how wrong bodies are tried: how processes share them, cycles of calls, edits that are tried on the whole crate,
+refusals by the function or the fact that an edit names, and names that several functions have.
 """
 
 import importlib.machinery
@@ -14,13 +14,13 @@ import types
 ROOT = pathlib.Path(__file__).resolve().parent.parent
 CRATE = "dali_gear"
 CYCLE = "dali_input"
-# What a check says where the one proof of a cycle of calls isn't admitted.
+# The output of a check if the one proof of a cycle of calls isn't admitted.
 REFUSED = """./proofs/value/+read/Answers.antt:9:5: error: `omega`: the goal does not follow from what is known
 only=2 proved=1
 """
 # A fact of that crate, and where it stands.
 FACT, FACT_FILE = "no_member_is_left_out", "proofs/WorkedItemsLemmas.antt"
-# What a check of one function says, and whether that refuses an edit.
+# The output of a check of one function, and whether that refuses an edit.
 REFUSED_THERE = "refused by a goal"
 OF_ONE = (
     (REFUSED_THERE, "src/value.rt:20:1: it is not proved that what the function ensures holds\nonly=1 proved=0\n", True),

@@ -3,8 +3,8 @@
 
     test_release.py [PROGRAM [FOLDER]]
 
-PROGRAM has to be the one that the launcher starts, and is that where none is given; FOLDER is as of test_drive.py. The
-last line is `N passed, M failed`, and the status is 0 only where none failed.
+PROGRAM has to be the one that the launcher starts, which is the default; FOLDER is as of test_drive.py. The last line
+is `N passed, M failed`, and the status is 0 only where none failed.
 """
 
 import gzip
@@ -25,19 +25,12 @@ import beside  # noqa: E402
 from base import BenchTest, settings, want  # noqa: E402
 from drive_desk import HEADER, NOBODY, PRESENT  # noqa: E402
 from driven import ROOT, Desk  # noqa: E402
-from test_bench import run_commands  # noqa: E402
+from release_fixtures import RELEASE, run, run_commands, unpacked  # noqa: E402
 
-RELEASE = ROOT / "scripts" / "release"
 STAND_IN = '#!/bin/sh\nif [ "$*" = --version ]; then echo "stand-in 1.0"; else echo "ran $*"; fi\n'
 LAUNCHED = ("crates.txt", "HANDLES", "dali_bench", "scripts/built.sh", "scripts/start.sh", "scripts/build",
-            "scripts/crates.py", "scripts/progress.py", "scripts/sums.py")
+            "scripts/crates.py", "scripts/progress.py", "scripts/build_seconds.json", "scripts/sums.py")
 SEEN_BY_ALL = 0o755
-
-
-def run(words, **options):
-    """Run a command, and give its status, its output and its complaint."""
-    ended = subprocess.run(words, stdin=subprocess.DEVNULL, capture_output=True, text=True, timeout=120, **options)
-    return ended.returncode, ended.stdout, ended.stderr
 
 
 def as_nobody(words):
@@ -102,7 +95,7 @@ class LauncherTest(BenchTest):
         count.write_text("")
         self.assertEqual(run([copy / "dali_bench", "a"], env=environment), (0, "ran a\n", ""))
         self.assertEqual(count.read_text(), "")
-        # A change behind the note is seen all the same: nothing is run, since nothing can be built here.
+        # A change of the sources after the note is seen: nothing is run, since nothing can be built here.
         (copy / "crates/dali_bench/src/main").write_text("another")
         few = "/usr/bin:/bin"
         status, output, complaint = run([copy / "dali_bench", "a"], env={**environment, "PATH": few})
@@ -128,7 +121,7 @@ class LauncherTest(BenchTest):
         (root / "crates/dali_bench/out").rmdir()
         complaint = as_nobody([root / "dali_bench", "--version"])[2]
         assert f"write to {root}/crates/dali_bench: its owner" in complaint, complaint
-        # One that is built and may not be run is told in the same words.
+        # One that is built and may not be run gets the same words.
         other = self.folder / "other"
         other.mkdir()
         root = repository(other)
@@ -181,20 +174,6 @@ class LauncherTest(BenchTest):
         self.assertEqual((gone.returncode, gone.stderr), (2, b""))
 
 
-def made(folder):
-    """Make the archive and the package; give their paths."""
-    status, output, complaint = run([RELEASE, folder])
-    want((status, complaint), (0, ""))
-    return [pathlib.Path(line) for line in output.splitlines()]
-
-
-def unpacked(folder):
-    """Make the archive and unpack it; give its folder."""
-    path = made(folder)[0]
-    want(run(["tar", "xzf", path, "-C", folder]), (0, "", ""))
-    return folder / path.name.removesuffix(".tar.gz")
-
-
 class ArchiveTest(BenchTest):
     """The archive, unpacked."""
 
@@ -222,7 +201,7 @@ class ArchiveTest(BenchTest):
         self.assertEqual(run(["sha256sum", "--quiet", "-c", "SHA256SUMS"], cwd=top), (0, "", ""))
         self.assertEqual((top / "program/dali_bench").read_bytes() == settings["program"].read_bytes(), True)
         page = (top / "dali_bench.1").read_text()
-        for command in ("check", "run", "frame", "show", "journal", "drive", "read", "verify", "scan", "address"):
+        for command in "check run frame show journal fields drive read verify scan address".split():
             assert f"\ndali_bench {command}" in page and f"\n.SH {command.upper()}\n" in page, command
         assert "program/dali_bench" in page, page
 
@@ -278,7 +257,7 @@ class ArchiveTest(BenchTest):
     def test_archive_is_enough_for_the_bench(self):
         top = unpacked(self.folder)
         run_commands(top / "docs/BENCH.md", top)
-        # What a service is installed from, and what it starts.
+        # The files that a service is installed from, and those that it starts.
         text = "".join((top / name).read_text() for name in ("docs/BENCH.md", "docs/LINE_COMPUTER.md")) + "".join(
             path.read_text() for path in (top / "service").iterdir())
         named = set(re.findall(r"/opt/dali-bench/([\w./@-]+)", text))

@@ -104,7 +104,7 @@ WIDE = ": one with a separator in it stands in quotes"
 IS_JSON = "line 1: this is JSON, and no table: `dali_bench check` and `drive` take it as it is"
 QUOTES = "a quoted cell isn't closed, or has more behind its closing quote"
 WHOLE = "and it is a whole number"
-# Tables with what is told of each, behind the file's name.
+# Tables with the message for each, after the file's name.
 BAD = (
     (b"", [EMPTY]),
     (MARK, [EMPTY]),
@@ -271,7 +271,7 @@ def checked(table, *options):
 
 
 class CheckTest(BenchTest):
-    """What `check` says of the orders that come out."""
+    """The output of `check` on the orders that come out."""
 
     def test_check_takes_a_full_order(self):
         order = json.loads((ROOT / "examples" / "full.json").read_text())[0]
@@ -305,7 +305,7 @@ class CheckTest(BenchTest):
         self.assertEqual(checked(b"order,unit,gtin\n").stdout, b"accepted 0 refused 0\n")
 
     def test_any_table_comes_back(self):
-        """What is written as a table by chance comes back as the orders that were meant."""
+        """Orders made by chance and written as a table come back as they were."""
         chance = random.Random(1)
         texts = ["", "0", "007", "null ", "a,b;c", 'a "b"', "a\nb", "a\r\nb", " x", "\u00e9\u4e2d", "'", '"', "\t",
                  "1e3"]

@@ -1,5 +1,6 @@
-"""What a person has to do beside an order that isn't done, in a few words. Its home is docs/BENCH.md, "What the last
-reply means", and of what isn't a reply docs/LINE_COMPUTER.md."""
+"""The advice for a person beside an order that isn't done, in a few words. Its home is docs/BENCH.md, "What the last
+reply means", and for what isn't a reply docs/LINE_COMPUTER.md.
+"""
 
 from __future__ import annotations
 

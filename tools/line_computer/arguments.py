@@ -1,4 +1,4 @@
-"""What arguments of the command line are read as. A wrong one is told by the words of the fault."""
+"""The readers of arguments of the command line. A wrong one is refused with the words of the fault."""
 
 from __future__ import annotations
 

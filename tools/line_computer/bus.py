@@ -1,8 +1,9 @@
 """The process of a bus: it has an adapter and a drive, and brings them the orders of the store, one at a time.
 
-It may be killed anywhere. What has to be known afterwards is in the store and in the journal: a line is sent only once
-that is durable in the store, and what was told changes the store in one transaction, so that behind any stop the order
-at hand is sent again and answered from the journal. Where the store is lost, adapter and drive go on with their order.
+It may be killed anywhere. The facts that are needed afterwards are in the store and in the journal: a line is sent only
+once that is durable in the store, and the lines of a drive change the store in one transaction, so that after any stop
+the order at hand is sent again and answered from the journal. If the store is lost, adapter and drive go on with their
+order.
 """
 
 from __future__ import annotations
@@ -23,11 +24,11 @@ from .program import NOT_BEGUN, Program
 from .told import Ready, Replied, Reported, Taken, Told, Trouble, Unaccepted, told_by
 from .work import CHECKED, SHORT, BusState, Work
 
-POLL = 0.05  # seconds between two looks at what is told
+POLL = 0.05  # seconds between two looks at the drive's lines
 IDLE = 0.2  # and at the store, where there is no order
 SHORTEST_WAIT = 0.1
-RESEND = 60  # seconds behind which a line is sent again that no reply came to
-BEGIN = 0.1  # seconds behind the reply `taken` in which a journal gets the order, as a rule
+RESEND = 60  # seconds after which a line is sent again that no reply came to
+BEGIN = 0.1  # seconds after the reply `taken` in which a journal gets the order, as a rule
 SAY = 1  # seconds between two tellings of how far an order is
 SEEN = 10  # and that the process is there
 LOCKED = 2  # seconds for another process of this bus to end
@@ -72,20 +73,20 @@ class BusProcess:
         self._forget()
 
     def _forget(self) -> None:
-        """Know nothing of a drive: it is another one. What wasn't kept is told again from the journal."""
+        """Know nothing of a drive: it is another one. Replies that weren't kept come again from the journal."""
         self.is_ready, self.sent, self.is_taken, self.sent_at = False, None, False, 0.0
         self.said_at = self.look_at = 0.0
         self.order: Optional[Order] = None  # that was sent last
         self.unbegun_at: Optional[float] = None  # when to look whether the journal has it, once the drive has taken it
         # By number how many lines were written that no last reply came to: the drive may still take one of them.
         self.unanswered: collections.Counter = collections.Counter()
-        self.unkept: list[Told] = []  # what was told, and isn't in the store yet
+        self.unkept: list[Told] = []  # replies that aren't in the store yet
         self.reasons: list[str] = []  # words of what may have gone wrong
 
     # The store
 
     def open(self) -> None:
-        """Open the store and lock the bus, before anything is started. What is wrong is told, and ends the process."""
+        """Open the store and lock the bus, before anything is started. A fault is reported, and ends the process."""
         last = time.monotonic() + LOCKED
         self.database = schema.open_store(self.place)
         number = schema.number_of_bus(self.database, self.bus)
@@ -185,7 +186,7 @@ class BusProcess:
         self._say()
 
     def _listen(self, lines: list[str]) -> None:
-        """Keep what was told, and then go by it."""
+        """Keep the drive's lines, and then act on them."""
         self.unkept += [it for it in map(told_by, lines) if it is not None]
         if not self.unkept:
             return
@@ -199,7 +200,7 @@ class BusProcess:
             self._follow(it)
 
     def _show(self, it: Told) -> None:
-        """Show what was told in what the bus says of itself. It may be shown again, where the store was lost."""
+        """Show a line of the drive in the state of the bus. It may be shown again, if the store was lost."""
         self.state.spoke = now()
         if isinstance(it, Ready):
             self.state.state = "ready"
@@ -215,7 +216,7 @@ class BusProcess:
                 self.state.is_well()
 
     def _follow(self, it: Told) -> None:
-        """Do what has to be done behind what was told."""
+        """Do the work that follows from a line of the drive."""
         if isinstance(it, Ready):
             self.is_ready = True
         elif isinstance(it, Taken):
@@ -324,7 +325,7 @@ class BusProcess:
             self.order_waits.begin()
 
     def _look_whether_begun(self) -> None:
-        """Keep that the order at work is begun once the journal has it, which is a while behind the reply `taken`."""
+        """Keep that the order at work is begun once the journal has it, which is a while after the reply `taken`."""
         self.unbegun_at = time.monotonic() + SAY
         try:
             if self._said_of(self.order) not in NOT_BEGUN:

@@ -18,7 +18,7 @@ from .program import NOT_BEGUN, Program
 from .schema import AT_WORK, SENT
 
 POLL = 0.1  # seconds between two looks at what was answered
-SAY = 3  # seconds behind which is told what is waited for
+SAY = 3  # seconds after which it says what it waits for
 CANCELLED = "cancelled"
 
 

@@ -13,7 +13,7 @@ ENDS = {"Done": "done", "Short": "short", "Format": "format", "Silent": "silent"
 PATTERNS = {"short": "M0 2H8M0 6H8", "format": "M2 0V8M6 0V8", "silent": "M0 8L8 0", "doubt": "M0 0L8 8",
             "open": "M0 0L8 8M0 8L8 0", "refused": "M0 4H8", "reused": "M4 0V8"}
 WIDTH, HEIGHT, LEFT, RIGHT, TOP, BOTTOM = 720, 200, 40, 8, 18, 24
-# Of a bus so many of the last orders are shown, a bar for some of them.
+# Of a bus this many of the last orders are shown, a bar for some of them.
 LAST_ORDERS, BARS = 300, 60
 SPARK_WIDTH, SPARK_HEIGHT = 300, 56
 

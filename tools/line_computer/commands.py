@@ -27,11 +27,11 @@ from .program import Program
 from .schema import MIGRATIONS, STATES
 from .station import Choices, Station
 from .station_bus import StationBus
-from .work import SHORT, Work
+from .work import CHECKED, SHORT, Work
 
 ROOT = pathlib.Path(__file__).resolve().parent.parent.parent
 LONGEST_WAIT = 30.0
-WAITED = 5  # seconds behind which a command tells what it waits for
+WAITED = 5  # seconds after which a command says what it waits for
 ABOUT = """Bring orders to the drives of a bench's buses, one at a time, and their ends and labels back.
 
 STORE is the file of an SQLite database (default: orders.db), or postgresql://USER@HOST/DATABASE, which needs psycopg2;
@@ -86,7 +86,7 @@ def on_run(options) -> None:
     process = BusProcess(options.store, options.bus, folder, options.words, Program(options.program),
                          options.longest_wait)
     process.is_until_empty = options.until_empty
-    process.plan = SHORT if options.short_plan else process.plan
+    process.plan = options.plan
     for number in (signal.SIGTERM, signal.SIGINT):
         signal.signal(number, lambda *_: setattr(process, "is_wanted", False))
     process.open()
@@ -99,7 +99,7 @@ def on_station(options) -> None:
     program = Program(options.program)
     bus = StationBus(options.store, options.bus, pathlib.Path(options.folder or options.bus), options.words, program,
                      options.longest_wait)
-    bus.plan = SHORT if options.short_plan else bus.plan
+    bus.plan = options.plan
     choices = Choices(template.read(options.template, options.serial, program), options.address, options.again,
                       put_of_station(options))
     for number in (signal.SIGTERM, signal.SIGINT, signal.SIGHUP):
@@ -183,7 +183,7 @@ def on_labels(options) -> None:
         found = labels.wanted(database, numbers, is_again)
     else:
         found = (labels.all_of if options.all else labels.left)(database, options.bus)
-    # What can't be put out is refused before anything is.
+    # A label that can't be put out is refused before any is.
     texts = [template.of(label) for label in found] if template else []
     if options.take or is_again:
         act = labels.again if is_again else labels.take
@@ -375,6 +375,15 @@ def make_labels(commands) -> None:
                       help="with --take: those of these orders alone")
 
 
+def add_plans(made) -> None:
+    """Add the options that name the plan of a drive."""
+    plans = made.add_mutually_exclusive_group()
+    plans.add_argument("--short-plan", dest="plan", action="store_const", const=SHORT, default=SHORT,
+                       help="have the drive use the short plan, which takes fewer frames (the default)")
+    plans.add_argument("--checked-plan", dest="plan", action="store_const", const=CHECKED,
+                       help="have the drive use the checked plan")
+
+
 def make_bus_commands(commands) -> None:
     """Make the commands that are about buses."""
     bus = {"required": True, "help": "the bus"}
@@ -383,8 +392,7 @@ def make_bus_commands(commands) -> None:
     made.usage = "line_computer run [options] --bus B -- ADAPTER [WORDS..]"
     made.add_argument("--folder", metavar="F", help="where the journal of the bus stands (default: B, in this folder)")
     made.add_argument("--until-empty", action="store_true", help="end once no order of the bus is left")
-    made.add_argument("--short-plan", action="store_true",
-                      help="have the drive go by the short plan, which takes fewer frames")
+    add_plans(made)
     made.add_argument("--longest-wait", metavar="SECONDS", type=seconds_of, default=LONGEST_WAIT,
                       help="the longest time before what failed is tried again (default: 30)")
     make_station(commands, bus)
@@ -421,7 +429,7 @@ def make_station(commands, bus: dict) -> None:
                       help="how a scan spells an identification number: hex or decimal (default: hex)")
     made.add_argument("--address", action="store_true", help="give a new luminaire the template's short address first")
     made.add_argument("--again", action="store_true", help="take scans that were used before, as of a GTIN alone")
-    made.add_argument("--short-plan", action="store_true", help="as of `run`")
+    add_plans(made)
     way = made.add_mutually_exclusive_group()
     way.add_argument("--to", metavar="HOST:PORT", help="send each label to a printer; else it stays in the store")
     way.add_argument("--label-command", metavar="WORDS", type=read_by(words_of),

@@ -1,4 +1,4 @@
-"""The database under the store, behind the same few calls: SQLite, one file, or PostgreSQL, by its URL.
+"""The database under the store, with the same few calls: SQLite, one file, or PostgreSQL, by its URL.
 
 A statement has `?` where a value goes, and is one that both take. A lock goes with the process that has it.
 """
@@ -93,7 +93,7 @@ class Database:
                 self.unlock_label(number)
 
     def commit(self) -> None:
-        """End a transaction: its changes are durable behind it."""
+        """End a transaction: then its changes are durable."""
         self.change("commit")
 
     @contextlib.contextmanager

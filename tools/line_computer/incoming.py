@@ -45,7 +45,7 @@ def orders_of_table(data: bytes, is_latin_1: bool) -> list[dict]:
     try:
         header = next(module.rows_of(module.decoded(data, is_latin_1)), (1, []))[1]
     except module.Wrong:
-        header = ["order"]  # what is wrong is told below
+        header = ["order"]  # the fault is reported below
     is_numbered = "order" in [key.strip(module.BLANKS) for key in header]
     orders, faults = module.orders_of(data, is_latin_1, None if is_numbered else 1)
     if faults:
@@ -58,7 +58,7 @@ def orders_of_table(data: bytes, is_latin_1: bool) -> list[dict]:
 
 
 def orders_of(data: bytes, is_latin_1: bool, program: Program) -> list[dict]:
-    """Give the orders of a file. What is no array of objects is refused with the words of `check`."""
+    """Give the orders of a file. A file that is no array of objects is refused with the words of `check`."""
     if data.startswith(BYTE_ORDER_MARK) and data[3:].lstrip()[:1] in (b"[", b"{"):
         data = data[3:]
     if data.lstrip()[:1] not in (b"[", b"{"):
@@ -74,7 +74,7 @@ def orders_of(data: bytes, is_latin_1: bool, program: Program) -> list[dict]:
 
 
 def without_numbers(words: str, orders: list[dict]) -> str:
-    """Take the numbers out of what is told of orders that have none."""
+    """Take the numbers out of the message on orders that have none."""
 
     def plainly(found: re.Match) -> str:
         """Give the front of a line."""

@@ -106,7 +106,7 @@ def at_rest(folder: pathlib.Path) -> Iterator[None]:
 def want_all_known(database: Database, bus: str, folder: pathlib.Path, program: Program) -> None:
     """Make sure that the journals have each order that this store holds as begun or ended: else one of them is older.
 
-    The orders of a journal that was given up aren't looked for: no drive is told of it.
+    The orders of a journal that was given up aren't looked for: no drive has it.
     """
     begun = set().union(*map(program.begun, paths(database, bus, folder)))
     rows = database.rows("select number from bench_orders where bus = ? and state in ('taken', 'ended') and place not"
@@ -144,8 +144,8 @@ def retire(database: Database, bus: str, folder: pathlib.Path, program: Program)
 def give_up(database: Database, bus: str, folder: pathlib.Path, program: Program, cancels_sent: bool) -> str:
     """Retire the journal of a bus all of whose units have lost their power, so that none is write-enabled.
 
-    No drive is told of it any more. Of the orders that were sent and haven't ended, those that the journal never had
-    are cancelled, and the others end as in doubt; unless that is meant, it is refused. Give the journal's name.
+    No drive has it any more. Of the orders that were sent and haven't ended, those that the journal never had are
+    cancelled, and the others end as in doubt; unless that is meant, it is refused. Give the journal's name.
     """
     want_journal(folder)
     with at_rest(folder):
@@ -190,7 +190,7 @@ def rename(database: Database, bus: str, folder: pathlib.Path, new: list[Order],
     name = f"bench_{place}.journal"
     if (folder / name).exists():
         raise Refused(f"the journal can't be retired: this file is in its way: {folder / name}")
-    # The name is kept before the journal is moved there, so that behind a stop it is moved once more.
+    # The name is kept before the journal is moved there, so that after a stop it is moved once more.
     with database.transaction():
         database.change("insert into bench_journals (bus, place, name, named) values (?, ?, ?, ?)", bus, place, name,
                         int(is_named))

@@ -1,7 +1,7 @@
 """Templates of labels: a text with placeholders, as `{gtin}`, that is filled with what a label has.
 
-What would come out wrong is refused as the template is read: a placeholder that isn't known, or one that stands where
-the text of a label printer's language (ZPL II) can't escape it.
+A placeholder that would come out wrong is refused as the template is read: one that isn't known, or one in a place
+where the text of a label printer's language (ZPL II) can't escape it.
 """
 
 from __future__ import annotations
@@ -18,15 +18,15 @@ from .labels import FIELDS, Label
 from .moments import moment
 
 PLACEHOLDER = re.compile(r"\{([a-z][a-z0-9_]*)\}")
-# What is made of other members, and of which.
+# Members that are made of others, and of which.
 MADE = {"date": ("ended",), "decimal": ("identification",), "gs1": ("gtin", "identification"),
         "gs1_decimal": ("gtin", "identification")}
 NAMES = ("order", "bus", "unit", "reference", "ended", "printed", *FIELDS, *MADE)
 # The GS1 application identifiers of a GTIN, whose length is fixed, so that the next one follows it as it is, and of a
 # serial number of at most 20 characters: sixteen hexadecimal digits, or their number in decimal.
 GTIN, SERIAL = "01", "21"
-# The values in which other characters may stand than digits, letters and those of a moment. They are escaped, and
-# but for the number of the ERP stand in no bar code, each kind of which has its own characters that mean more.
+# The values in which other characters may stand than digits, letters and those of a moment. They are escaped, and except
+# the number of the ERP they stand in no bar code, each kind of which has its own characters that mean more.
 TEXTS, NO_BARS = ("bus", "reference", "colour", "luminaire"), ("bus", "colour", "luminaire")
 END_OF_FIELD = re.compile(r"\^FS", re.IGNORECASE)
 DATA = re.compile(r"\^F[DV]", re.IGNORECASE)
@@ -38,7 +38,7 @@ NO_DIGITS = re.compile("_(?![0-9A-F]{2})", re.IGNORECASE)
 
 
 def in_zpl(text: str) -> str:
-    """Spell a text as the data of a field behind ^FH: what ZPL takes for more than a character by its bytes' digits."""
+    """Spell a text as the data of a field after ^FH, where digits stand for the characters that mean more in ZPL."""
     return "".join(chr(byte) if 0x20 <= byte <= 0x7E and chr(byte) not in "^~_" else f"_{byte:02X}"
                    for byte in text.encode("utf-8", "replace"))
 

@@ -8,6 +8,7 @@ from __future__ import annotations
 import csv
 import io
 import json
+import pathlib
 from typing import Callable, NamedTuple, Optional
 
 from .database import Database
@@ -22,8 +23,8 @@ ALL = f"{LABELS} where bus = coalesce(?, bus) order by label.number"
 LEFT = f"{LABELS} where taken is null and bus = coalesce(?, bus) order by label.number"
 ONE = f"{LABELS} where label.number = ?"
 # The columns of a table of labels: what stands in each, and the fields as they lie in the memory bank.
-FIELDS = ("gtin", "identification", "year", "week", "input_power", "min_dim_power", "min_voltage", "max_voltage",
-          "light_output", "cri", "cct", "distribution", "colour", "luminaire")
+TABLE = pathlib.Path(__file__).resolve().parent.parent / "fields.json"
+FIELDS = tuple(field["key"] for field in json.loads(TABLE.read_text(encoding="utf-8")))
 COLUMNS = ("order", "bus", "unit", "reference", "ended", "printed", *FIELDS)
 
 
@@ -85,8 +86,8 @@ def all_of(database: Database, bus: Optional[str] = None) -> list[Label]:
 def take(database: Database, found: list[Label], put: Callable[[Label], None]) -> None:
     """Put out labels, each once, of which none was taken; each is taken once `put` has ended well.
 
-    Whoever takes locks a label before: two who take at once get each once. Behind a kill between its being out and its
-    being taken it comes again, with the same number.
+    A taker locks a label before: two who take at once get each once. After a kill between its being out and its being
+    taken it comes again, with the same number.
     """
     for label in found:
         take_one(database, label, put)

@@ -17,7 +17,7 @@ from .faults import Failed, why
 
 JOURNAL, ORDERS, TOLD = "bench.journal", "line_computer.orders", "line_computer.told"
 PIECE = 65536
-PATIENCE = 5  # seconds for a drive to end whose orders have ended, and for the last of what was told
+PATIENCE = 5  # seconds for a drive to end whose orders have ended, and for its last lines
 # An answer's line: two characters and its line feed.
 ANSWER = 3
 
@@ -25,8 +25,8 @@ ANSWER = 3
 class Link:
     """An adapter that has started a drive. It is a group of processes of its own, which ends as a whole.
 
-    Both pipes are named, made anew for each link, and open as long as this process lives: behind a kill of it nobody
-    writes orders any more, and nobody reads what is told, so that the drive ends.
+    Both pipes are named, made anew for each link, and open as long as this process lives: after a kill of it nobody
+    writes orders any more, and nobody reads the replies, so that the drive ends.
     """
 
     def __init__(self, folder: pathlib.Path, adapter: list[str], drive: list[str], older: list[str]):
@@ -52,11 +52,11 @@ class Link:
             os.close(writer)
 
     def _make_pipes(self) -> tuple[int, int, int]:
-        """Make both pipes; give the orders' end to write to, and both ends of what is told."""
+        """Make both pipes; give the orders' end to write to, and both ends of the replies."""
         for name in (ORDERS, TOLD):
             path = self.folder / name
             if path.is_fifo():
-                # Who waits at its other end, as a drive whose line computer was killed, is let go.
+                # A process that waits at its other end, as a drive whose line computer was killed, is let go.
                 os.close(os.open(path, os.O_RDWR | os.O_NONBLOCK))
                 path.unlink()
             os.mkfifo(path, 0o600)
@@ -72,7 +72,7 @@ class Link:
                 os.close(pipe)
 
     def read(self, seconds: float) -> list[str]:
-        """Wait so long for something to be told; give its whole lines."""
+        """Wait this many seconds for a line; give the whole lines."""
         if not self.is_told and select.select([self.told], [], [], seconds)[0]:
             self._take()
         *whole, rest = self.rest.split(b"\n")
@@ -80,7 +80,7 @@ class Link:
         return [line.decode("ascii", "backslashreplace").rstrip("\r") for line in whole]
 
     def _take(self) -> None:
-        """Take what was told so far, as much as the pipe holds, and note where all who tell are gone."""
+        """Take the lines so far, as much as the pipe holds, and note if all its writers are gone."""
         with contextlib.suppress(BlockingIOError):
             piece = os.read(self.told, PIECE)
             self.rest += piece

@@ -93,7 +93,7 @@ def cells_of(row: dict) -> list:
 
 
 def fields_of(text: str) -> dict:
-    """Give the fields of an order. What is no object of JSON, of another program, has none."""
+    """Give the fields of an order. One that is no object of JSON, of another program, has none."""
     try:
         found = json.loads(text)
     except ValueError:

@@ -1,4 +1,4 @@
-"""What a station asks of the luminaire that stands there, over the adapter, while no drive is at work on the bus."""
+"""The questions of a station to the luminaire at its seat, over the adapter, while no drive is at work on the bus."""
 
 from __future__ import annotations
 

@@ -65,8 +65,8 @@ def add(database: Database, bus: str, items: list[Item], is_same_luminaire: bool
         also: Optional[Callable[[list], None]] = None) -> list[tuple[int, bool]]:
     """Add all of these orders, or none; give the number of each, and whether it is new.
 
-    One whose reference the bus knows with the same contents is that order, and isn't added again. What is to be done
-    in the same transaction is called with what is given.
+    One whose reference the bus knows with the same contents is that order, and isn't added again. `also` is called in
+    the same transaction with the result.
     """
     with database.transaction():
         first = take_numbers(database, len(items))
@@ -93,9 +93,9 @@ def add(database: Database, bus: str, items: list[Item], is_same_luminaire: bool
 
 
 def take_numbers(database: Database, count: int) -> int:
-    """Take so many numbers of the store, within a transaction; give the first.
+    """Take `count` numbers of the store, within a transaction; give the first.
 
-    Whoever adds waits here for whoever adds: what was added before is seen by what follows.
+    A command that adds waits here for another one that adds, and then sees what that has added.
     """
     database.change("update bench_store set following = following + ?", count)
     following, = database.rows("select following from bench_store")[0]
@@ -105,7 +105,7 @@ def take_numbers(database: Database, count: int) -> int:
 
 
 class Luminaires:
-    """What the orders that wait on a bus say of the luminaire at each unit: the GTIN and the identification number.
+    """The luminaire at each unit, by the orders that wait on a bus: its GTIN and its identification number.
 
     Two orders that say otherwise are for two luminaires, and at a unit there is one at a time.
     """
@@ -141,7 +141,7 @@ def known_references(database: Database, bus: str, references: list[str]) -> dic
 
 
 def insert(database: Database, values: list, columns: tuple = COLUMNS) -> None:
-    """Insert rows of orders, whose values in these columns stand one row behind the other."""
+    """Insert rows of orders, whose values in these columns come one row after the other."""
     row = f"({', '.join('?' * len(columns))})"
     for at in range(0, len(values), ROWS * len(columns)):
         some = values[at:at + ROWS * len(columns)]

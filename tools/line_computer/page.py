@@ -21,7 +21,7 @@ from .spans import HOUR, Span, day, quarters, shift
 from .standing import Bus
 
 TITLE = "Line computer"
-# What the page may be asked for besides orders: how many shifts back, or a whole day in place of a shift.
+# The page's questions besides orders: how many shifts back, or a whole day in place of a shift.
 BACK, DAY = "back", "day"
 MOST_BACK = 99
 WRONG_SEARCH = "A search wants digits; a serial number takes hexadecimal ones, a reference any characters."
@@ -70,7 +70,7 @@ svg text.count { fill: var(--alarm); font-weight: 700; } .over { stroke: var(--o
   .cards td::before, .cards tr.trouble td:first-child::before { flex: 0 0 8.5em; color: var(--soft); font-weight: 500; }
   .cards td::before { content: attr(data-name); } .cards tr.trouble td:first-child::before { color: var(--alarm); } }
 """ + "".join(f".{kind} {{ fill: var(--{kind}); }}\n" for kind in ENDS.values())
-# What is marked stays, and so does a field that is typed in: it stands in no part that is brought up to date.
+# A mark stays, and so does a field that is typed in, which is in no part that is brought up to date.
 SCRIPT = """
 "use strict";
 const parts = ["moment", "above", "below"];
@@ -104,7 +104,7 @@ HEAD = """<script src="/page.js" defer></script><noscript><meta http-equiv="refr
 
 
 class Look(NamedTuple):
-    """What the page is called, and at which clock times shifts begin, if there are shifts."""
+    """The name of the page, and the clock times at which shifts begin, if there are shifts."""
 
     name: str
     shifts: list[datetime.time]

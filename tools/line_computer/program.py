@@ -1,4 +1,4 @@
-"""What dali_bench is asked: whether orders are accepted, how a journal stands, and which numbers it has."""
+"""The questions to dali_bench: whether orders are accepted, how a journal stands, and which numbers it has."""
 
 from __future__ import annotations
 
@@ -15,11 +15,11 @@ FAULT = re.compile("(item [0-9]+ )?fault .*")
 COUNTS = re.compile("counts ([0-9]+) of ([0-9]+) orders ([0-9]+) standing (.*)")
 FREE = re.compile("free ([0-9]+|none)")
 BEGUN = re.compile("^B order ([0-9]+) ", re.MULTILINE)
-# What `check --journal` says of an order, and what of it tells that the order was never begun.
+# The words of `check --journal` on an order, and those of an order that was never begun.
 SAID = re.compile("^(known .*|new|full)$", re.MULTILINE)
 NOT_BEGUN = ("new", "full")
 # From this location on an order needs the content format too; a unit is write-enabled by this one, next to which the
-# first field stands; by the short plan so many neighbours at most are read back as one row.
+# first field is; by the short plan this many neighbours at most are read back as one row.
 BEHIND_FORMAT, LOCK, ROW = 0x13, 0x02, 16
 
 

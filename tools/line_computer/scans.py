@@ -1,4 +1,4 @@
-"""What a scan says: the number of a luminaire, a GTIN, or both in GS1 element strings (GS1 General Specifications)."""
+"""The readings of a scan: a luminaire's number, a GTIN, or both in GS1 element strings (GS1 General Specifications)."""
 
 from __future__ import annotations
 

@@ -107,12 +107,11 @@ update bench_orders set place = 1 + (
 ) where state = 'ended' and report is not null;
 update bench_orders set state = 'sent' where state = 'taken';
 """
-# By which plan an order was carried out: in a store of version 2 all that it sent itself went by the checked one. Which
+# By which plan an order was carried out: in a store of version 2 all that it sent itself used the checked one. Which
 # order it repeats, at most one each, and the number that this had where it came from, which stays that one's alone.
 # Which luminaire the scan of a station was for, and what `verify` has found of it; what each station shows, and the
-# scan that the page has for it.
-# The identification number of an order's luminaire, by which it is searched for; when a drive last spoke, or was last
-# spoken to. What the page looks for has indexes.
+# scan that the page has for it. The identification number of an order's luminaire, by which it is searched for; when a
+# drive last spoke, or was last spoken to. The columns that the page looks in have indexes.
 THIRD = f"""
 alter table bench_orders add column plan text;
 alter table bench_orders add column repeats bigint;

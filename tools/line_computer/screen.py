@@ -68,7 +68,7 @@ def with_time(shown: Shown) -> list[str]:
 
 
 class Scanner:
-    """Reads lines of standard input. One is taken only while it is waited for; any other is told as not taken."""
+    """Reads lines of standard input. One is taken only while it is waited for; any other is reported as not taken."""
 
     def __init__(self, refuse: Callable[[], None]):
         """Take what tells that a scan isn't taken."""
@@ -76,7 +76,7 @@ class Scanner:
         self.is_wanted, self.is_over, self.line = False, False, None
 
     def wait(self) -> None:
-        """Begin to wait for a line. What was typed into a terminal before the first time is dropped."""
+        """Begin to wait for a line. Input at a terminal from before the first time is dropped."""
         with self.condition:
             self.is_wanted, self.line = True, None
         if self.thread is None:
@@ -86,7 +86,7 @@ class Scanner:
             self.thread.start()
 
     def take(self, seconds: float) -> Optional[str]:
-        """Give the line, if it comes in so many seconds."""
+        """Give the line, if it comes in this many seconds."""
         with self.condition:
             self.condition.wait_for(lambda: self.line is not None or self.is_over, seconds)
             line, self.line = self.line, None

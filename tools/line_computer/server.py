@@ -17,7 +17,7 @@ from .page import SCRIPT, STYLE, Look, document, page_of
 from .schema import open_store
 
 HTML, CSS, SCRIPTS = (f"text/{kind}; charset=utf-8" for kind in ("html", "css", "javascript"))
-# What a browser may do with the page: show it, with our style and our script, and ask and send its form here.
+# The rights of a browser on the page: show it, with our style and our script, and ask and send its form here.
 POLICY = ("default-src 'none'; style-src 'self'; script-src 'self'; connect-src 'self'; form-action 'self';"
           " base-uri 'none'; frame-ancestors 'none'")
 HEADERS = {

@@ -47,7 +47,7 @@ def day(moment: int) -> Span:
 
 
 def shift(times: list[datetime.time], moment: int, back: int = 0) -> Span:
-    """Give the shift of a moment, or one so many before it.
+    """Give the shift of a moment, or the one that is `back` shifts before it.
 
     By local time a shift may be longer or shorter than by its clock times, on a day on which the clock is put.
     """
@@ -61,5 +61,5 @@ def shift(times: list[datetime.time], moment: int, back: int = 0) -> Span:
 
 
 def quarters(span: Span) -> tuple[int, int]:
-    """Give the first quarter of an hour of a span, and the first behind it, counted since 1970."""
+    """Give the first quarter of an hour of a span, and the first after it, counted since 1970."""
     return span.start // QUARTER, span.end // QUARTER

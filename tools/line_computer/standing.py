@@ -52,7 +52,7 @@ class Bus(NamedTuple):
         return f"not running since {moment(self.seen)}{ending}" if self.seen else "not running"
 
     def is_silent(self) -> bool:
-        """Tell whether the drive hasn't spoken for twice the time of its order, as far as that can be told."""
+        """Tell whether the drive hasn't spoken for twice the time of its order, as far as that is known."""
         if None in (self.order, self.frames, self.spoke):
             return False
         return now() - self.spoke > 2 * max(SHORTEST, FRAME * (self.expected or 0))

@@ -1,4 +1,4 @@
-"""The station: a person, a scanner, one luminaire at a time. A scan is an order for the luminaire that stands there.
+"""The station: a person, a scanner, one luminaire at a time. A scan is an order for the luminaire at the seat.
 
 It may be killed anywhere: the store has which scan each order is for, and what `verify` has found. On its next start an
 order that the journal never had is cancelled; of one that was begun, or is done and not verified, the luminaire has to
@@ -34,7 +34,7 @@ STORED = 30  # seconds after which a unit has stored its short address for sure
 DOUBT_OPEN = 5
 NEXT = "Put the next luminaire in, then scan it."
 STAY = "Leave the luminaire in, and don't scan."
-# What to do with a luminaire whose order has ended otherwise than as done, by the order's code.
+# The remedy for a luminaire whose order has ended otherwise than as done, by the order's code.
 REMEDIES = {
     1: "Its memory bank 1 is too short for the template: take it out, it doesn't suit.",
     2: "Its memory bank 1 has another content format: take it out, it doesn't suit.",
@@ -251,12 +251,12 @@ class Station:
                         f" same number, type the word {AGAIN}, then scan.") from fault
 
     def _show_work(self, name: str, frames: float) -> None:
-        """Show that the station is at work, so many frames."""
+        """Show that the station is at work, for this many frames."""
         seconds = 1 + round(frames * FRAME)
         self._show(Shown(WORK, (f"{name}.", f"{STAY} It takes some {seconds} s."), now() + seconds))
 
     def _look(self, unit: int) -> None:
-        """Make sure that the luminaire that stands there may be written. A new one gets its short address first."""
+        """Make sure that the luminaire at the seat may be written. A new one gets its short address first."""
         if not self.is_idle:
             return  # a unit is left: no frames but those of the drive that closes it
         keys = self.luminaire.keys(unit)

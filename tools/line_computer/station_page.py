@@ -1,6 +1,6 @@
 """The page of a station, readable from two metres: what it shows, and one field for a scan, which it alone takes.
 
-What the station shows is a frame that is loaded anew each second, so that what is typed into the field stays.
+The station's words are in a frame that is loaded anew each second, so that the text in the field stays.
 """
 
 from __future__ import annotations
@@ -28,7 +28,7 @@ PATIENCE, POLL = 3, 0.1  # seconds for the station to take a scan, and between t
 # A browser may put the frame into the page, and neither of both into another one's.
 POLICY = ("default-src 'none'; style-src 'self'; form-action 'self'; base-uri 'none'; frame-src 'self';"
           " frame-ancestors 'self'")
-# What a server between this one and a browser says of the browser: that one isn't on this computer.
+# A header of a server between this one and a browser, by which the browser isn't on this computer.
 FORWARDED = ("Forwarded", "X-Forwarded-For", "X-Real-IP", "Via")
 KINDS = {SCAN: "scan", WORK: "work", PASS: "pass", FAIL: "fail", OFF: "off"}
 STYLE = """
@@ -70,7 +70,7 @@ def state(database: Database, bus: str) -> str:
 
 
 def page(bus: str, told: str = "") -> str:
-    """Make the page, with what is told of the last scan where it wasn't taken."""
+    """Make the page, with the message on the last scan if it wasn't taken."""
     words = f'<p class="told" role="alert">{escape(told)}</p>' if told else ""
     form = (f'<form method="post" action="{PAGE}"><label for="{FIELD}">Scan</label><input id="{FIELD}" name="{FIELD}"'
             ' autofocus autocomplete="off" autocapitalize="off" spellcheck="false"><button>Enter</button></form>')

@@ -1,4 +1,4 @@
-"""What the store knows of stations: which luminaire each scan was for, and what a station shows."""
+"""The store's part for stations: which luminaire each scan was for, and what a station shows."""
 
 from __future__ import annotations
 
@@ -95,11 +95,11 @@ def unprinted(database: Database, bus: str) -> list[tuple[int, str]]:
                          " bus = ? and taken is null order by bench_labels.number", bus)
 
 
-# What a station shows
+# The words that a station shows
 
 
 class Shown(NamedTuple):
-    """What a station shows: a word, what it means and what to do, and when work should be over."""
+    """The words that a station shows: one, what it means and what to do, and when work should be over."""
 
     word: str
     lines: tuple

@@ -17,7 +17,7 @@ from .spans import Span
 SHOWN = 50
 WAITING = 20
 LENGTH_OF_SERIAL = 16
-# What may be searched for, with the name that it has on the page.
+# The keys of a search, with the name that each has on the page.
 SEARCHED = {"number": "Order", "reference": "Reference", "unit": "Unit", "gtin": "GTIN",
             "identification": "Serial number"}
 # The columns of a table of orders, by what they are called: the store's, or a column's own.
@@ -49,7 +49,7 @@ def table(names: dict[str, str], rows: list[tuple[bool, dict]], numbers: tuple =
 
 
 def orders_of(database: Database, rest: str, *values) -> list[dict]:
-    """Give orders by the rest of a statement behind the name of their table."""
+    """Give orders by the rest of a statement after the name of their table."""
     rows = database.rows(f"select {', '.join(COLUMNS)} from bench_orders {rest}", *values)
     return [dict(zip(COLUMNS, row)) for row in rows]
 
@@ -85,7 +85,7 @@ def orders_table(rows: list[tuple[bool, dict]], *columns: str) -> str:
 
 
 def waiting_part(database: Database, count: int) -> str:
-    """Show the first of the orders that wait, of which there are so many."""
+    """Show the first of the `count` orders that wait."""
     first = orders_of(database, "where state = 'added' order by number limit ?", WAITING)
     more = f'<p class="soft">and {count - len(first)} more</p>' if count > len(first) else ""
     return f'<h2>Waiting orders</h2>{orders_table(list(map(row_of, first)), *WHOSE, "added")}{more}'

@@ -1,4 +1,4 @@
-"""What a station writes into each luminaire: an order's keys with fixed values, and what a scan and the clock fill."""
+"""The order of a station for each luminaire: keys with fixed values, and those that a scan and the clock fill."""
 
 from __future__ import annotations
 
@@ -14,12 +14,12 @@ from .program import Program
 from .scans import Scan, gtin_of, identification_of
 
 SCANNED, NOW = "scan", "now"
-# What stands for a scan where a template is tried out.
+# Samples in the place of a scan, by which a template is tried out.
 SAMPLES = {"gtin": "00000000", "identification": 16 * "0"}
 
 
 class Wanted(NamedTuple):
-    """What a scan calls for: an order that has no number yet, and what tells this luminaire from each other one."""
+    """The order of a scan, which has no number yet, and what tells this luminaire from each other one."""
 
     item: Item
     key: str

@@ -1,4 +1,4 @@
-"""What adapter and drive tell, line by line: replies, the report, faults, and words for a person."""
+"""The lines of adapter and drive: replies, the report, faults, and words for a person."""
 
 from __future__ import annotations
 

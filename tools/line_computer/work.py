@@ -1,4 +1,4 @@
-"""What the process of a bus reads and changes in the store. Each call is one transaction."""
+"""The reads and changes of a bus's process in the store. Each call is one transaction."""
 
 from __future__ import annotations
 
@@ -20,7 +20,7 @@ PLACE = "1 + (select count(*) from bench_journals where bus = ?)"
 
 @dataclass
 class BusState:
-    """What a bus says of itself."""
+    """The state of a bus, by its process."""
 
     state: str = "starting"  # or ready, waiting, stopped
     number: Optional[int] = None  # of the order at work
@@ -60,9 +60,9 @@ class Work:
     def send(self, order: Order, expected: Optional[int] = None) -> Optional[Order]:
         """Keep that an order is about to be sent, before its line is written; None where it was cancelled just now.
 
-        The moment of its first time is that of its submission for good: by it an end is told from that of an order
-        which a journal knew before. Its plan is that of the first drive, until another one has kept its end; so many
-        frames are expected of it, where that is known anew.
+        The moment of its first time is that of its submission for good: it distinguishes an end from that of an order
+        which a journal knew before. Its plan is that of the first drive, until another one has kept its end; `expected`
+        frames are due of it, if that is known anew.
         """
         with self.database.transaction():
             is_sent = self.database.change(
@@ -84,7 +84,7 @@ class Work:
                              f" where number = ? and bus = ? and {LIVE}", why, now(), number, self.bus)
 
     def keep(self, told: list[Told], state: BusState) -> None:
-        """Keep all that was told, and what the bus says of itself behind it."""
+        """Keep all these lines, and then the state of the bus."""
         with self.database.transaction():
             for it in told:
                 if isinstance(it, Reported):

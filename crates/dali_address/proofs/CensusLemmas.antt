@@ -1,4 +1,4 @@
--- What is so of the units during a census at which nothing was lost.
+-- The units during a census in which nothing was lost.
 use Rattle.std.proofs.Common.{◌≡◌, ◌≢◌, ℕ, ◌<◌, inl, inr, ◌⊎◌, List, [], ◌∷◌, Option, Some, None, refl, sym, subst, ap, ◌∙◌}
 use Rattle.std.proofs.Common.{arith}
 use Rattle.dali_address.specs.Units.{Three, number_of, Phase, Disabled, Enabled, Withdrawn, Member, Units}
@@ -20,7 +20,7 @@ use Rattle.dali_address.specs.declared.call.Call.TheVariants.{AskPresent, AskRan
 abbrev pub entry : Member → Counted
 entry member = record { random = member.random; told = told_short member.short }
 
--- a unit is there of which this was told
+-- a unit is there with these counted answers
 pub record Named (units : Units) (one : Counted) : Type 0 where
   pub number : ℕ
   pub member : Member
@@ -81,7 +81,7 @@ on_after call old new kept on = elim kept.phase [
   | inr (drawn, at) ↦ not_off new.phase drawn
 ]
 
--- amid a census after WITHDRAW, where what the frame withdrew is counted
+-- amid a census after WITHDRAW, if the units that the frame withdrew are counted
 amid_withdrawn : (counted more : List Counted) (old new : Units) (search : Three) → IsAmid counted old search
     → Keeps Withdraw old new → ((one : Counted) → IsIn one counted → IsIn one more)
     → ((number : ℕ) (member : Member) → old number ≡ Some member → member.random ≡ search → IsIn (entry member) more)

@@ -1,4 +1,4 @@
--- What a census that ended says, where nothing was lost.
+-- The result of a census that ended, if nothing was lost.
 use Rattle.std.proofs.Common.{◌≡◌, ℕ, inl, inr, List, [], ◌∷◌, None, refl, sym, subst, ap, ◌∙◌}
 use Rattle.dali_address.specs.Units.{Units}
 use Rattle.dali_address.specs.Steps.{Exchange}

@@ -1,4 +1,4 @@
--- What a census tells at its end, where nothing was lost.
+-- The result of a census at its end, if nothing was lost.
 use Rattle.std.proofs.Common.{◌≡◌, ◌≢◌, ℕ, ◌<◌, ◌≤◌, Bool, true, false, inl, inr, ◌⊎◌, List, [], ◌∷◌, Option, Some}
 use Rattle.std.proofs.Common.{None, IsSome, IsNone, refl, sym, subst, ap, ◌∙◌, arith, length, eq-eqb}
 use Rattle.std.specs.Prelude.{◌==◌, ◌||◌, ◌&&◌}
@@ -15,7 +15,7 @@ use Rattle.dali_address.proofs.CensusLemmas.{entry, Named, IsRising, IsAmid}
 use Rattle.dali_address.specs.declared.call.Call.TheVariants.{Compare}
 use Rattle.dali_address.specs.declared.sharing.Marks.{Marks}
 
--- what was counted is just the units that are there
+-- the counted units are exactly the units that are there
 pub record AreJust (counted : List Counted) (units : Units) : Type 0 where
   pub sound : AreSound units
   pub covers : (number : ℕ) (member : Member) → units number ≡ Some member → IsIn (entry member) counted
@@ -84,7 +84,7 @@ no_both true true a b e = cc
 no_both true false a b e = cc
 no_both false other a b e = cc
 
--- where a byte wasn't told twice, one unit told it
+-- if a byte wasn't told twice, one unit told it
 once : (counted : List Counted) (byte : ℕ) (one two : Counted) → is_told_twice counted byte ≡ false
     → IsIn one counted → IsIn two counted → one.told ≡ byte → two.told ≡ byte → one.random ≡ two.random
 once [] byte one two never is_one is_two told_one told_two = absurd is_one

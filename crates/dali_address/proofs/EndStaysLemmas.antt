@@ -1,4 +1,4 @@
--- What the end of a census says stays so while no short address is given or taken away.
+-- The result of a census stays true while no short address is given or taken away.
 use Rattle.std.proofs.Common.{◌≡◌, ℕ, List, [], ◌∷◌, Option, Some, IsSome, IsNone, refl, sym, subst, ap, ◌∙◌}
 use Rattle.std.specs.List.{AllByRecursion}
 use Rattle.dali_bus.specs.Chain.{IsChain}

@@ -1,4 +1,4 @@
--- What no frame of a giving of addresses changes.
+-- The state of units that no frame of a giving of addresses changes.
 use Rattle.std.proofs.Common.{◌≡◌, ◌≢◌, ℕ, false, inl, inr, ◌⊎◌, List, [], ◌∷◌, Option, Some, None, IsNone}
 use Rattle.std.proofs.Common.{refl, sym, subst, ap, ◌∙◌}
 use Rattle.std.specs.List.{AllByRecursion}
@@ -169,7 +169,7 @@ gear_kept old (AskRandomHigh short) answer new does = ap (λ (it : Member). it.g
 gear_kept old (AskRandomMiddle short) answer new does = ap (λ (it : Member). it.gear) does.0
 gear_kept old (AskRandomLow short) answer new does = ap (λ (it : Member). it.gear) does.0
 
--- not write-enabled, and the memory but for lock bytes is this
+-- not write-enabled, and the memory except for lock bytes is this
 record Shows (memory : ℕ → ℕ → Option ℕ) (gear : Gear) : Type 0 where
   shut : gear.enabled ≡ false
   bytes : (bank location : ℕ) → (bank ≡ 0) ⊎ (location ≢ 2) → gear.memory bank location ≡ memory bank location

@@ -1,4 +1,4 @@
--- What a census keeps of short addresses is what was told of them.
+-- A census keeps of short addresses the ones that were answered.
 use Rattle.std.proofs.Common.{◌≡◌, ◌≢◌, ◌+◌, ◌<◌, ℕ, Bool, true, false, inl, inr, List, [], ◌∷◌, refl, sym, subst}
 use Rattle.std.proofs.Common.{ap, ◌∙◌, length, get_or, get_or-set_same, get_or-set_other, arith, eq-eqb}
 use Rattle.std.specs.Prelude.{◌==◌, ◌||◌, ◌&&◌, slice_set}
@@ -9,7 +9,7 @@ use Rattle.dali_address.specs.Tallying.{Counted, IsIn}
 use Rattle.dali_address.specs.Marking.{IsNoShort, is_told, is_told_twice, AreApart, AreMarks, MarksShort, MarksMissing}
 use Rattle.dali_address.specs.declared.sharing.Marks.{Marks}
 
--- what is told of a short address other than the one that was told now
+-- the mark of a short address other than the one that was answered now
 other_byte : (told short one : ℕ) → told ≡ short_byte short → one ≢ short → (told == short_byte one) ≡ false
 other_byte told short one is other = ne_eqb told (short_byte one) (λ same. other (omega arith))
 
@@ -55,7 +55,7 @@ twice_marked flags short one told now seen twice within is was set = elim (eqb_t
       (set_other flags short one now other ∙ was)
 ]
 
--- each was told once, and so is one that wasn't told before
+-- each was answered once, and so is one that wasn't answered before
 once_more : (short one told : ℕ) (seen twice : Bool) → told ≡ short_byte short → (one ≡ short → seen ≡ false)
     → twice ≡ false → (((told == short_byte one) && seen) || twice) ≡ false
 once_more short one told seen twice is fresh once = elim (eqb_tells one short) [
@@ -144,7 +144,7 @@ missing_marked old new byte never marks counted one told are =
     none : (it : ℕ) → it < 64 → (one.told == short_byte it) ≡ false
     none it below = ne_eqb one.told (short_byte it) (λ same. never it below (sym told ∙ same))
 
--- where nothing was told
+-- if nothing was answered
 pub unmarked : (marks : Marks)
     → ((short : ℕ) → short < 64 → get_or marks.seen short false ≡ false)
     → ((short : ℕ) → short < 64 → get_or marks.sharing.addresses short false ≡ false)

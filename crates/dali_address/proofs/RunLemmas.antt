@@ -1,4 +1,4 @@
--- What a run was told stands on after a line.
+-- The exchanges of a run are kept after a line.
 use Rattle.std.proofs.Common.{◌≡◌, List, sym, subst}
 use Rattle.std.specs.List.{AllByRecursion}
 use Rattle.dali_address.specs.Evidences.{Stands}

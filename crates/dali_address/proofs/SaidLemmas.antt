@@ -1,4 +1,4 @@
--- What three reads of a random address tell is so.
+-- The random address shown by three reads of it is true.
 use Rattle.std.proofs.Common.{◌≡◌, ◌≢◌, ℕ, inl, inr, ◌⊎◌, [], ◌∷◌, Option, Some, None, refl, sym, subst, ap, ◌∙◌}
 use Rattle.dali_address.specs.Units.{Three, Member, Units, IsAt, IsAlone, IsNamed}
 use Rattle.dali_address.specs.Obeys.{Does, Tells}

@@ -89,7 +89,7 @@ line_so (UnitLine short random) first past last states chain may =
     (subst (λ (it : List Exchange). IsChain Step first it last states) is chain)
 line_so (Shared short) first past last states chain may = tt
 
--- each line is so when it is told
+-- each line is true when it is reported
 pub line_true : (task : Task) (first last : Units) (run : Addressing) (line : Line) → IsRunning task first last run
     → ((told : List Exchange) → Told told run → MayTell line told) → IsTrueLine line last
 line_true task first last run line running may =

@@ -1,4 +1,4 @@
--- What a census keeps stands with its tally, frame by frame.
+-- The state of a census agrees with its tally, frame by frame.
 use Rattle.std.proofs.Common.{◌≡◌, ◌≢◌, ℕ, inl, inr, List, [], ◌∷◌, Option, Some, None, refl, sym, subst, ap, ◌∙◌}
 use Rattle.std.proofs.Common.{arith}
 use Rattle.dali_address.specs.Units.{Three, number_of}

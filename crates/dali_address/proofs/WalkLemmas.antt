@@ -27,7 +27,7 @@ searching care (Raise digit) kept told call never step come = come
 searching care Done kept told call never step come = absurd step
 searching care Lost kept told call never step come = absurd step
 
--- so many silent checks are fewer ones
+-- a count of silent checks includes any smaller count
 fewer : (few many : ℕ) (told : List Exchange) → few ≤ many → AreSilent many told → AreSilent few told
 fewer zero many told low silent = tt
 fewer (suc few) zero told low silent = absurd (omega arith)

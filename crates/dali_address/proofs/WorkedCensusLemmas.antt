@@ -18,7 +18,7 @@ abbrev pub unit : Option ℕ → Phase → Three → Three → Member
 unit short phase random search =
     record { short = short; random = random; search = search; phase = phase; gear = small false }
 
--- so many units, each like this one
+-- this many units, each like this one
 abbrev pub crowd : ℕ → Member → Units
 crowd zero member number = None
 crowd (suc more) member zero = Some member

@@ -8,7 +8,7 @@ use Rattle.dali_address.specs.Census.{highest, IsListed, IsListedOnce, IsEndOf}
 use Rattle.dali_address.specs.declared.census.CensusEnd.TheVariants.{Apart}
 use Rattle.dali_address.proofs.WorkedCensusLemmas.{unit, is_some, none_there, never, drawn}
 
--- so many units, each at its own short address
+-- this many units, each at its own short address
 abbrev at_own : ℕ → Member
 at_own number = unit (Some number) Withdrawn drawn highest
 

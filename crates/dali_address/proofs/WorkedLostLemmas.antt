@@ -1,4 +1,4 @@
--- What was lost in a census, and who has no short address.
+-- The losses in a census, and the units without a short address.
 use Rattle.std.proofs.Common.{◌≡◌, ℕ, ◌≤◌, inl, inr, ◌⊎◌, List, [], ◌∷◌, Option, Some, None}
 use Rattle.std.proofs.Common.{zero, suc, refl, sym, subst, ap, ◌∙◌, IsSome, arith, length}
 use Rattle.dali_bus.specs.Chain.{IsChain}

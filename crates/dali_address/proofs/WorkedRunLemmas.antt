@@ -1,4 +1,4 @@
--- What stands before a short address is given, a line is told and a run ends: facts on both sides of each edge.
+-- The exchanges before a short address is given, a line is reported and a run ends: facts on both sides of each edge.
 use Rattle.std.proofs.Common.{◌≡◌, ◌<◌, ◌+◌, ◌*◌, ℕ, List, [], ◌∷◌, Option, Some, None, inl, inr, refl, sym, ap, ◌∙◌}
 use Rattle.std.proofs.Common.{arith}
 use Rattle.dali_address.specs.Census.{highest}
@@ -72,11 +72,11 @@ pub undrawn_isnt_given : (short : ℕ) (past : List Exchange)
     → MayGive short (told AskShort 0xFF ∷ put highest past) → ⊥
 undrawn_isnt_given short past may = may.drawn (asked_same highest may.search (Some 0xFF) past may.sought)
 
--- nor is anything given where nobody told that it has no short address
+-- nor is anything given if nobody told that it has no short address
 pub silent_isnt_given : (short : ℕ) (past : List Exchange) → MayGive short (sent AskShort ∷ past) → ⊥
 silent_isnt_given short past may = no_none 0xFF (answer_same _ _ may.none.0)
 
--- nor where the unit there told that it has one
+-- nor if the unit there told that it has one
 pub addressed_isnt_given : (short : ℕ) (past : List Exchange) → MayGive short (told AskShort 0x0F ∷ past) → ⊥
 addressed_isnt_given short past may = below 0x0F 0xFF (omega arith) (byte_same 0x0F 0xFF (answer_same _ _ may.none.0))
   where
@@ -156,7 +156,7 @@ once_isnt_closed closed = no closed.1.1.1.1.0
     no : SearchLow 0xFF ≡ Terminate → ⊥
     no e = cc
 
--- nor where a COMPARE was answered
+-- nor if a COMPARE was answered
 pub answered_isnt_closed :
     IsClosed (sent Compare ∷ (told Compare 0xFF ∷ (sent Terminate ∷ (sent Terminate ∷ put highest []))))
     → ⊥

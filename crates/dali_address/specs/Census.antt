@@ -1,5 +1,5 @@
--- A census: each unit is brought into the initialisation state, found and withdrawn, until none compares. What its end
--- says where nothing was lost in it.
+-- A census: each unit is brought into the initialisation state, found and withdrawn, until none compares. Its result,
+-- if nothing was lost in it.
 use Rattle.std.specs.Prelude.{◌≡◌, ◌≢◌, ℕ, ◌<◌, ◌⊎◌, ◌↔◌, List, [], ◌∷◌, Option, Some, None, IsSome, IsNone, ⊤}
 use Rattle.std.specs.Prelude.{length, true, false, zero, suc}
 use Rattle.std.specs.List.{slice_index_or}
@@ -46,7 +46,7 @@ abbrev pub IsHalfHeard : Units → Exchange → Units → Type 0
 IsHalfHeard old exchange new = (number : ℕ) (member : Member) → old number ≡ Some member
     → IsHeard exchange member (new number) ⊎ IsUnheard member (new number)
 
--- RANDOMISE is one of the newest so many frames
+-- RANDOMISE is one of the newest frames, at most this many
 abbrev pub IsDrawnWithin : ℕ → List Call → Type 0
 IsDrawnWithin zero calls = ⊥
 IsDrawnWithin (suc more) [] = ⊥
@@ -59,7 +59,7 @@ WasHeard (newest ∷ past) units (before ∷ states) =
     IsWhole before newest units ⊎ (IsDrawnWithin 4 (calls_of past) × IsHalfHeard before newest units)
 WasHeard past units states = ⊤
 
--- where INITIALISE of all units came twice, it counted: each unit is in the initialisation state
+-- if INITIALISE of all units came twice, it counted: each unit is in the initialisation state
 abbrev pub HasCounted : List Exchange → Units → Type 0
 HasCounted (newest ∷ (before ∷ past)) units =
     newest.call ≡ InitialiseAll → before.call ≡ InitialiseAll
@@ -98,17 +98,17 @@ AllHaveOne units = (number : ℕ) (member : Member) → units number ≡ Some me
 abbrev pub AllHaveTheirOwn : Units → Type 0
 AllHaveTheirOwn units = AllHaveOne units × ((short : ℕ) → IsAlone units short)
 
--- a number stands in a list
+-- a number is in a list
 abbrev pub IsListed : ℕ → List ℕ → Type 0
 IsListed number [] = ⊥
 IsListed number (first ∷ more) = (number ≡ first) ⊎ IsListed number more
 
--- no number stands in it twice
+-- no number is in it twice
 abbrev pub IsListedOnce : List ℕ → Type 0
 IsListedOnce [] = ⊤
 IsListedOnce (first ∷ more) = (IsListed first more → ⊥) × IsListedOnce more
 
--- there are so many units
+-- there are `many` units
 pub record AreSoMany (many : ℕ) (units : Units) : Type 0 where
   pub numbers : List ℕ
   pub long : length numbers ≡ many
@@ -130,7 +130,7 @@ pub record LacksOne (units : Units) : Type 0 where
   pub there : units number ≡ Some member
   pub none : IsNone member.short
 
--- it names just the short addresses that units share, and whether a unit has none
+-- it names exactly the short addresses that units share, and whether a unit has none
 pub record IsSharing (sharing : Sharing) (units : Units) : Type 0 where
   pub shared : (short : ℕ) → short < 64 → slice_index_or sharing.addresses short false ≡ true → IsShared units short
   pub alone : (short : ℕ) → short < 64 → slice_index_or sharing.addresses short false ≡ false → IsAlone units short

@@ -1,4 +1,4 @@
--- What a round changes.
+-- The change that a round makes.
 use Rattle.std.specs.Prelude.{ℕ, ◌<◌}
 use Rattle.dali_address.specs.Tasks.{Gives, Takes, Draws}
 use Rattle.dali_address.specs.declared.call.Call.{Call}

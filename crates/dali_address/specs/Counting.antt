@@ -1,4 +1,4 @@
--- What a census was told, wants and has come to.
+-- The exchanges of a census, the frame that it wants and its state.
 use Rattle.std.specs.Prelude.{◌≡◌, ◌≢◌, ◌+◌, ◌<◌, ◌⊎◌, ℕ, length, List, [], ◌∷◌, None, zero, suc, ⊤}
 use Rattle.std.specs.List.{AllByRecursion}
 use Rattle.dali_bus.specs.Chain.{IsChain}
@@ -41,7 +41,7 @@ HasEnded end census = (census.walk ≡ Done) × IsSaidBy census.kept.marks end
 abbrev pub silent_check : Exchange
 silent_check = record { call = Compare; answer = None }
 
--- the newest so many frames were such
+-- the newest frames, this many, were such
 abbrev pub AreSilent : ℕ → List Exchange → Type 0
 AreSilent zero told = ⊤
 AreSilent (suc more) [] = ⊥
@@ -52,19 +52,19 @@ abbrev pub HasGivenUp : List Exchange → Type 0
 HasGivenUp [] = ⊥
 HasGivenUp (newest ∷ past) = (newest.call ≡ AskShort) ⊎ (length (newest ∷ past) ≡ 16001)
 
--- so many frames of the opening were sent, and nothing was told
+-- `number` frames of the opening were sent, and nothing was answered
 pub record IsOpening (number : ℕ) (kept : Tallied) (told : List Exchange) : Type 0 where
   pub within : number < 13
   pub sent : calls_of told ≡ opened number
   pub stands : Stands kept (record { search = highest; counted = []; asked = None })
 
--- the opening is over, and it keeps what it was told
+-- the opening is over, and its state agrees with its exchanges
 pub record IsSearching (kept : Tallied) (told : List Exchange) : Type 0 where
   pub tally : Tally
   pub is : IsCensus told tally
   pub stands : Stands kept tally
 
--- and with the highest search address the newest frames were so many checks that no unit answered, one at least
+-- and with the highest search address the newest frames were `care` checks that no unit answered, at least one
 pub record IsThrough (care : ℕ) (kept : Tallied) (told : List Exchange) : Type 0 where
   pub so_far : IsSearching kept told
   pub past : List Exchange
@@ -72,12 +72,12 @@ pub record IsThrough (care : ℕ) (kept : Tallied) (told : List Exchange) : Type
   pub silent : AreSilent care told
   pub put : three_of kept.search ≡ highest
 
--- and the newest frames were so many checks
+-- and the newest frames were `noes` checks that no unit answered
 pub record IsChecking (noes : ℕ) (kept : Tallied) (told : List Exchange) : Type 0 where
   pub so_far : IsSearching kept told
   pub silent : AreSilent noes told
 
--- what it was told by its step
+-- the exchanges that it has seen, by its step
 abbrev pub HasCome : ℕ → Walk → Tallied → List Exchange → Type 0
 HasCome care (Open number) kept told = IsOpening number kept told
 HasCome care (Check noes) kept told = IsChecking noes kept told
@@ -85,19 +85,19 @@ HasCome care Done kept told = IsThrough care kept told
 HasCome care Lost kept told = HasGivenUp told
 HasCome care _ kept told = IsSearching kept told
 
--- a census was told these, the newest first
+-- a census has seen these exchanges, the newest first
 pub record Told (told : List Exchange) (census : Census) : Type 0 where
   pub come : HasCome census.care census.walk census.kept told
   pub sent : census.walk ≢ Lost → length told + census.left ≡ 16000
 
--- What the end of a census says stays so, whatever is lost, along frames that give no short address and take none away.
+-- The result of a census stays true, whatever is lost, along frames that give no short address and take none away.
 abbrev pub EndStays : Type 0
 EndStays =
     (end : CensusEnd) (first : Units) (past : List Exchange) (last : Units) (states : List Units)
     → AllByRecursion (λ exchange. GivesNone exchange.call) past → IsChain Step first past last states
     → IsEndOf end first → IsEndOf end last
 
--- what the end of a census rests on: so many silent checks, or that it gave up
+-- the end of a census rests on `care` silent checks, or on having given up
 abbrev pub IsAfterChecks : CensusEnd → ℕ → List Exchange → Type 0
 IsAfterChecks Unclear care told = HasGivenUp told
 IsAfterChecks end care told = AreSilent care told
@@ -114,7 +114,7 @@ CensusIsTrue =
     (census : Census) (told : List Exchange) (end : CensusEnd) (first last : Units) (states : List Units)
     → Told told census → HasEnded end census → WasWhole first told last states → IsEndOf end last
 
--- frames that give no short address led from the first units to the last, and where nothing was lost, the end is so
+-- frames that give no short address led from the first units to the last, and if nothing was lost, the end is so
 pub record HasTaken (care : ℕ) (end : CensusEnd) (first last : Units) : Type 0 where
   pub past : List Exchange
   pub states : List Units
@@ -123,7 +123,7 @@ pub record HasTaken (care : ℕ) (end : CensusEnd) (first last : Units) : Type 0
   pub checks : IsAfterChecks end care past
   pub says : WasWhole first past last states → IsEndOf end last
 
--- so far, and the census was told them
+-- so far, and the census has seen them
 pub record IsTaking (care : ℕ) (first last : Units) (census : Census) : Type 0 where
   pub own : census.care ≡ care
   pub past : List Exchange

@@ -1,4 +1,4 @@
--- What a run keeps of what it was told, and what that says.
+-- The state that a run keeps of its exchanges, and what that says.
 use Rattle.std.specs.Prelude.{◌≡◌, ℕ, List, Option, Some, None, true, false, ⊤}
 use Rattle.std.specs.List.{slice_index_or, AllByRecursion}
 use Rattle.dali_address.specs.Calls.{short_byte}
@@ -23,12 +23,12 @@ abbrev pub HasTold : Told → List Exchange → Type 0
 HasTold kept told =
     (short : ℕ) → slice_index_or kept.bytes (short_byte short) false ≡ false → IsUntold short told
 
--- it was told that a unit is there
+-- an answer showed that a unit is there
 abbrev pub HasPresent : Option ℕ → List Exchange → Type 0
 HasPresent None told = ⊤
 HasPresent (Some short) told = WasPresent short told
 
--- it was told so
+-- the exchanges show all of it
 pub record Stands (evidence : Evidence) (told : List Exchange) : Type 0 where
   pub search : HasSearch evidence.search told
   pub asked : HasAsked evidence.asked told

@@ -1,4 +1,4 @@
--- What no frame of a giving of addresses changes.
+-- The state of units that no frame of a giving of addresses changes.
 use Rattle.std.specs.Prelude.{◌≡◌, ◌≢◌, ℕ, ◌⊎◌, List, false, Option, Some, ⊤}
 use Rattle.std.specs.List.{AllByRecursion}
 use Rattle.dali_bus.specs.Chain.{IsChain, AtEachMoment}
@@ -38,8 +38,8 @@ pub record Holds (memory : ℕ → ℕ → Option ℕ) (number : ℕ) (units : U
   pub bytes : (bank location : ℕ) → (bank ≡ 0) ⊎ (location ≢ 2)
       → member.gear.memory bank location ≡ memory bank location
 
--- Whatever is lost: no memory changes, lock bytes of units that lost their power apart, and no unit is write-enabled
--- that wasn't.
+-- Whatever is lost: a unit that isn't write-enabled keeps its memory, lock bytes apart, and doesn't become
+-- write-enabled.
 abbrev pub MemoriesStay : Type 0
 MemoriesStay =
     (first : Units) (past : List Exchange) (last : Units) (states : List Units)

@@ -1,4 +1,4 @@
--- What a census keeps of the short addresses that were told.
+-- The state that a census keeps of the short addresses that were answered.
 use Rattle.std.specs.Prelude.{◌≡◌, ◌≢◌, ℕ, ◌+◌, ◌<◌, ◌||◌, ◌&&◌, ◌==◌, Bool, true, false, List, [], ◌∷◌}
 use Rattle.std.specs.Prelude.{length, slice_set}
 use Rattle.std.specs.List.{slice_index_or}
@@ -22,7 +22,7 @@ abbrev pub is_told_twice : List Counted → ℕ → Bool
 is_told_twice [] byte = false
 is_told_twice (one ∷ more) byte = ((one.told == byte) && is_told more byte) || is_told_twice more byte
 
--- each unit told a short address, and each its own: so many
+-- each unit answered with a short address, and each with its own: `count` units
 pub record AreApart (counted : List Counted) (count : ℕ) : Type 0 where
   pub many : length counted ≡ count
   pub once : (short : ℕ) → short < 64 → is_told_twice counted (short_byte short) ≡ false
@@ -37,7 +37,7 @@ pub record AreMarks (marks : Marks) (counted : List Counted) : Type 0 where
   pub complete : marks.sharing.has_missing ≡ false → (one : Counted) → IsIn one counted → IsNoShort one.told → ⊥
   pub apart : marks.is_apart ≡ true → AreApart counted marks.count
 
--- a short address was told
+-- a short address was answered
 pub record MarksShort (old : Marks) (short : ℕ) (new : Marks) : Type 0 where
   pub seen : new.seen ≡ slice_set old.seen short true
   pub addresses : new.sharing.addresses ≡ slice_set old.sharing.addresses short
@@ -48,13 +48,13 @@ pub record MarksShort (old : Marks) (short : ℕ) (new : Marks) : Type 0 where
   pub long_seen : short < length old.seen
   pub long_addresses : short < length old.sharing.addresses
 
--- and is counted, as long as each was told once
+-- and is counted, as long as each was answered once
 pub record CountsShort (old : Marks) (was : Bool) (new : Marks) : Type 0 where
   pub seen : new.seen ≡ old.seen
   pub sharing : new.sharing ≡ old.sharing
   pub apart : new.is_apart ≡ true → (old.is_apart ≡ true) × (was ≡ false) × (new.count ≡ old.count + 1)
 
--- it was told that a unit has none
+-- the answer was that a unit has none
 pub record MarksMissing (old new : Marks) : Type 0 where
   pub seen : new.seen ≡ old.seen
   pub addresses : new.sharing.addresses ≡ old.sharing.addresses
@@ -66,7 +66,7 @@ abbrev pub MarksByte : Marks → ℕ → Marks → Type 0
 MarksByte old byte new = (counted : List Counted) (one : Counted) → one.told ≡ byte → AreMarks old counted
     → AreMarks new (one ∷ counted)
 
--- what they say where no unit is left
+-- what they say if no unit is left
 abbrev pub IsSaidBy : Marks → CensusEnd → Type 0
 IsSaidBy marks (Apart many) = (marks.is_apart ≡ true) × (marks.count ≡ many)
 IsSaidBy marks (Shared sharing) = (marks.is_apart ≡ false) × (marks.sharing ≡ sharing)

@@ -1,8 +1,9 @@
--- What a unit may do with a frame of addresses that it hears, and what it may answer (IEC 62386-102: special commands).
+-- The effects that a frame of addresses may have on a unit that hears it, and its answers (IEC 62386-102: special
+-- commands).
 --
--- What isn't named stays as it is. What counts only where it comes twice may count or not, each time: so a lost half
--- of a pair, or one that comes too late, needs no row. The initialisation state may end at any moment, by its timer or
--- by a loss of power.
+-- Everything not named stays as it is. A frame that counts only if it comes twice may count or not, each time: so a
+-- lost half of a pair, or one that comes too late, needs no row. The initialisation state may end at any moment, by its
+-- timer or by a loss of power.
 use Rattle.std.specs.Prelude.{◌≡◌, ◌≢◌, ◌≤◌, ℕ, ◌⊎◌, Option, Some, None, IsNone}
 use Rattle.dali_bus.specs.Hears.{MayEnd}
 use Rattle.dali_bus.specs.Power.{PowersUp}
@@ -36,7 +37,7 @@ abbrev pub Seeks : Three → Member → Option ℕ → Member → Type 0
 Seeks search old answer new =
     ((new ≡ record old { search = search }) ⊎ ((old.phase ≡ Disabled) × (new ≡ old))) × (answer ≡ None)
 
--- the answer that tells a short address: MASK where there is none
+-- the answer that tells a short address: MASK if there is none
 abbrev pub told_short : Option ℕ → ℕ
 told_short None = 0xFF
 told_short (Some short) = short_byte short

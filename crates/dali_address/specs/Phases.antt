@@ -1,4 +1,4 @@
--- What the phases of a run fit.
+-- The runs that a phase fits.
 use Rattle.std.specs.Prelude.{◌<◌, ⊤}
 use Rattle.dali_address.specs.Changes.{FitsChange}
 use Rattle.dali_address.specs.Rounds.{change_of}

@@ -1,4 +1,4 @@
--- What a run keeps of the random addresses that it read.
+-- The part of the state of a run that holds the random addresses that it read.
 use Rattle.std.specs.Prelude.{List, [], ◌∷◌, Option, Some, None, ⊤}
 use Rattle.dali_address.specs.Places.{three_of_random}
 use Rattle.dali_address.specs.Rights.{AfterAnswer, Whatever, IsRead, WasRead}
@@ -8,7 +8,7 @@ use Rattle.dali_address.specs.declared.reading.Named.{Named}
 use Rattle.dali_address.specs.declared.reading.Reading.{Reading}
 use Rattle.dali_address.specs.declared.reading.Reading.TheVariants.{Nothing, High, Middle, Whole}
 
--- it was told so
+-- the exchanges show it
 abbrev pub HasReading : Reading → List Exchange → Type 0
 HasReading Nothing told = ⊤
 HasReading (High short high) told = AfterAnswer (AskRandomHigh short) (Some high) Whatever told

@@ -1,5 +1,5 @@
--- What stands before a short address is given or taken away, before a line is told, and before an end. What was told
--- is a list of frames and answers, the newest first.
+-- The exchanges before a short address is given or taken away, before a line is reported, and before an end. They are a
+-- list of frames and answers, the newest first.
 use Rattle.std.specs.Prelude.{◌≡◌, ◌≢◌, ℕ, zero, suc, ◌<◌, ◌⊎◌, List, [], ◌∷◌, Option, Some, None, IsSome, false, ⊤}
 use Rattle.std.specs.List.{AllByRecursion}
 use Rattle.dali_address.specs.Calls.{IsCall, short_byte}
@@ -18,12 +18,12 @@ use Rattle.dali_address.specs.declared.task.Task.{Task}
 use Rattle.dali_address.specs.declared.task.Want.{Want}
 use Rattle.dali_address.specs.declared.task.Want.TheVariants.{Send, Tell, Ended, Taken}
 
--- this frame went last, whatever came back, and this is so of what was told before
+-- this frame went last, whatever came back, and this holds of the exchanges before
 abbrev pub After : Call → (List Exchange → Type 0) → List Exchange → Type 0
 After call P [] = ⊥
 After call P (newest ∷ past) = (newest.call ≡ call) × P past
 
--- this frame went last and this came back, and this is so of what was told before
+-- this frame went last and this came back, and this holds of the exchanges before
 abbrev pub AfterAnswer : Call → Option ℕ → (List Exchange → Type 0) → List Exchange → Type 0
 AfterAnswer call answer P [] = ⊥
 AfterAnswer call answer P (newest ∷ past) = (newest ≡ record { call = call; answer = answer }) × P past
@@ -46,7 +46,7 @@ IsSought search (newest ∷ past) =
     (newest ∷ past)
     ⊎ (LeavesSearch newest.call × IsSought search past)
 
--- the last so many frames asked whether a unit is at the short address, and nothing came back
+-- the last `count` frames asked whether a unit is at the short address, and nothing came back
 abbrev pub IsSilent : ℕ → ℕ → List Exchange → Type 0
 IsSilent short zero told = ⊤
 IsSilent short (suc count) [] = ⊥
@@ -116,13 +116,13 @@ IsRight (Program short) told = MayGive short told
 IsRight Remove told = MayTake told
 IsRight _ told = ⊤
 
--- a run of this kind may send the frame where these were told
+-- a run of this kind may send the frame after these exchanges
 pub record MayFollow (task : Task) (told : List Exchange) (call : Call) : Type 0 where
   pub fits : IsCall call
   pub sent : MaySend task call
   pub right : IsRight call told
 
--- each frame might follow what was told before it
+-- each frame might follow the exchanges before it
 abbrev pub AreRight : List Exchange → Type 0
 AreRight [] = ⊤
 AreRight (newest ∷ past) = IsRight newest.call past × AreRight past
@@ -153,23 +153,23 @@ abbrev pub IsReadBack : ℕ → Three → List Exchange → Type 0
 IsReadBack short random [] = ⊥
 IsReadBack short random (newest ∷ past) = IsRead short random (newest ∷ past) × WasRead short random past
 
--- a unit was told to be at the short address, some time
+-- an answer showed a unit at the short address, some time
 abbrev pub WasPresent : ℕ → List Exchange → Type 0
 WasPresent short [] = ⊥
 WasPresent short (newest ∷ past) =
     ((newest.call ≡ AskPresent short) × IsSome newest.answer) ⊎ WasPresent short past
 
--- a unit was told to be at the short address, and nothing but whether one is at some short address was asked
+-- an answer showed a unit at the short address, and only presence at short addresses was asked
 abbrev pub IsTaken : ℕ → List Exchange → Type 0
 IsTaken short told =
     WasPresent short told × AllByRecursion (λ exchange. IsPresenceAsked exchange.call) told
 
--- the line may be told
+-- the line may be reported
 abbrev pub MayTell : Line → List Exchange → Type 0
 MayTell (Unit short random) told = (short < 64) × IsReadBack short (three_of_random random) told
 MayTell (Shared short) told = (short < 64) × WasPresent short told
 
--- what a run of this kind wants is right where these were told
+-- the want of a run of this kind is right after these exchanges
 abbrev pub IsRightWant : Task → List Exchange → Want → Type 0
 IsRightWant task told (Send call) = MayFollow task told call
 IsRightWant task told (Tell line) = MayTell line told

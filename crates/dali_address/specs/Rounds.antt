@@ -1,4 +1,4 @@
--- What a round changes, and how it ended.
+-- The change that a round makes, and how it ended.
 use Rattle.std.specs.Prelude.{◌≡◌}
 use Rattle.dali_address.specs.declared.change.Change.{Change}
 use Rattle.dali_address.specs.declared.round.Outcome.{Outcome}

@@ -27,7 +27,7 @@ abbrev pub end_of : Result Summary ℕ → Want
 end_of (Ok summary) = Ended summary
 end_of (Err short) = Taken short
 
--- frames that a run of this kind may send, each right where it was sent, led from the first units to the last, and the
+-- frames that a run of this kind may send, each right when it was sent, led from the first units to the last, and the
 -- end is right after them
 pub record HasRun (task : Task) (first : Units) (end : Result Summary ℕ) (last : Units) : Type 0 where
   pub past : List Exchange
@@ -37,7 +37,7 @@ pub record HasRun (task : Task) (first : Units) (end : Result Summary ℕ) (last
   pub right : AreRight past
   pub ended : IsRightWant task past (end_of end)
 
--- so far: the run was told them
+-- so far: the run has seen them
 pub record IsRunning (task : Task) (first last : Units) (run : Addressing) : Type 0 where
   pub past : List Exchange
   pub states : List Units

@@ -1,4 +1,4 @@
--- What three answers to QUERY RANDOM ADDRESS say.
+-- The random address that three answers to QUERY RANDOM ADDRESS show.
 use Rattle.std.specs.Prelude.{ℕ, List, ◌∷◌, Some}
 use Rattle.dali_bus.specs.Chain.{IsChain}
 use Rattle.dali_address.specs.Units.{Three, Units, IsAt, IsAlone, IsNamed}

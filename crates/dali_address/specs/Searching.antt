@@ -1,4 +1,4 @@
--- What a run keeps of the search address that it put.
+-- The part of the state of a run that holds the search address that it put.
 use Rattle.std.specs.Prelude.{List, ⊤}
 use Rattle.dali_address.specs.Places.{three_of}
 use Rattle.dali_address.specs.Rights.{After, Whatever, IsSought}
@@ -7,7 +7,7 @@ use Rattle.dali_address.specs.declared.call.Call.TheVariants.{SearchHigh, Search
 use Rattle.dali_address.specs.declared.search.Search.{Search}
 use Rattle.dali_address.specs.declared.search.Search.TheVariants.{Nothing, High, Middle, Whole}
 
--- it was told so
+-- the exchanges show it
 abbrev pub HasSearch : Search → List Exchange → Type 0
 HasSearch Nothing told = ⊤
 HasSearch (High high) told = After (SearchHigh high) Whatever told

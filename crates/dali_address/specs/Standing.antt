@@ -1,4 +1,4 @@
--- What a census keeps of its tally.
+-- The part of its tally that a census keeps.
 use Rattle.std.specs.Prelude.{◌≡◌, ℕ, ◌≤◌, ◌⊎◌, List, [], ◌∷◌, Option, Some, None, IsSome, ⊤}
 use Rattle.dali_address.specs.Units.{Three, number_of}
 use Rattle.dali_address.specs.Places.{three_of}
@@ -61,7 +61,7 @@ pub record CountsAgain (old new : Tallied) : Type 0 where
 abbrev pub Leaves : Tallied → Tallied → Type 0
 Leaves old new = CountsIt old new ⊎ CountsAgain old new
 
--- a tally after one more exchange, with which this stands
+-- a tally after one more exchange, which agrees with this
 pub record Follows (told : List Exchange) (call : Call) (answer : Option ℕ) (kept : Tallied) : Type 0 where
   pub after : Tally
   pub census : IsCensus (record { call = call; answer = answer } ∷ told) after

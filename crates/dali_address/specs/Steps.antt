@@ -1,4 +1,5 @@
--- What a bus may do to the units that it reaches by a frame of addresses, and what may come back.
+-- The effects that a bus may have on the units that it reaches by a frame of addresses, and the answers that may come
+-- back.
 use Rattle.std.specs.Prelude.{◌≡◌, ◌≢◌, ℕ, ◌⊎◌, List, Option, Some, None, map, ⊤}
 use Rattle.dali_address.specs.Units.{Member, Units}
 use Rattle.dali_address.specs.Obeys.{Passes, Obeys}
@@ -44,8 +45,8 @@ IsYesAlone AskMissing = ⊤
 IsYesAlone (AskPresent short) = ⊤
 IsYesAlone _ = ⊥
 
--- What may come back. A byte is that of a unit that answered, or two answered at once: then any may come. None may
--- always come: a frame or an answer may be lost, or garbled.
+-- The answers that may come back. A byte is that of a unit that answered, or two answered at once: then any may come.
+-- None may always come: a frame or an answer may be lost, or garbled.
 abbrev pub ComesBack : Units → Call → Option ℕ → Units → Type 0
 ComesBack old call None new = ⊤
 ComesBack old call (Some byte) new =

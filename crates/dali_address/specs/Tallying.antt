@@ -1,4 +1,4 @@
--- What a census tells of units, frame by frame.
+-- The account of units that a census gives, frame by frame.
 use Rattle.std.specs.Prelude.{◌≡◌, ℕ, ◌<◌, ◌⊎◌, List, [], ◌∷◌, Option, Some, None, ⊤}
 use Rattle.dali_address.specs.Units.{Three, number_of}
 use Rattle.dali_address.specs.Steps.{Exchange, calls_of}

@@ -1,4 +1,4 @@
--- What a run was told, wants and has come to.
+-- The exchanges of a run, its want and its state.
 use Rattle.std.specs.Prelude.{◌≡◌, ℕ, ◌+◌, List}
 use Rattle.std.specs.List.{AllByRecursion}
 use Rattle.dali_address.specs.Evidences.{Stands}
@@ -37,17 +37,18 @@ left_at (Taken short) left = 0
 abbrev pub left_of : Addressing → ℕ
 left_of run = left_at run.want run.left
 
--- its phase and what it wants fit what was told
+-- its phase and its want fit the exchanges
 pub record IsGoing (told : List Exchange) (run : Addressing) : Type 0 where
   pub fit : IsFit run.task run.phase
   pub wants : IsRightWant run.task told run.want
 
--- its task and what it was told are as they were
+-- its task and its exchanges are as they were
 pub record Keeps (old new : Addressing) : Type 0 where
   pub task : new.task ≡ old.task
   pub evidence : new.evidence ≡ old.evidence
 
--- a run was told these, the newest first: each frame that it sent was one that it may send, and right where it was sent
+-- a run has seen these exchanges, the newest first: each frame that it sent was one that it may send, and right when it
+-- was sent
 pub record Told (told : List Exchange) (run : Addressing) : Type 0 where
   pub stands : Stands run.evidence told
   pub going : IsGoing told run

@@ -1,11 +1,11 @@
--- What a run keeps of a free short address.
+-- The part of the state of a run that holds a free short address.
 use Rattle.std.specs.Prelude.{ℕ, List, Option, Some, None, ⊤}
 use Rattle.dali_address.specs.Rights.{IsSilent, IsFree, IsKeptFree}
 use Rattle.dali_address.specs.Steps.{Exchange}
 use Rattle.dali_address.specs.declared.vacancy.Vacancy.{Vacancy}
 use Rattle.dali_address.specs.declared.vacancy.Vacancy.TheVariants.{Unknown, Silent, Free}
 
--- it was told so
+-- the exchanges show it
 abbrev pub HasVacancy : Vacancy → List Exchange → Type 0
 HasVacancy Unknown told = ⊤
 HasVacancy (Silent short count) told = IsSilent short count told

@@ -23,7 +23,7 @@ opening_call number =
     else (if number == 10 then SearchMiddle 0xFF
     else SearchLow 0xFF)))))))
 
--- so many frames of the opening, the newest first
+-- this many frames of the opening, the newest first
 abbrev pub opened : ℕ → List Call
 opened zero = []
 opened (suc number) = opening_call number ∷ opened number
@@ -56,7 +56,7 @@ IsOn (Check noes) = ⊥
 IsOn Done = ⊥
 IsOn _ = ⊤
 
--- after it a census may give up: after an ask alone, where it goes on at all
+-- a census may give up after it: in its opening, or after an ask
 abbrev pub MayLose : Walk → Type 0
 MayLose (Open number) = ⊤
 MayLose Ask = ⊤

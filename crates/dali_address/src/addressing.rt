@@ -27,15 +27,15 @@ pub struct Addressing<'a> {
     phase: Phase,
     evidence: Evidence,
     want: Want,
-    // how many frames and lines it may still want, but for one
+    // how many frames and lines it may still want, except for one
     left: u32,
 }
 
 impl<'a> Addressing<'a> {
     ghost use Rattle.dali_address.specs.Told.{Told, IsWanted, IsSaying, IsGoing, Keeps, task_of, want_of, left_of};
 
-    /// A run for this task. Where it gives, these short addresses, 0 to 63, are given first, in order. One above 63
-    /// ends the giving, and isn't given: the caller refuses it.
+    /// A run for this task. If it gives, these short addresses, 0 to 63, are given first, in order. One above 63 ends
+    /// the giving, and isn't given: the caller refuses it.
     pub fn new(task: Task, units: &'a [u8]) -> Addressing<'a>
         ensures task { task_of result ≡ task }
         ensures told { Told [] result }
@@ -54,7 +54,7 @@ impl<'a> Addressing<'a> {
         }
     }
 
-    /// What it wants. Where it was told these frames and answers, that is right: a frame may follow them, a line is so.
+    /// Its want. If it has seen these frames and answers, that is right: a frame may follow them, a line is true.
     pub fn want(&self) -> Want
         ensures same { result ≡ want_of self.now }
         ensures right { (told : List Exchange) → Told told self.now → IsRightWant (task_of self.now) told result }
@@ -62,7 +62,7 @@ impl<'a> Addressing<'a> {
         self.want
     }
 
-    /// Tells what came back after the frame that it wanted. Nothing changes where it wanted none.
+    /// Tells what came back after the frame that it wanted. Nothing changes if it wanted none.
     pub fn heard(&mut self, answer: Option<u8>)
         ensures task { task_of self.new ≡ task_of self.old }
         ensures told { (told : List Exchange) (call : Call) → IsWanted self.old call → Told told self.old
@@ -81,7 +81,7 @@ impl<'a> Addressing<'a> {
         }
     }
 
-    /// Tells that the line that it wanted was told. Nothing changes where it wanted none.
+    /// Records that the line that it wanted was reported. Nothing changes if it wanted none.
     pub fn said(&mut self)
         ensures task { task_of self.new ≡ task_of self.old }
         ensures told { (told : List Exchange) (line : Line) → IsSaying self.old line → Told told self.old
@@ -94,7 +94,7 @@ impl<'a> Addressing<'a> {
         }
     }
 
-    // The next phase, or the end where so much was wanted.
+    // The next phase, or the end if its limit is reached.
     fn go(&mut self, phase: Phase)
         ensures kept { Keeps self.old self.new }
         ensures right { (told : List Exchange) → Stands self.old.evidence told → IsFit self.old.task phase
@@ -112,7 +112,7 @@ impl<'a> Addressing<'a> {
     }
 }
 
-// What is wanted in this phase.
+// The want in this phase.
 fn wanted(task: Task, ledger: &Ledger, phase: &Phase, evidence: &Evidence) -> Want
     ensures right { (told : List Exchange) → Stands evidence.now told → IsFit task phase.now
         → IsRightWant task told result }

@@ -19,7 +19,7 @@ pub trait AddressBus {
         ensures { Step (units self.old) (record { call = call.now; answer = result }) (units self.new) };
 }
 
-/// A bus, and somebody who is told what is found there.
+/// A bus, and a receiver of the lines about units found there.
 pub trait AddressDesk: AddressBus {
     ghost use Rattle.dali_address.specs.Runs.{IsTrueLine};
 

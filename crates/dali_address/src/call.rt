@@ -8,14 +8,13 @@ ghost use Rattle.dali_address.specs.Calls.{IsCall, call_word, short_byte};
 pub enum Call {
     /// TERMINATE: the initialisation state ends.
     Terminate,
-    /// INITIALISE, which counts where it comes twice: every unit enters the initialisation state.
+    /// INITIALISE, which counts if it comes twice: every unit enters the initialisation state.
     InitialiseAll,
     /// INITIALISE: units without a short address do.
     InitialiseMissing,
     /// INITIALISE: units at this short address do.
     InitialiseAt(u8),
-    /// RANDOMISE, which counts where it comes twice: each unit in the initialisation state draws a
-    /// random address.
+    /// RANDOMISE, which counts if it comes twice: each unit in the initialisation state draws a random address.
     Randomise,
     /// COMPARE: a unit answers YES if it is in the initialisation state, isn't withdrawn, and its
     /// random address is the search address or below.

@@ -7,9 +7,8 @@ use crate::census::{Census, CensusEnd, CensusWant};
 
 /// Carries a census over a bus to its end. It leaves the units in the initialisation state.
 ///
-/// Whatever is lost: each unit keeps its short address, or has none as before. Where nothing is lost, and no two units
-/// draw one random address: what its end says of the units is so. That no unit is left it believes after so many silent
-/// asks.
+/// Whatever is lost: each unit keeps its short address, or has none as before. If nothing is lost, and no two units
+/// draw one random address, its result is true of the units. It believes that no unit is left after `care` silent asks.
 pub fn serve_census<B: AddressBus>(bus: &mut B, care: u8) -> CensusEnd
     ensures taken { HasTaken care result (B.units bus.old) (B.units bus.new) }
     ensures stay { (short : Option ℕ) (number : ℕ) → HasShort short number (B.units bus.old)

@@ -22,12 +22,13 @@ pub enum CensusEnd {
     Apart(u8),
     /// Units told one short address, or that they have none; then none was left.
     Shared(Sharing),
-    /// It told nothing of the units: what the search came to told no short address eight times, a unit was found after
-    /// one with a higher random address, or it took more frames than the initialisation state lasts.
+    /// It says nothing of the units: no short address was answered eight times at the random address that the search
+    /// found, a unit was found after one with a higher random address, or it took more frames than the initialisation
+    /// state lasts.
     Unclear,
 }
 
-/// What a census wants.
+/// The want of a census.
 #[derive(Clone, Copy, Debug, PartialEq, Eq)]
 pub enum CensusWant {
     /// This frame is to be sent.
@@ -46,14 +47,14 @@ pub struct Census {
     walk: Walk,
     found: Found,
     kept: Tallied,
-    // how many frames it may still send, but for one
+    // how many frames it may still send, except for one
     left: u16,
 }
 
 impl Census {
     ghost use Rattle.dali_address.specs.Counting.{Told, IsWanted, HasEnded, care_of, left_of};
 
-    /// A census. It believes that no unit is there after so many asks.
+    /// A census. It believes that no unit is there after `care` asks.
     pub fn new(care: u8) -> Census
         ensures care { care_of result ≡ care }
         ensures told { Told [] result }

@@ -8,7 +8,7 @@ ghost use Rattle.dali_address.specs.declared.task.Task.{Task};
 use crate::call::Call;
 use crate::evidence::{Evidence, byte_of};
 
-/// What a round changes.
+/// The change that a round makes.
 #[derive(Clone, Copy, Debug, PartialEq, Eq)]
 pub(crate) enum Change {
     /// A unit without a short address gets this one.
@@ -18,7 +18,7 @@ pub(crate) enum Change {
 }
 
 impl Change {
-    /// What brings the units that it may concern into the initialisation state.
+    /// The frame that brings the units that it may concern into the initialisation state.
     pub(crate) fn initialise(self) -> Call
         ensures { (task : Task) (told : List Exchange) → FitsChange task self
             → MayFollow task told result }
@@ -29,7 +29,7 @@ impl Change {
         }
     }
 
-    /// What changes the unit that is searched for.
+    /// The frame that changes the unit that is searched for.
     pub(crate) fn call(self) -> Call
         ensures { result ≡ call_of self }
     {
@@ -50,7 +50,7 @@ impl Change {
         }
     }
 
-    /// What it tells of its short address once it is changed.
+    /// The unit's answer about its short address once it is changed.
     pub(crate) fn changed(self) -> u8 {
         match self {
             Change::Give(short) => byte_of(short),

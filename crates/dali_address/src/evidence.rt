@@ -53,12 +53,12 @@ impl Told {
     }
 }
 
-/// What a run keeps of what it was told: on it stands each frame that gives or takes a short address, each line and the
-/// end.
+/// The state that a run keeps of its exchanges. On it rests each frame that gives or takes a short address, each line
+/// and the end.
 #[derive(Drop)]
 pub(crate) struct Evidence {
     pub(crate) search: Search,
-    /// What came back, if QUERY SHORT ADDRESS went last.
+    /// The answer, if QUERY SHORT ADDRESS went last.
     pub(crate) asked: Option<u8>,
     pub(crate) vacancy: Vacancy,
     pub(crate) place: Option<u8>,
@@ -66,14 +66,14 @@ pub(crate) struct Evidence {
     pub(crate) ending: Ending,
     pub(crate) reading: Reading,
     pub(crate) earlier: Option<Named>,
-    /// Where it was last told that a unit is.
+    /// The short address at which a unit last answered.
     pub(crate) present: Option<u8>,
     /// Whether nothing but this was asked.
     pub(crate) is_asking: bool,
 }
 
 impl Evidence {
-    /// Nothing was told yet.
+    /// No exchange yet.
     pub(crate) fn new() -> Evidence
         ensures { Stands result [] }
     {
@@ -173,7 +173,7 @@ impl Evidence {
         matches!(&self.ending, Ending::Twice)
     }
 
-    /// Whether no unit is left in the initialisation state, as far as that can be told.
+    /// Whether no unit is left in the initialisation state, as far as that can be known.
     pub(crate) fn is_closed(&self) -> bool
         ensures { (told : List Exchange) → Stands self.now told → IsTrue result → IsClosed told }
     {
@@ -183,7 +183,7 @@ impl Evidence {
         }
     }
 
-    /// What was read at the short address last, and earlier too.
+    /// The random address that was read at the short address last, and earlier too.
     pub(crate) fn read_back(&self, short: u8) -> Option<Random>
         ensures { (told : List Exchange) → Stands self.now told → IfSome result (λ random.
             IsReadBack short (three_of_random random) told) }
@@ -195,7 +195,7 @@ impl Evidence {
         }
     }
 
-    /// Where it was told that a unit is, if nothing else was asked.
+    /// The short address at which a unit answered, if nothing else was asked.
     pub(crate) fn taken(&self) -> Option<u8>
         ensures { (told : List Exchange) (short : ℕ) → Stands self.now told → result ≡ Some short
             → IsTaken short told }
@@ -203,7 +203,7 @@ impl Evidence {
         if self.is_asking { self.present } else { None }
     }
 
-    /// Whether it was told that a unit is at the short address, and of none later.
+    /// Whether a unit answered at the short address, and none at another one later.
     pub(crate) fn is_present(&self, short: u8) -> bool
         ensures { (told : List Exchange) → Stands self.now told → IsTrue result → WasPresent short told }
     {
@@ -221,7 +221,7 @@ pub(crate) fn byte_of(short: u8) -> u8
     short.saturating_mul(2).saturating_add(1)
 }
 
-// What came back, if the frame is QUERY SHORT ADDRESS.
+// The answer, if the frame is QUERY SHORT ADDRESS.
 fn asked(call: &Call, answer: Option<u8>) -> Option<u8>
     ensures { (told : List Exchange) → HasAsked result (record { call = call.now; answer = answer } ∷ told) }
 {
@@ -231,7 +231,7 @@ fn asked(call: &Call, answer: Option<u8>) -> Option<u8>
     }
 }
 
-// Where it was last told that a unit is.
+// The short address at which a unit last answered.
 fn present(present: Option<u8>, call: &Call, answer: Option<u8>) -> Option<u8>
     ensures { (told : List Exchange) → HasPresent present told
         → HasPresent result (record { call = call.now; answer = answer } ∷ told) }

@@ -10,8 +10,8 @@ pub fn addresses_stay()
     ensures { AddressesStay }
 {}
 
-/// Whatever is lost: no memory changes, lock bytes of units that lost their power apart, and no unit
-/// becomes write-enabled.
+/// Whatever is lost: a unit that isn't write-enabled keeps its memory, lock bytes apart, and doesn't become
+/// write-enabled.
 pub fn memories_stay()
     ensures { MemoriesStay }
 {}
@@ -21,7 +21,7 @@ pub fn names_are_true()
     ensures { NamesAreTrue }
 {}
 
-/// Where nothing was lost in a census, and no two units drew one random address, what its end says of the units is so.
+/// If nothing was lost in a census, and no two units drew one random address, what its end says of the units is so.
 pub fn census_is_true()
     ensures { CensusIsTrue }
 {}
@@ -31,8 +31,7 @@ pub fn checks_count()
     ensures { ChecksCount }
 {}
 
-/// What the end of a census says of the units stays so, whatever is lost, along frames that give no short address and
-/// take none away.
+/// The result of a census stays true, whatever is lost, along frames that give no short address and take none away.
 pub fn end_stays()
     ensures { EndStays }
 {}

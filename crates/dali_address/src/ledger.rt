@@ -20,7 +20,7 @@ const MOST_TRIES: u8 = 8;
 // How many answers of eight say that a unit is there, or that one has no short address: one could be noise.
 const ENOUGH: u8 = 2;
 
-/// What a run has come to, and so what comes after each of its phases.
+/// The progress of a run, which decides the step after each of its phases.
 #[derive(Drop)]
 pub(crate) struct Ledger<'a> {
     // the short addresses that were asked for, in order
@@ -31,7 +31,7 @@ pub(crate) struct Ledger<'a> {
     fails: u8,
     // how often shared short addresses were taken away to be given anew
     repairs: u8,
-    // which are to be taken away, which were given, and which are to be told
+    // which are to be taken away, which were given, and which are to be reported
     clearing: ShortSet,
     given: ShortSet,
     untold: ShortSet,
@@ -68,7 +68,7 @@ impl<'a> Ledger<'a> {
         }
     }
 
-    /// The first phase. Where all are taken away first, those that were asked for are free by then.
+    /// The first phase. If all are taken away first, those that were asked for are free by then.
     pub(crate) fn first(&mut self, task: Task) -> Phase
         ensures { IsFit task result }
     {
@@ -289,7 +289,7 @@ impl<'a> Ledger<'a> {
         }
     }
 
-    // A round gave nothing, as far as that was told.
+    // A round gave nothing, as far as that is known.
     fn failed(&mut self, task: Task) -> Phase
         ensures { IsFit task result }
     {
@@ -301,7 +301,7 @@ impl<'a> Ledger<'a> {
         }
     }
 
-    // Nothing more is given: the units are told.
+    // Nothing more is given: the units are reported.
     fn name(&mut self, task: Task) -> Phase
         ensures { IsFit task result }
     {
@@ -341,8 +341,8 @@ impl<'a> Ledger<'a> {
         }
     }
 
-    // One reading is missed where a byte is, or where no other says the same. What can't be read is shared: where
-    // all are given anew, that is mended first.
+    // A reading is missed if a byte is, or if no other says the same. An address that can't be read is shared: if all
+    // are given anew, that is mended first.
     fn read(&mut self, task: Task, misses: u8, short: u8, heard: &Heard) -> Phase
         ensures { short < 64 → IsFit task result }
     {

@@ -3,6 +3,9 @@
 //! and a census, which counts units.
 //!
 //! It takes no memory.
+//!
+//! A crate of its own: addresses are searched for and given by other frames than memory is written, with units and
+//! laws of their own.
 #![tactic(auto)]
 
 mod addressing;

@@ -13,21 +13,21 @@ use crate::reading::Reading;
 use crate::round::Round;
 use crate::task::Line;
 
-/// How often a read of a random address may miss before the short address is told as shared (profile).
+/// How often a read of a random address may miss before the short address is reported as shared (profile).
 pub(crate) const MOST_MISSES: u8 = 16;
 
-/// What comes once no unit is left in the initialisation state.
+/// The next step once no unit is left in the initialisation state.
 #[derive(Clone, Copy, Debug, PartialEq, Eq)]
 pub(crate) enum Then {
-    /// What the run was asked for.
+    /// The task of the run.
     Begin,
-    /// The units are told.
+    /// The units are reported.
     Name,
     /// Nothing.
     End,
 }
 
-/// What a run is about to do.
+/// The next step of a run.
 #[derive(Clone, Copy, Debug, PartialEq, Eq)]
 pub(crate) enum Phase {
     /// Ask whether a short address is taken that was asked for.
@@ -44,9 +44,9 @@ pub(crate) enum Phase {
     Choose(Asks, u8),
     /// Give it to one.
     Give(Round, u8),
-    /// Ask whether a unit is at a short address that is to be told.
+    /// Ask whether a unit is at a short address that is to be reported.
     Look(Asks, u8),
-    /// Read the random address there, after so many misses.
+    /// Read the random address there, after this many misses.
     Read(u8, u8),
     Over,
 }
@@ -71,7 +71,7 @@ impl Phase {
         }
     }
 
-    /// The line that is to be told, if it is time for one.
+    /// The line to report, if it is time for one.
     pub(crate) fn line(&self, evidence: &Evidence) -> Option<Line>
         ensures { (task : Task) (told : List Exchange) (line : Line) → Stands evidence.now told → IsFit task self.now
             → result ≡ Some line → MayTell line told }

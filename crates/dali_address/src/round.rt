@@ -20,19 +20,19 @@ const MOST_CARE: u8 = 4;
 pub(crate) enum Outcome {
     /// The unit told that it is changed.
     Done,
-    /// At the random address that the search came to no unit answered, or one of another kind, or several: nothing was
+    /// No unit answered at the random address that the search found, or one of another kind, or several: nothing was
     /// programmed.
     Unfound,
     /// It was programmed, and what it has now wasn't told.
     Untold,
 }
 
-/// What a round is about to do. The last number of a step is how often it was done already.
+/// The next step of a round. The last number of a step is how often it was done already.
 #[derive(Clone, Copy, Debug, PartialEq, Eq)]
 pub(crate) enum Stage {
     /// Send the frame of this number of the opening.
     Open(u8),
-    /// Put the byte between these two, after so many asks that stayed silent.
+    /// Put the byte between these two, after this many asks that stayed silent.
     Seek(Digit, u8, u8, u8, u8),
     /// Ask whether a unit is there or below.
     Look(Digit, u8, u8, u8),
@@ -64,7 +64,7 @@ pub(crate) struct Round {
 impl Round {
     ghost use Rattle.dali_address.specs.Rounds.{change_of, HasEnded};
 
-    /// A round that is as careful as so many failures ask for.
+    /// A round as careful as this many failures ask for.
     pub(crate) fn new(change: Change, fails: u8) -> Round
         ensures { change_of result ≡ change }
     {
@@ -141,7 +141,7 @@ impl Round {
         }
     }
 
-    // After QUERY SHORT ADDRESS. What was programmed and not changed is programmed again.
+    // After QUERY SHORT ADDRESS. A unit that was programmed and hasn't changed is programmed again.
     fn asked(self, asks: u8, programs: u8, evidence: &Evidence, answer: Option<u8>) -> Stage
         ensures { (outcome : Outcome) → result ≢ Stage.Over outcome }
     {

@@ -10,8 +10,8 @@ use crate::task::{Summary, Task, Want};
 
 /// Carries a run over a bus to its end: its summary, or the short address that was asked for and is taken.
 ///
-/// Whatever is lost: each line is so when it is told; and where no unit is brought into the initialisation state
-/// that has a short address, one that has one and isn't in that state keeps its addresses.
+/// Whatever is lost: each line is true when it is reported. If no unit that has a short address is brought into the
+/// initialisation state, one that has a short address and isn't in that state keeps its addresses.
 pub fn serve_addressing<B: AddressDesk>(
     bus: &mut B,
     task: Task,

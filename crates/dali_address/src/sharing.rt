@@ -5,16 +5,17 @@ ghost use Rattle.dali_address.specs.Marking.{MarksByte, IsSaidBy};
 
 use crate::census::CensusEnd;
 
-/// What a census was told where the units aren't apart.
+/// The result of a census if the units aren't apart.
 #[derive(Clone, Copy, Debug, PartialEq, Eq)]
 pub struct Sharing {
-    /// Whether the short address was told twice, for each of 0 to 63.
+    /// Whether the short address was answered twice, for each of 0 to 63.
     pub addresses: [bool; 64],
     /// Whether a unit told that it has none.
     pub has_missing: bool,
 }
 
-/// What was told of short addresses: which, which of them twice, and as long as each was told once by a unit, how many.
+/// The answers about short addresses: which, which of them twice, and as long as each was answered once by a unit, how
+/// many.
 #[derive(Drop)]
 pub(crate) struct Marks {
     pub(crate) seen: [bool; 64],
@@ -24,7 +25,7 @@ pub(crate) struct Marks {
 }
 
 impl Marks {
-    /// Nothing was told.
+    /// No answer yet.
     pub(crate) fn new() -> Marks
         ensures { AreMarks result [] }
     {
@@ -39,7 +40,7 @@ impl Marks {
         }
     }
 
-    /// What they say where no unit is left.
+    /// The result if no unit is left.
     pub(crate) fn end(&self) -> CensusEnd
         ensures { IsSaidBy self.now result }
     {
@@ -71,7 +72,7 @@ impl Marks {
         self.count_one(was);
     }
 
-    // A short address was told, maybe not for the first time.
+    // A short address was answered, maybe not for the first time.
     fn count_one(&mut self, was: bool)
         ensures { CountsShort self.old was self.new }
     {

@@ -10,7 +10,7 @@ pub(crate) enum Digit {
     Low,
 }
 
-/// What is found so far of a random address: its high, middle and low byte.
+/// The part found so far of a random address: its high, middle and low byte.
 #[derive(Clone, Copy, Debug, PartialEq, Eq)]
 pub(crate) struct Found {
     pub(crate) high: u8,

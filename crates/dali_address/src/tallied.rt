@@ -10,12 +10,12 @@ use crate::call::Call;
 use crate::sharing::{Marks, short_told};
 use crate::stage::Found;
 
-/// What a census keeps of what it was told.
+/// The state that a census keeps of its exchanges.
 #[derive(Drop)]
 pub(crate) struct Tallied {
     /// The search address that was put.
     pub(crate) search: Found,
-    /// What came back if the newest frame was QUERY SHORT ADDRESS.
+    /// The answer if the newest frame was QUERY SHORT ADDRESS.
     pub(crate) asked: Option<u8>,
     /// How many such frames told no short address since a unit was counted.
     pub(crate) unanswered: u8,

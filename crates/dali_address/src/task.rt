@@ -1,15 +1,15 @@
 use crate::call::Call;
 
-/// What a run is asked for.
+/// The task of a run.
 #[derive(Clone, Copy, Debug, PartialEq, Eq)]
 pub enum Task {
     /// Each unit without a short address gets one.
     Give,
     /// All short addresses are taken away first, and then given anew.
     All,
-    /// None is given: the units that have one are told.
+    /// None is given: the units that have one are reported.
     List,
-    /// None is given and none is told: units are brought out of the initialisation state.
+    /// None is given and none is reported: units are brought out of the initialisation state.
     Close,
 }
 
@@ -21,7 +21,7 @@ pub struct Random {
     pub low: u8,
 }
 
-/// What a run tells, in order.
+/// The lines that a run reports, in order.
 #[derive(Clone, Copy, Debug, PartialEq, Eq)]
 pub enum Line {
     /// A unit at this short address told this random address, twice.
@@ -37,18 +37,18 @@ pub struct Summary {
     pub given: u8,
     /// 1 if some unit has none, 0 otherwise: units without one can't be counted.
     pub missing: u8,
-    /// How many short addresses were told as shared.
+    /// How many short addresses were reported as shared.
     pub shared: u8,
     /// Whether units may still be in the initialisation state.
     pub open: bool,
 }
 
-/// What a run wants.
+/// The want of a run.
 #[derive(Clone, Copy, Debug, PartialEq, Eq)]
 pub enum Want {
     /// This frame is to be sent.
     Send(Call),
-    /// This line is to be told.
+    /// This line is to be reported.
     Tell(Line),
     /// Nothing: it ended so.
     Ended(Summary),

@@ -10,7 +10,7 @@ use crate::call::Call;
 /// How often it must stay silent at a short address before it is given (profile).
 pub(crate) const SILENT_ASKS: u8 = 8;
 
-/// What is known of a free short address.
+/// The knowledge of a free short address.
 #[derive(Clone, Copy, Debug, PartialEq, Eq)]
 pub(crate) enum Vacancy {
     Unknown,

@@ -16,12 +16,12 @@ const MOST_UNANSWERED: u8 = 16;
 // The frames of the opening.
 const OPENING: u8 = 13;
 
-/// What a census is about to do. The last number of a search is how often no unit answered.
+/// The next step of a census. The last number of a search is how often no unit answered.
 #[derive(Clone, Copy, Debug, PartialEq, Eq)]
 pub(crate) enum Walk {
     /// Send the frame of this number of the opening.
     Open(u8),
-    /// Ask whether any unit is left: so many times none was.
+    /// Ask whether any unit is left: this many times none was.
     Check(u8),
     /// Put a byte between these two.
     Seek(Digit, u8, u8, u8),
@@ -64,7 +64,7 @@ impl Walk {
         Ok(call)
     }
 
-    /// What comes after it, by what came back, once the opening is over.
+    /// The step after it, by the answer, once the opening is over.
     pub(crate) fn after(self, care: u8, kept: &Tallied, answer: Option<u8>) -> Walk
         ensures last { result ≡ Walk.Done → IsLast care self kept.now answer }
         ensures going { GoesOn self answer result }
@@ -106,7 +106,7 @@ fn opening(number: u8) -> Call
     }
 }
 
-/// What comes after the frame of this number of the opening.
+/// The step after the frame of this number of the opening.
 pub(crate) fn opened(number: u8) -> Walk
     ensures more { number + 1 < 13 → result ≡ Walk.Open (number + 1) }
     ensures over { 13 ≤ number + 1 → result ≡ Walk.Check 0 }
@@ -184,8 +184,8 @@ fn narrowed(digit: Digit, low: u8, high: u8) -> Walk
     }
 }
 
-// A unit is asked twice; where none tells its short address, the search begins anew. One below a unit that was
-// withdrawn before wasn't heard then.
+// A unit is asked twice; if none tells its short address, the search begins anew. One below a unit that was withdrawn
+// before wasn't heard then.
 fn asked(kept: &Tallied) -> Walk
     ensures { IsOn result }
 {

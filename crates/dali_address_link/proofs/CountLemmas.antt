@@ -15,7 +15,7 @@ use Rattle.dali_address.specs.declared.census.CensusEnd.{CensusEnd}
 use Rattle.dali_address_link.specs.Addressed.{frames_of}
 use Rattle.dali_address_link.specs.Counted.{IsAsked, IsCounted}
 
--- so far these frames went, and the census was told what came of them
+-- so far these frames went, and the census has seen what came of them
 pub record IsCounting (care : ℕ) (census : Census) (first last : Streams) : Type 0 where
   pub own : care_of census ≡ care
   pub past : List Exchange

@@ -22,7 +22,7 @@ use Rattle.dali_address_link.specs.AddressLines.{address_line}
 use Rattle.dali_address_link.specs.Addressed.{AddressingBroke, IsMoved, Move, frames_of, lines_in, told_in}
 use Rattle.dali_address_link.specs.Addressed.Move.{Carried, Said}
 
--- so far these moves were made, and the run was told what came of them
+-- so far these moves were made, and the run has seen what came of them
 pub record IsGoing (task : Task) (run : Addressing) (first last : Streams) : Type 0 where
   pub moves : List Move
   pub moved : IsMoved task moves first last
@@ -68,7 +68,7 @@ carried task before after first mid last call word answer far is wanted right ow
       told = told (told_in far.moves) call wanted far.told;
     }
 
--- one more line was told
+-- one more line was written
 pub said : (task : Task) (before after : Addressing) (first mid last : Streams) (line : Line) (text : List ℕ)
     → IsGoing task before first mid → text ≡ address_line line → IsSaying before line
     → ((told : List Exchange) → Told told before → MayTell line told)

@@ -28,7 +28,7 @@ next_shared (false ∷ more) (suc index) from other below =
     next_shared more index (from + 1) other (omega arith)
     ∙ ap (λ (short : ℕ). shared_lines (take index more) (from + 1) ++ marked (get_or more index other) short) same
 
--- the next one's line stands after those before it, if it is marked
+-- the next one's line comes after those before it, if it is marked
 pub next_line : (addresses : List Bool) (index : ℕ) (other : Bool) → index < length addresses
     → shared_lines (take (index + 1) addresses) 0
     ≡ shared_lines (take index addresses) 0 ++ marked (get_or addresses index other) index

@@ -26,7 +26,7 @@ pub data Move : Type 0 where
   Carried : Exchange → Move
   Said : Line → Move
 
--- of moves, the newest first: what was told, and the lines
+-- of moves, the newest first: the exchanges, and the lines
 abbrev pub told_in : List Move → List Exchange
 told_in [] = []
 told_in (Carried exchange ∷ past) = exchange ∷ told_in past
@@ -47,8 +47,8 @@ AreRightMoves task (Said line ∷ past) = MayTell line (told_in past) × AreRigh
 abbrev pub frames_of : List Exchange → List Sending
 frames_of told = map (λ x. record { frame = Other (call_word x.call); answer = x.answer }) told
 
--- from first to last these moves were made: just their frames went and their answers came, and just their lines were
--- written
+-- from first to last these moves were made: exactly their frames went and their answers came, and exactly their lines
+-- were written
 pub record IsMoved (task : Task) (moves : List Move) (first last : Streams) : Type 0 where
   pub right : AreRightMoves task moves
   pub link : LinkText (frames_of (told_in moves)) (link_of first) (link_of last)

@@ -16,13 +16,14 @@ use Rattle.dali_address.specs.declared.call.Call.{Call}
 use Rattle.dali_address.specs.declared.census.CensusEnd.{CensusEnd}
 use Rattle.dali_address_link.specs.Addressed.{frames_of}
 
--- from first to last just these frames went, none of which gives or takes a short address, and just their answers came
+-- from first to last exactly these frames went, none of which gives or takes a short address, and exactly their answers
+-- came
 pub record IsAsked (told : List Exchange) (first last : Streams) : Type 0 where
   pub gives : AllByRecursion (λ exchange. GivesNone exchange.call) told
   pub link : LinkText (frames_of told) first last
 
--- The census came to its end, which rests on so many silent asks. Of units over which nothing of this was lost, and no
--- two of which have drawn one random address, what the end says is so.
+-- The census completed, which rests on `care` silent asks. If over these units nothing of this was lost, and no two of
+-- them have drawn one random address, what the end says is true of them.
 pub record IsCounted (care : ℕ) (end : CensusEnd) (first last : Streams) : Type 0 where
   pub told : List Exchange
   pub asked : IsAsked told first last

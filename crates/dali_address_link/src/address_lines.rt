@@ -14,13 +14,13 @@ use dali_frame::byte_digits;
 // The most bytes of what tells an end.
 const MOST_END: usize = 96;
 
-/// What tells how a run ended, of at most 96 bytes.
+/// The text that says how a run ended, of at most 96 bytes.
 pub type EndText = ArrayVec<u8, MOST_END>;
 
 // The most bytes of what tells a count: eleven for each short address.
 const MOST_COUNT: usize = 704;
 
-/// What tells how a count ended, of at most 704 bytes.
+/// The text that says how a count ended, of at most 704 bytes.
 pub type CountText = ArrayVec<u8, MOST_COUNT>;
 
 /// The line that tells that units may still be in the initialisation state.
@@ -56,7 +56,7 @@ fn push_random(line: &mut Line, random: Random)
     let _fits = line.try_extend_from_slice(&byte_digits(random.low));
 }
 
-/// What tells how a run ended: `given G missing M shared S`, and before it a line if units may still be in the
+/// The text that says how a run ended: `given G missing M shared S`, and before it a line if units may still be in the
 /// initialisation state; or which named short address is that of a unit already.
 pub fn end_text(end: End) -> EndText
     ensures { result.items ≡ end_text end }
@@ -104,7 +104,8 @@ fn taken_line(short: u8) -> Line
     line
 }
 
-/// What tells how a count ended: `apart K`, a line `shared A` for each short address that units share, or `unclear`.
+/// The text that says how a count ended: `apart K`, a line `shared A` for each short address that units share, or
+/// `unclear`.
 pub fn count_text(end: &CensusEnd) -> CountText
     ensures { result.items ≡ count_text end.now }
 {

@@ -7,10 +7,10 @@ use dali_address::{Census, CensusEnd, CensusWant, word_of_call};
 use dali_drive::{DriveFault, Sink, Source, exchange};
 use dali_frame::Frame;
 
-/// Counts the units over a link, as `Census` says (profile). It believes that none is left after so many silent asks,
+/// Counts the units over a link, as `Census` says (profile). After `care` silent asks it believes that none is left,
 /// and leaves the units in the initialisation state.
 ///
-/// Each frame goes by `exchange`. No stream may have failed.
+/// Each frame is sent by `exchange`. No stream may have failed.
 ///
 /// `Link`, `Line`, `End` and `TooLong` say what ended it.
 pub fn count_units<I: Source, L: Sink>(

@@ -1,4 +1,6 @@
 //! Runs that give or list short addresses, over a link (profile).
+//!
+//! A crate of its own: `dali_address` takes no stream, and the crates that write memory need no addresses.
 #![tactic(auto)]
 
 mod address_lines;

@@ -11,16 +11,16 @@ use dali_frame::Frame;
 /// How a run ended.
 #[derive(Clone, Copy, Debug, PartialEq, Eq)]
 pub enum End {
-    /// It came to its end.
+    /// It completed.
     Done(Summary),
     /// This named short address is that of a unit already. Only queries were sent.
     Taken(u8),
 }
 
-/// Gives or lists short addresses over a link, as `Addressing` says (profile): a line to `out` for each unit,
-/// as it is told. Of the units' short addresses one above 63 and those after it are passed over.
+/// Gives or lists short addresses over a link, as `Addressing` says (profile): a line to `out` for each unit, as it is
+/// found. Of the units' short addresses one above 63 and those after it are passed over.
 ///
-/// Each frame goes by `exchange`. No stream may have failed.
+/// Each frame is sent by `exchange`. No stream may have failed.
 ///
 /// `Link`, `Line`, `End` and `TooLong` say what ended it, and `Out` that a line couldn't be written.
 pub fn address_units<I: Source, L: Sink, O: Sink>(

@@ -71,7 +71,7 @@ same_digits m n (c ∷ a) (d ∷ b) sized one other same =
     let first : c ≡ d = omega (arith, heads, c_digit, d_digit) in
     (omega (arith, heads, c_digit, d_digit), rw first (ap (λ t. d ∷ t) tails.1))
 
--- the digits of a number are a GTIN exactly where 14 digits that write it are
+-- the digits of a number are a GTIN exactly when 14 digits that write it are
 pub gtin_number_from_digits : (n : ℕ) (s : List ℕ) → length s ≡ 14 → All IsAsciiDigit s → digits_value 10 s ≡ n
     → IsGtin s ↔ IsGtinNumber n
 gtin_number_from_digits n s sized digits value = (

@@ -1,4 +1,4 @@
--- Lemmas on the updates of fields that lie one behind the other.
+-- Lemmas on the updates of fields that lie one after the other.
 use Rattle.std.proofs.Common.{◌≡◌, ℕ, zero, suc, ◌+◌, ◌<◌, ◌≤◌, ◌≢◌, ◌⊎◌, inl, inr, lit≤, List, [], ◌∷◌, ◌++◌, Option}
 use Rattle.std.proofs.Common.{Some, None, IfSome, IsSomeAnd, unwrap_or, map, replicate, take, length, get_or, set, refl}
 use Rattle.std.proofs.Common.{ap, sym, subst, ◌∙◌, arith, lit<, add-zero, length-set, false, is_some, get_or-set_same}
@@ -21,7 +21,7 @@ use Rattle.dali_bank.specs.Order.{IsWritable, RisesAbove, AreUpdates}
 
 -- ---- bytes at their places
 
--- one byte more goes behind the others
+-- one more byte goes after the others
 pub placed_at-snoc : (first : ℕ) (bytes : List ℕ) (byte : ℕ)
     → placed_at first (bytes ++ byte ∷ []) ≡ placed_at first bytes ++ (first + length bytes, byte) ∷ []
 placed_at-snoc first [] byte = rw add-zero refl
@@ -34,7 +34,7 @@ pub length-placed_at : (first : ℕ) (bytes : List ℕ) → length (placed_at fi
 length-placed_at first [] = refl
 length-placed_at first (byte ∷ bytes) = ap suc (length-placed_at (first + 1) bytes)
 
--- what rises behind the last place of the bytes rises behind them
+-- updates that rise above the last place of the bytes rise after them
 placed_at-rises : (bound first : ℕ) (bytes : List ℕ) (others : List (ℕ × ℕ)) → bound < first
     → ((last : ℕ) → last < first + length bytes → RisesAbove last others)
     → RisesAbove bound (placed_at first bytes ++ others)
@@ -44,7 +44,7 @@ placed_at-rises bound first (byte ∷ bytes) others above behind = (
   placed_at-rises first (first + 1) bytes others (omega arith) (λ last within. behind last (omega (arith, within))),
 )
 
--- so many places from the first on lie in one of the two runs that an order may write
+-- `size` places from the first on lie in one of the two runs that an order may write
 abbrev ArePlaces : ℕ → ℕ → Type 0
 ArePlaces first size = ((0x03 ≤ first) × (first + size ≤ 0x11)) ⊎ ((0x13 ≤ first) × (first + size ≤ 0x78))
 
@@ -164,7 +164,7 @@ found_with found field bytes sized each =
       | inr other ↦ rw get_or-set_other (at_each (λ g. Fits (get_or found (rank_of g) None) g) each f)
     ])
 
--- each field begins behind the one before it
+-- each field begins after the one before it
 abbrev FollowFrom : ℕ → List Field → Type 0
 FollowFrom from [] = ⊤
 FollowFrom from (field ∷ others) = (from ≤ first_of field) × FollowFrom (first_of field + length_of field) others

@@ -7,7 +7,7 @@ use lib.Pointwise.{pointwise}
 abbrev is_pair : ℕ × ℕ → ℕ × ℕ → Bool
 is_pair x y = nat_eq x.0 y.0 && nat_eq x.1 y.1
 
--- where each pair is the other's, the lists are the same
+-- if each pair is the other's, the lists are the same
 pub pairs_same : (pairs others : List (ℕ × ℕ)) → pointwise is_pair pairs others ≡ true → pairs ≡ others
 pairs_same [] [] told = refl
 pairs_same [] (other ∷ others) told = cc

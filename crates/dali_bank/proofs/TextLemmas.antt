@@ -6,7 +6,7 @@ use Rattle.std.specs.List.{AllByRecursion}
 use Rattle.dali_bank.specs.Spelling.{IsText, IsTextByte, ShowsText}
 use Rattle.std.proofs.lemmas.List.{take-replicate}
 
--- the text over the front of so many zeros, cut to the size
+-- the text over the front of `room` zeros, cut to the size
 pub filled_up : (s : List ℕ) (size room : ℕ) → length s ≤ size → size ≤ room
     → take size (s ++ drop (length s) (replicate room 0)) ≡ s ++ replicate (size - length s) 0
 filled_up [] size room few fits =

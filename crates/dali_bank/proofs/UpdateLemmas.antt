@@ -1,4 +1,4 @@
--- The byte that rising updates have for a location is the one that stands among them.
+-- The byte that rising updates have for a location is the one that is among them.
 use Rattle.std.proofs.Common.{◌≡◌, refl, ap, ◌∙◌, subst, ℕ, zero, suc, ◌<◌, Bool, true, false, ◌==◌, List, [], ◌∷◌}
 use Rattle.std.proofs.Common.{length, get_or, Contains, Some, arith}
 use Rattle.std.proofs.lemmas.Bool.{eqb-true, eq-eqb, ne_eqb}
@@ -10,7 +10,7 @@ same_pair update location byte first second =
     let with : ℕ → ℕ × ℕ = λ b. (location, b) in
     ap at first ∙ ap with second
 
--- what is found stands among them
+-- the byte that is found is among them
 pub found_among : (updates : List (ℕ × ℕ)) (location byte : ℕ) → update_at updates location ≡ Some byte
     → Contains updates (location, byte)
 found_among [] location byte e = cc
@@ -31,7 +31,7 @@ here bound update found updates less e =
     let P : ℕ × ℕ → Type 0 = λ u. (bound < u.0) × (update_at (update ∷ updates) u.0 ≡ Some u.1) in
     subst P e (less, rw (eq-eqb update.0 update.0 refl) refl)
 
--- what stands among them at a place of the list is found
+-- the byte that is among them at a place of the list is found
 at_place : (bound location byte : ℕ) (updates : List (ℕ × ℕ)) (k : ℕ) → RisesAbove bound updates → k < length updates
     → get_or updates k (location, byte) ≡ (location, byte)
     → (bound < location) × (update_at updates location ≡ Some byte)

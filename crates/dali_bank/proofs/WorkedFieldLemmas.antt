@@ -1,4 +1,5 @@
--- Which bytes stand for a value and which don't, near the edges: what a weaker definition of a field would let through.
+-- Which bytes stand for a value and which don't, near the edges: cases that a weaker definition of a field would let
+-- through.
 use Rattle.std.proofs.Common.{◌≡◌, ℕ, ◌%◌, replicate, List, [], ◌∷◌, get_or, refl, arith, ap, zero, suc}
 use Rattle.dali_bank.specs.declared.field.Form.TheVariants as form
 use Rattle.dali_bank.specs.declared.shown.Shown.{Shown}

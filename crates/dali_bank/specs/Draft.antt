@@ -1,4 +1,4 @@
--- What a draft holds, and the order that it makes.
+-- The content of a draft, and the order that it makes.
 use Rattle.std.specs.Prelude.{◌≡◌, ℕ, ◌≢◌, ◌+◌, ◌<◌, Option, Some, None, IfSome, IsSomeAnd, List, [], ◌∷◌, length}
 use Rattle.std.specs.Prelude.{replicate, slice_index_or, slice_set, unwrap_or}
 use Rattle.std.specs.List.{AllByRecursion, flat_map}
@@ -8,7 +8,7 @@ use Rattle.dali_bank.specs.declared.field.Field.TheVariants.{MinVoltage, MaxVolt
 use Rattle.dali_bank.specs.Numbers.{big_endian}
 use Rattle.dali_bank.specs.Order.{Contents}
 
--- a draft's number, the short address of its unit, and for each field its bytes, where it is set
+-- a draft's number, the short address of its unit, and for each field its bytes, if it is set
 pub record Drafted : Type 0 where
   pub id : ℕ
   pub unit : ℕ
@@ -18,7 +18,7 @@ pub record Drafted : Type 0 where
 abbrev pub empty_draft : ℕ → ℕ → Drafted
 empty_draft id unit = record { id = id; unit = unit; found = replicate (length fields) None }
 
--- the bytes of a field, where it is set
+-- the bytes of a field, if it is set
 abbrev pub found_of : Field → Drafted → Option (List ℕ)
 found_of field draft = slice_index_or draft.found (rank_of field) None
 
@@ -31,7 +31,7 @@ abbrev pub placed_at : ℕ → List ℕ → List (ℕ × ℕ)
 placed_at first [] = []
 placed_at first (byte ∷ bytes) = (first, byte) ∷ placed_at (first + 1) bytes
 
--- the bytes of a field, none where it isn't set
+-- the bytes of a field, none if it isn't set
 abbrev pub bytes_of : Field → Drafted → List ℕ
 bytes_of field draft = unwrap_or (found_of field draft) []
 

@@ -1,4 +1,4 @@
--- When a draft refuses, and how a fault is told.
+-- When a draft refuses, and how a fault is reported.
 use Rattle.std.specs.Prelude.{◌≡◌, ℕ, List, [], Option, Some, None, IsSome, codes}
 use Rattle.dali_bank.specs.declared.field.Field.{Field}
 use Rattle.dali_bank.specs.declared.field.Form.{Form}
@@ -46,12 +46,12 @@ IsFormFault form size value fault =
 abbrev pub IsValueFault : Field → Plain → BankFault → Type 0
 IsValueFault field value fault = IsFormFault (row_of field).form (length_of field) value fault
 
--- why a draft does not set the field to the value: the first fault that stands
+-- why a draft does not set the field to the value: the first fault that applies
 abbrev pub IsSetFault : Field → Plain → Drafted → BankFault → Type 0
 IsSetFault field value draft Twice = HasBytes field value × IsSome (found_of field draft)
 IsSetFault field value draft fault = IsValueFault field value fault
 
--- why a draft makes no order: the first fault that stands
+-- why a draft makes no order: the first fault that applies
 abbrev pub IsFinishFault : Drafted → BankFault → Type 0
 IsFinishFault draft Voltage = VoltagesCross draft
 IsFinishFault draft Empty = (¬ VoltagesCross draft) × (updates_of draft ≡ [])

@@ -3,7 +3,7 @@ use Rattle.std.specs.Prelude.{◌≡◌, ◌==◌, ◌⊎◌, ℕ, ◌+◌, ◌*
 use Rattle.std.specs.Char.{IsAsciiDigit, digit_value}
 use Rattle.std.specs.Str.Parse.{digits_value}
 
--- the weight of a digit with so many digits to its right: 1 and 3 in turn, 1 for the last digit
+-- the weight of a digit with this many digits to its right: 1 and 3 in turn, 1 for the last digit
 abbrev pub weight_of : ℕ → ℕ
 weight_of right = if right % 2 == 0 then 1 else 3
 

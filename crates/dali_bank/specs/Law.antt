@@ -31,7 +31,7 @@ IsShownOnce =
     (field : Field) (bank : List ℕ) (one other : Shown) → IsShown bank field one → IsShown bank field other
     → one ≡ other
 
--- the byte that rising updates have for a location is the one that stands among them with it
+-- the byte that rising updates have for a location is the one that is among them with it
 abbrev pub UpdatesAreFound : Type 0
 UpdatesAreFound =
     (updates : List (ℕ × ℕ)) (location byte : ℕ) → RisesAbove 0 updates

@@ -54,7 +54,7 @@ first_of field = (row_of field).first
 abbrev pub length_of : Field → ℕ
 length_of field = (row_of field).length
 
--- so many bytes suit this form: they have room for each of its values, and for the number of FFh in every byte above
+-- `size` bytes suit this form: they have room for each of its values, and for the number of FFh in every byte above
 -- them
 abbrev pub SuitsForm : Form → ℕ → Type 0
 SuitsForm form.Gtin size = size ≡ 6

@@ -7,7 +7,7 @@ abbrev pub big_endian : List ℕ → ℕ
 big_endian [] = 0
 big_endian (byte ∷ bytes) = byte * 256 ^ length bytes + big_endian bytes
 
--- so many bytes, which add up to the number
+-- `size` bytes, which add up to the number
 pub record SpellsNumber (size number : ℕ) (bytes : List ℕ) : Type 0 where
   pub sized : length bytes ≡ size
   pub in_range : AllByRecursion (λ byte. byte < 256) bytes

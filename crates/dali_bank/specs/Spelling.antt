@@ -39,13 +39,13 @@ FormTakes _ _ = ⊥
 abbrev pub IsTextByte : ℕ → Type 0
 IsTextByte byte = (0x20 ≤ byte) × (byte ≤ 0x7E)
 
--- 1 to so many characters
+-- 1 to `size` characters
 pub record IsText (size : ℕ) (s : List ℕ) : Type 0 where
   pub some : 1 ≤ length s
   pub few : length s ≤ size
   pub characters : AllByRecursion IsTextByte s
 
--- so many bytes stand for the value in a field of this form
+-- `size` bytes stand for the value in a field of this form
 abbrev pub AreFormBytes : Form → ℕ → Plain → List ℕ → Type 0
 AreFormBytes form.Gtin size (digits s) bytes = IsGtin s × SpellsNumber size (digits_value 10 s) bytes
 AreFormBytes form.Identification size (hex s) bytes =

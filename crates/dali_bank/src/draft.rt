@@ -43,7 +43,7 @@ impl Draft {
 
     /// A draft with no field set.
     ///
-    /// Fault 1 Unit where the short address is over 63.
+    /// Fault 1 Unit if the short address is over 63.
     pub fn new(id: u64, unit: u8) -> Result<Draft, BankFault>
         ensures short { IsOk result ↔ (unit ≤ 63) }
         ensures ok { IfOk result (λ draft. draft ≡ empty_draft id unit) }
@@ -61,11 +61,10 @@ impl Draft {
 
     /// Sets a field that isn't set yet.
     ///
-    /// Fault 2 Kind where the field doesn't take a value of this kind, 3 Range where a number is
-    /// out of the field's range, 4 Gtin where the digits are no GTIN, 5 Text where a text isn't 1
-    /// to as many characters as the field has bytes, each 20h to 7Eh, or an identification number
-    /// isn't 16 hexadecimal digits, 6 Twice where the field is set already: the first that stands.
-    /// The draft is then as it was.
+    /// Fault 2 Kind if the field doesn't take a value of this kind, 3 Range if a number is out of the field's range, 4
+    /// Gtin if the digits are no GTIN, 5 Text if a text isn't 1 to as many characters as the field has bytes, each 20h
+    /// to 7Eh, or an identification number isn't 16 hexadecimal digits, 6 Twice if the field is set already: the first
+    /// that applies. The draft is then as it was.
     pub fn set(&mut self, field: Field, value: Value<'_>) -> Result<(), BankFault>
         ensures accepted { HasBytes field (plain value.entry) → found_of field self.old ≡ None
             → IsOk result }
@@ -84,8 +83,8 @@ impl Draft {
 
     /// The order of all fields that are set.
     ///
-    /// Fault 7 Voltage where both voltages are numbers and the minimum is over the maximum, 8 Empty
-    /// where no field is set: the first that stands. The draft then comes back as it was.
+    /// Fault 7 Voltage if both voltages are numbers and the minimum is over the maximum, 8 Empty if no field is set:
+    /// the first that applies. The draft then comes back as it was.
     pub fn finish(self) -> Result<Order, (Draft, BankFault)>
         ensures accepted { IsOk result ↔ ((¬ VoltagesCross self) × (updates_of self ≢ [])) }
         ensures ok { IfOk result (λ order. order ≡ order_of self) }
@@ -134,7 +133,7 @@ impl Draft {
         updates
     }
 
-    // The bytes of a field, none where it isn't set.
+    // The bytes of a field, none if it isn't set.
     fn bytes(&self, field: Field) -> &[u8]
         ensures value { result.now ≡ bytes_of field self.now }
         ensures few { length result.now ≤ length_of field }

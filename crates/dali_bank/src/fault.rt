@@ -3,7 +3,7 @@ ghost use Rattle.std.specs.Prelude.{◌≡◌, Some};
 use std::error::Error;
 use std::fmt;
 
-/// Why a draft was refused. Of several faults the one with the lowest number is told (profile).
+/// Why a draft was refused. Of several faults the one with the lowest number is reported (profile).
 #[derive(Clone, Copy, Debug, PartialEq, Eq)]
 pub enum BankFault {
     /// The unit's short address is over 63.

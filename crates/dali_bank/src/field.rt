@@ -34,7 +34,7 @@ pub enum Field {
     Luminaire,
 }
 
-/// What values a field takes, and how they are spelled.
+/// The values that a field takes, and how they are spelled.
 #[derive(Clone, Copy)]
 pub(crate) enum Form {
     /// The digits of a GTIN, as one number.

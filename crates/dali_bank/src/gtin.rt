@@ -3,7 +3,7 @@ ghost use Rattle.std.specs.Char.{IsAsciiDigit};
 ghost use Rattle.std.specs.Str.Parse.{digits_value};
 ghost use Rattle.dali_bank.specs.Gtin.{IsGtin, IsGtinLength, IsGtinNumber, weight_of, weighted_sum as weighted_sum_of};
 
-/// The number of a GTIN, where the text is one. Leading zeros don't show in it.
+/// The number of a GTIN, if the text is one. Leading zeros don't show in it.
 pub(crate) fn gtin_number(text: &str) -> Option<u64>
     ensures found { IsSome result ↔ IsGtin text.now }
     ensures value { IfSome result (λ number. number ≡ digits_value 10 text.now) }
@@ -71,7 +71,7 @@ fn weighted_sum(digits: &[u8]) -> u32
     sum
 }
 
-// The weight of a digit with so many digits to its right.
+// The weight of a digit with this many digits to its right.
 fn weight(right: usize) -> u32
     ensures value { result ≡ weight_of right }
     ensures small { result ≤ 3 }

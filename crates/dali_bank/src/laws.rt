@@ -20,7 +20,7 @@ pub fn fields_are_shown_once()
     ensures { IsShownOnce }
 {}
 
-/// The byte that an order's updates have for a location is the one that stands among them with it.
+/// The byte that an order's updates have for a location is the one that is among them with it.
 pub fn updates_are_found_by_location()
     ensures { UpdatesAreFound }
 {}

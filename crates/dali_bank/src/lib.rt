@@ -2,6 +2,8 @@
 //! fields of a bank are shown.
 //!
 //! The layout is that of IEC 62386-251 (DiiA Part 251), content format 0003h. No call takes memory.
+//!
+//! A crate of its own: the layout of the standard is used by writers, readers and texts, and depends on no bus.
 #![tactic(auto)]
 
 mod blank;

@@ -47,8 +47,8 @@ impl Order {
 
     /// The order of these parts, each pair a location and a byte.
     ///
-    /// None where they make no order: where the short address is over 63, there aren't 1 to 115 pairs,
-    /// or their locations don't rise or one isn't in 03h to 10h or 13h to 77h.
+    /// None if they make no order: if the short address is over 63, there aren't 1 to 115 pairs, or their locations
+    /// don't rise or one isn't in 03h to 10h or 13h to 77h.
     pub fn from_pairs(id: u64, unit: u8, pairs: &[(u8, u8)]) -> Option<Order>
         ensures made { IsSome result ↔ ((unit ≤ 63) × AreUpdates pairs.now) }
         ensures parts { IfSome result (λ order. order ≡ record { id = id; unit = unit; updates = pairs.now }) }

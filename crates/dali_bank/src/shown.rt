@@ -18,7 +18,7 @@ pub enum Shown {
     Number(u64),
     /// An identification number: its eight bytes.
     Hex,
-    /// A text of so many characters, 1 to 60, filled up with zeros.
+    /// A text of this many characters, 1 to 60, filled up with zeros.
     Text(u8),
     /// Other bytes.
     Raw,
@@ -26,10 +26,9 @@ pub enum Shown {
 
 /// How a field of the bank is shown; the bank's first byte is that of location 00h.
 ///
-/// Absent where the bank ends before the field's last byte, else Unknown where all bytes of the
-/// field are FFh, else the value for which the bytes stand (the eight bytes of an identification
-/// number always stand for it), else Raw. A GTIN is Number where the stored number has at most 14
-/// decimal digits and they are a GTIN with leading zeros to 14.
+/// Absent if the bank ends before the field's last byte, else Unknown if all bytes of the field are FFh, else the value
+/// for which the bytes stand (the eight bytes of an identification number always stand for it), else Raw. A GTIN is
+/// Number if the stored number has at most 14 decimal digits and they are a GTIN with leading zeros to 14.
 pub fn read_field(bank: &[u8], field: Field) -> Shown
     ensures { IsShown bank.now field result }
 {

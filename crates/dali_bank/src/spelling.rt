@@ -60,7 +60,7 @@ fn form_bytes(form: Form, length: u8, value: Value<'_>) -> Result<FieldBytes, Ba
     }
 }
 
-// The eight bytes that sixteen hexadecimal digits spell, where the text is such.
+// The eight bytes that sixteen hexadecimal digits spell, if the text is such.
 #[tactic(auto, using(crate::proofs::IdentificationLemmas::decoded))]
 fn identification_bytes(text: &str) -> Option<FieldBytes>
     ensures some { IfSome result (λ bytes. AreFormBytes form.Identification 8 (hex text.now) bytes.items) }

@@ -3,7 +3,7 @@ ghost use Rattle.dali_bank.specs.Spelling.{IsText, ShowsText};
 
 use crate::spelling::are_all;
 
-/// Whether the bytes are 1 to so many characters, each from space (20h) to tilde (7Eh).
+/// Whether the bytes are 1 to `most` characters, each from space (20h) to tilde (7Eh).
 pub(crate) fn is_text(text: &[u8], most: u8) -> bool
     ensures { IsTrue result ↔ IsText most text.now }
 {
@@ -26,7 +26,7 @@ pub(crate) fn text_length(bytes: &[u8]) -> Option<u8>
     }
 }
 
-// The place of the first zero, past the end where there is none.
+// The place of the first zero, past the end if there is none.
 fn first_zero(bytes: &[u8]) -> usize
     ensures within { result ≤ length bytes.now }
     ensures before { (k : ℕ) → k < result → slice_index bytes.now k ≢ 0 }

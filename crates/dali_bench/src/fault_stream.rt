@@ -1,17 +1,17 @@
-// What is told of a fault outside of any command.
+// How a fault outside of any command is reported.
 use dali_faults::{Fault, Status, write_fault};
 use dali_input::InputFault;
 use dali_text::{Escaped, Output};
 use std::io;
 use std::io::ErrorKind;
 
-// The system's number where the program may open no more files, and what is told behind its words then.
+// The system's number if the program may open no more files, and the words after its own then.
 const TOO_MANY_FILES: i32 = 24;
 
 const MORE_FILES: &str = ": raise the limit, as by ulimit -n 1024";
 
-// The status, after telling why the output can't be written, if that is so. Where nobody reads it any more, as in
-// `check FILE | head`, nothing is told.
+// The status, after telling why the output can't be written, if that is so. If nobody reads it any more, as in
+// `check FILE | head`, nothing is printed.
 pub(crate) fn tell_cause(rt: &HostRuntime, status: Status, cause: Option<ErrorKind>) -> Status {
     let _ = match cause {
         None | Some(ErrorKind::BrokenPipe) => Ok(()),
@@ -21,14 +21,14 @@ pub(crate) fn tell_cause(rt: &HostRuntime, status: Status, cause: Option<ErrorKi
     status
 }
 
-// Where a fault is told that comes before its command runs: some have the link for their output.
+// The stream for a fault that comes before its command runs: some have the link for their output.
 #[derive(Clone, Copy)]
 pub(crate) enum FaultStream {
     Output,
     Lines,
 }
 
-// Prints that a file can't be opened, why, and where too many are open what to do.
+// Prints that a file can't be opened, why, and if too many are open, what to do.
 pub(crate) fn unopened(
     rt: &HostRuntime,
     name: &str,

@@ -1,5 +1,5 @@
-// What a person who watches a command over a link is told behind its lines, where it was refused: what its files are
-// instead, in the words of `check`, and that there is no adapter. No answer hangs on it.
+// The words after the lines of a command over a link, for a person who watches it, if it was refused: what its files
+// are instead, in the words of `check`, and that there is no adapter. No answer depends on it.
 use dali_faults::Status;
 use dali_file_commands::FileCommand;
 use dali_input::Input;
@@ -44,7 +44,7 @@ fn tell_orders(rt: &HostRuntime, name: &str) {
     }
 }
 
-// Checks a file of orders, with what is told of it into this writer. None where it is no file that can be read.
+// Checks a file of orders, and writes the notes on it into this writer. None if it is no file that can be read.
 fn check_into<N: Write + Drop>(rt: &HostRuntime, name: &str, notes: N) -> Option<Status> {
     if !is_file(rt, name) {
         return None;
@@ -62,7 +62,7 @@ fn check_into<N: Write + Drop>(rt: &HostRuntime, name: &str, notes: N) -> Option
     Some(status)
 }
 
-// Tells where a file of orders that are to come line by line is an array of them.
+// Reports if a file of orders that are to come line by line is an array of them.
 fn tell_lines(rt: &HostRuntime, name: &str) {
     let Some(kind) = kind_of(rt, name) else {
         return;
@@ -92,7 +92,7 @@ fn tell_journal(rt: &HostRuntime, name: &str) {
     }
 }
 
-// What a file looks like, if it is one and looks like anything.
+// The kind that a file looks like, if it is one and looks like any.
 fn kind_of(rt: &HostRuntime, name: &str) -> Option<Kind> {
     if !is_file(rt, name) {
         return None;

@@ -1,4 +1,6 @@
 //! A bench for luminaire data in memory bank 1 of DALI control gear.
+//!
+//! A crate of its own: it is the program, whose edge to the system has no contract.
 #![tactic(auto)]
 
 ghost use Rattle.std.specs.Prelude.{◌≤◌};
@@ -18,6 +20,7 @@ use dali_address::Task;
 use dali_drive::{Sought, StdSink, StdSource, StoreDesk};
 use dali_faults::Status;
 use dali_file_commands::FileCommand;
+use dali_file_commands::fields::fields;
 use dali_file_commands::frame::frame;
 use dali_input::Input;
 use dali_job::{Job, job_of};
@@ -35,21 +38,21 @@ use std::io::{BufWriter, ErrorKind, IsTerminal, LineWriter, Read, Write};
 use std::process::ExitCode;
 use std::{fs, io};
 
-// What `--version` and `-V` print: `./test` compares the logic with that of the kit that the gate runs on.
+// The line of `--version` and `-V`: `./test` compares the logic with that of the kit that the gate runs on.
 const VERSION: &str = "dali_bench 1.0, proved with the Rattle logic dac8208d650f15bf";
 
-// Where a command over a link is started with no link.
+// The line if a command over a link is started with no link.
 const AT_A_TERMINAL: &str =
     "error: the frames go to standard output, which is a terminal: start this over an adapter (docs/LINK.md)";
 
-// Where `address` is asked for several things, or to give short addresses and to give none.
+// The line if `address` is asked for several things, or to give short addresses and to give none.
 const SEVERAL_ASKED: &str =
     "error: --all, --list and --count ask for different things: name one of them";
 
 const UNITS_UNASKED: &str =
     "error: --list and --count give no short address, and tell of all units: leave UNIT out";
 
-// Where older journals are named beside none that is asked.
+// The line if older journals are named, but no journal to ask.
 const OLDER_ALONE: &str = "error: --older stands beside --journal: name that too";
 
 fn main(rt: HostRuntime) -> ExitCode {
@@ -106,6 +109,7 @@ fn run(rt: &HostRuntime, words: &Vec<String>) -> Status {
                 with_updates,
             },
         ) => on_file(rt, records, FileCommand::Journal { with_updates }),
+        Ok(Job::Fields) => on_fields(rt),
         Ok(
             Job::Drive {
                 orders,
@@ -192,7 +196,7 @@ fn run(rt: &HostRuntime, words: &Vec<String>) -> Status {
     }
 }
 
-// Whether a word that stands alone asks for the version.
+// Whether a word on its own asks for the version.
 fn asks_version(word: &str) -> bool {
     matches!(word, "--version" | "-V")
 }
@@ -229,7 +233,17 @@ fn on_word(rt: &HostRuntime, digits: &str) -> Status {
     tell_cause(rt, status, output.cause())
 }
 
-// Checks the orders of a file, of which the journal of another tells what it says, where that is named.
+// Prints the fields of an order.
+fn on_fields(rt: &HostRuntime) -> Status {
+    let Ok(writer) = BufWriter::new(rt.alloc(), io::writer(rt)) else {
+        return out_of_memory(rt, FaultStream::Output);
+    };
+    let mut output = Output::new(writer);
+    let status = fields(&mut output);
+    tell_cause(rt, status, output.cause())
+}
+
+// Checks the orders of a file; if another file is named, its journal answers for each of them.
 fn on_check(rt: &HostRuntime, orders: &str, journal: Option<&str>, older: &[&str]) -> Status {
     let Some(journal) = journal else {
         if older.is_empty() {
@@ -271,8 +285,8 @@ fn on_file(rt: &HostRuntime, name: &str, command: FileCommand<'_>) -> Status {
     }
 }
 
-// Whether a person sees standard output and standard error in one place: each line is to stand there as it is written,
-// so that what is told of an item stands behind it.
+// Whether a person sees standard output and standard error in one place: each line is to be there as it is written, so
+// that the notes on an item follow it.
 fn is_watched(rt: &HostRuntime) -> bool {
     rt.stdout().is_terminal() && rt.stderr().is_terminal()
 }
@@ -376,7 +390,7 @@ fn is_one_whole(command: FileCommand<'_>) -> bool {
     matches!(command, FileCommand::Show | FileCommand::Journal { .. })
 }
 
-// Looks which of these units answer, or which of all where none is named. One that is named twice is told, and none is
+// Looks which of these units answer, or which of all if none is named. One that is named twice is reported, and none is
 // asked.
 fn on_scan(rt: &HostRuntime, units: &[u8], with_gtin: bool, is_watched: bool) -> Status
     requires { AllByRecursion (λ unit. unit ≤ 63) units.now }
@@ -396,8 +410,8 @@ fn on_scan(rt: &HostRuntime, units: &[u8], with_gtin: bool, is_watched: bool) ->
     on_link(rt, Linked::Bank(command), is_watched)
 }
 
-// Gives these short addresses, or the lowest that are free where none is named, or lists all or counts. One that is
-// named twice is told, and nothing is sent.
+// Gives these short addresses, or the lowest that are free if none is named, or lists all or counts. One that is named
+// twice is reported, and nothing is sent.
 fn on_address(rt: &HostRuntime, command: AddressCommand<'_>, is_watched: bool) -> Status {
     let gives_none = matches!(command.asked, Asked::Run(Task::List) | Asked::Count);
     if gives_none && !command.units.is_empty() {
@@ -415,7 +429,7 @@ fn refuse(rt: &HostRuntime, why: &str) -> Status {
     Status::Refused
 }
 
-// Whether a unit is named twice, which is told then.
+// Whether a unit is named twice, which is reported then.
 fn is_repeated(rt: &HostRuntime, units: &[u8]) -> bool {
     let Some(unit) = named_twice(units) else {
         return false;
@@ -434,9 +448,10 @@ fn named_twice(units: &[u8]) -> Option<u8> {
     None
 }
 
-// Carries out a command over standard input and output. Where standard error can't be written, nothing more is. A
-// person at a terminal is told what is missing: the frames would be printed there, and the answers waited for. Who asks
-// for it watches how far the command is, and is told what may be wrong where it is refused.
+// Carries out a command over standard input and output. If standard error can't be written, nothing more is. If
+// standard output is a terminal, a line for a person names what is missing: the frames would be printed there, and the
+// answers waited for. A person who asks for it sees the progress of the command, and what may be wrong if it is
+// refused.
 fn on_link(rt: &HostRuntime, command: Linked<'_>, is_watched: bool) -> Status
     requires { IsLinkedShort command }
 {

@@ -1,19 +1,19 @@
-// What is told of a wrong command line, in words for a person.
+// The words for a person about a wrong command line.
 use crate::fault_stream::{FaultStream, out_of_memory};
 use dali_faults::Status;
 use dali_text::Escaped;
 
-// What `clap` advises of an option that it doesn't know: another one, or how to give it as a value, which is of use for
-// a word of hexadecimal digits alone.
+// The advice of `clap` on an option that it doesn't know: another one, or how to give it as a value, which is of use
+// for a word of hexadecimal digits alone.
 const A_TIP: &str = "  tip: ";
 
 const AS_A_VALUE: &str = "  tip: to pass '";
 
-// What is told behind a wrong moment.
+// The line after a wrong moment.
 const A_MOMENT: &str =
     "A moment is a whole number from 0 to 18446744073709551615, as the clock's seconds: --moment $(date +%s)";
 
-// What is told behind a wrong unit of `read`.
+// The line after a wrong unit of `read`.
 const A_UNIT: &str = "UNIT, 0 to 63, comes first, then HEXFILE";
 
 // Prints what `clap` says of a wrong command line, in which it repeats words of that.
@@ -44,12 +44,12 @@ pub(crate) fn refused(
     Status::Refused
 }
 
-// Whether the words are those of `frame`, with hexadecimal digits behind a minus.
+// Whether the words are those of `frame`, with hexadecimal digits after a minus.
 fn takes_digits(words: &[&str]) -> bool {
     words.len() == 3 && words[1] == "frame" && !words[2].starts_with("--")
 }
 
-// Prints where it stands what the command takes.
+// Prints where to read what the command takes.
 fn tell_help(rt: &HostRuntime, words: &[&str]) {
     if words.len() > 1 {
         let command = Escaped::Whole(words[1]);

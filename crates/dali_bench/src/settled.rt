@@ -1,4 +1,4 @@
-// What a journal is read from, so that all that is told of it is on the disk: it is synced once it is read to its end.
+// The source of a journal, so that all that is reported of it is on the disk: it is synced once it is read to its end.
 use dali_store::settle_read;
 use std::fs::File;
 use std::io::{Read, StdinLock};
@@ -28,7 +28,7 @@ impl<'a> Settled<'a> {
         Settled { rt, source }
     }
 
-    // Standard input has no sync of its own: where it is a file, that is opened once more. A pipe has nothing to lose.
+    // Standard input has no sync of its own: if it is a file, that is opened once more. A pipe has nothing to lose.
     fn settle(&self) -> io::Result<()> {
         match &self.source {
             Source::Named(file) => settle_read(file),

@@ -1,4 +1,4 @@
--- Nothing writes where no unit is write-enabled and none is told to be.
+-- No frame writes if no unit is write-enabled and no frame may enable one.
 use Rattle.std.proofs.Common.{◌≡◌, ◌≢◌, ℕ, Bool, true, false, inl, inr, ◌⊎◌, List, [], ◌∷◌, Option, Some, None, is_some}
 use Rattle.std.proofs.Common.{IsSome, refl, sym, subst, ap, zero, suc, arith, ◌∙◌, ◌≤◌}
 use Rattle.std.specs.Prelude.{◌==◌, ⊤}

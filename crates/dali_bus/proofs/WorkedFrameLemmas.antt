@@ -1,4 +1,4 @@
--- What a small unit may do with a frame and what it may not, and the same of a bus with two.
+-- A small unit at a frame: its possible effects and some that aren't possible, and the same of a bus with two.
 use Rattle.std.proofs.lemmas.Bool.{eqb-true}
 use Rattle.std.proofs.Common.{◌≡◌, ℕ, Bool, true, false, inl, inr, Option, Some, None, refl, sym, subst, arith, ap, ◌∙◌}
 use Rattle.std.proofs.Common.{◌==◌, ◌&&◌, ◌⊎◌, ◌<◌, IsSome, is_some, if◌then◌else◌}
@@ -54,7 +54,8 @@ stores_silently = record { obeyed = written true 3; obeys = (inl small_stores, r
 pub refuses_silently : Hears 5 (small true) (WriteSilent 9) None (moved true)
 refuses_silently = record { obeyed = moved true; obeys = (inr (4, inl refl, refl, refl), refl); ends = inl refl }
 
--- A counter in bank 205 counts on by itself: what the memory tells of is as it was, whatever is read and written there.
+-- A counter in bank 205 counts on by itself: the places that the memory has are as they were, whatever is read and
+-- written there.
 pub counter_is_seven : Hears 5 (by_a_counter true) (Read 5) (Some 7) (by_a_counter false)
 counter_is_seven =
     record { obeyed = by_a_counter true; obeys = inl (refl, inr (inr counter_passes)); ends = inr refl }
@@ -71,7 +72,7 @@ counter_is_written =
 pub does_anything_with_others : (word : ℕ) (answer : Option ℕ) (old new : Gear) → Hears 5 old (Other word) answer new
 does_anything_with_others word answer old new = record { obeyed = new; obeys = tt; ends = inl refl }
 
--- A unit may set its indicator byte by itself where it stores a byte
+-- A unit may set its indicator byte by itself when it stores a byte
 
 pub sets_its_indicator : Hears 5 (indicating 0xFF) (Write 9) (Some 9) (indicated 0xA5)
 sets_its_indicator = record {
@@ -93,7 +94,7 @@ sets_its_indicator = record {
     by true false false b f t = inl refl
     by false first third b f t = inl refl
 
--- and not where it stores none, nor makes the place
+-- and not when it stores none, nor makes the place
 pub no_indicator_set_unenabled : (answer : Option ℕ)
     → Hears 5 (record (indicating 0xFF) { enabled = false }) (Write 9) answer
     (record (indicating 0xA5) { enabled = false; dtr0 = 4 }) → ⊥
@@ -339,7 +340,7 @@ lost_to_one = record {
   answers = tt;
 }
 
--- where both answer, the answer of one may come back
+-- if both answer, the answer of one may come back
 pub one_of_two : Carry (pair (small true) (small true)) (Write 9) (Some 9) (pair (written true 3) (written true 3))
 one_of_two = record {
   units =

@@ -1,4 +1,4 @@
--- What a bus may do to the units that it reaches, and what else may happen to them.
+-- The effects that a bus may have on the units that it reaches, and other events of the units.
 use Rattle.std.specs.Prelude.{◌≡◌, ℕ, ◌⊎◌, List, [], ◌∷◌, Option, Some}
 use Rattle.std.specs.Prelude.{IfSome}
 use Rattle.dali_frame.specs.declared.forward.Frame.{Frame}

@@ -1,8 +1,8 @@
--- What a unit may do with a frame that it hears, and what it may answer.
+-- The effects that a frame may have on a unit that hears it, and its possible answers.
 --
--- What isn't named stays as it is. A unit may refuse a write, for its lock byte or for any other reason. What it
--- doesn't carry out may move DTR0 on all the same. And its write enable may end at any frame. At a place that its
--- memory leaves out, since it changes by itself, a read or a write may get any answer.
+-- Everything not named stays as it is. A unit may refuse a write, for its lock byte or for any other reason. A frame
+-- that it doesn't carry out may move DTR0 on all the same. And its write enable may end at any frame. At a place that
+-- its memory leaves out, since it changes by itself, a read or a write may get any answer.
 use Rattle.std.specs.Prelude.{◌≡◌, ◌≢◌, ◌≤◌, ℕ, ◌+◌, true, false, ◌⊎◌, Option, Some, None, IsSome, IsNone, ◌==◌, ⊤}
 use Rattle.std.specs.Prelude.{is_some, if◌then◌else◌}
 use Rattle.dali_frame.specs.declared.forward.Frame.{Frame}

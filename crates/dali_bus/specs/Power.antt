@@ -1,9 +1,9 @@
--- What a loss of power does to a unit that gets it back, and to a world.
+-- The effect of a loss of power on a unit that gets it back, and on a world.
 use Rattle.std.specs.Prelude.{◌≡◌, ◌≢◌, ℕ, ◌≤◌, false, ◌⊎◌, Option}
 use Rattle.std.specs.Option.{option_map}
 use Rattle.dali_bus.specs.World.{Gear, World, IfThere}
 
--- a lock byte after power-up: FFh, where the place exists
+-- a lock byte after power-up: FFh, if the place exists
 abbrev pub relocked : Option ℕ → Option ℕ
 relocked old = option_map (λ byte. 0xFF) old
 
@@ -24,7 +24,7 @@ pub record PowersUp (old new : Gear) : Type 0 where
       → (new.memory bank 2 ≡ relocked (old.memory bank 2)) ⊎ (new.memory bank 2 ≡ old.memory bank 2)
   pub rest : (bank location : ℕ) → (bank ≡ 0) ⊎ (location ≢ 2) → new.memory bank location ≡ old.memory bank location
 
--- The unit at the address loses its power and gets it back. Where there is none, nothing changes.
+-- The unit at the address loses its power and gets it back. If there is none, nothing changes.
 pub record LosesPower (old : World) (address : ℕ) (new : World) : Type 0 where
   pub there : IfThere PowersUp (old address) (new address)
   pub others : (other : ℕ) → other ≢ address → new other ≡ old other

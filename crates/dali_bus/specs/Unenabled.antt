@@ -1,4 +1,4 @@
--- Memory that nothing can write: where no unit is write-enabled and none is told to be.
+-- Memory that nothing can write: when no unit is write-enabled and no frame may enable one.
 use Rattle.std.specs.Prelude.{◌≡◌, ℕ, false, List, IsSome, ⊤}
 use Rattle.std.specs.List.{AllByRecursion}
 use Rattle.dali_frame.specs.declared.forward.Frame.{Frame}
@@ -23,15 +23,15 @@ abbrev pub EnablesNone : World → BusEvent → Type 0
 EnablesNone world (Carried frame answer) = ¬ MayEnable world frame
 EnablesNone world (Powered address) = ⊤
 
--- Each place holds what it held at first, but for lock bytes, where the unit lost power: such a one may be FFh.
+-- Each place holds what it held at first, except for lock bytes, if the unit lost power: such a one may be FFh.
 abbrev pub HoldsAsBefore : World → List BusEvent → World → Type 0
 HoldsAsBefore first happened world =
     (address bank location : ℕ)
     → MayRelock (HasLostPower address happened) bank location (byte_at first address bank location)
     (byte_at world address bank location)
 
--- Along each chain of worlds in which no unit is write-enabled at first and none is told to be, each place holds at
--- each moment what it held at first, lock bytes apart where the unit lost power.
+-- Along each chain of worlds in which no unit is write-enabled at first and no frame may enable one, each place holds
+-- at each moment what it held at first, lock bytes apart if the unit lost power.
 abbrev pub UnenabledMemoryStays : Type 0
 UnenabledMemoryStays =
     (first : World) (past : List BusEvent) (last : World) (states : List World)

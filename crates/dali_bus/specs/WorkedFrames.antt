@@ -2,7 +2,7 @@
 use Rattle.std.specs.Prelude.{ℕ, Bool, true, false, Some, None, ◌==◌, ◌&&◌, if◌then◌else◌}
 use Rattle.dali_bus.specs.World.{Memory, Gear, World, stored}
 
--- bank 1 with an open lock byte and one place behind it
+-- bank 1 with an open lock byte and one place after it
 abbrev pub two_places : Memory
 two_places bank location =
     if (bank == 1) && (location == 2) then Some 0x55 else (if (bank == 1) && (location == 3) then Some 7 else None)

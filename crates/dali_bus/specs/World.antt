@@ -2,8 +2,8 @@
 use Rattle.std.specs.Prelude.{◌≡◌, ⊤, ℕ, Bool, false, is_some, Option, Some, None, ◌&&◌, ◌==◌, if◌then◌else◌}
 use Rattle.std.specs.Option.{option_and_then, option_map_or}
 
--- The byte at a location of a memory bank, by bank and location: none where the place doesn't exist. Of the banks from
--- 2 up a memory also leaves out each place that changes by itself, such as a counter: nothing is promised of it, and it
+-- The byte at a location of a memory bank, by bank and location: none if the place doesn't exist. Of the banks from 2
+-- up a memory also leaves out each place that changes by itself, such as a counter: nothing is promised of it, and it
 -- may hold and answer anything.
 abbrev pub Memory : Type 0
 Memory = ℕ → ℕ → Option ℕ

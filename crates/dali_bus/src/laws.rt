@@ -7,15 +7,14 @@ ghost use Rattle.dali_bus.specs.Unenabled.{UnenabledMemoryStays};
 
 use crate::bus::Bus;
 
-/// Where no unit is write-enabled at first, no ENABLE WRITE MEMORY is carried to a unit and no word
-/// outside the frame table is sent, no byte of any memory ever changes, but for the lock bytes of
-/// units that lose power.
+/// If no unit is write-enabled at first, no ENABLE WRITE MEMORY is carried to a unit and no word outside the frame
+/// table is sent, no byte of any memory ever changes, except for the lock bytes of units that lose power.
 pub fn unenabled_memory_stays()
     ensures { UnenabledMemoryStays }
 {}
 
-/// What a bus does, happening by happening, is what its units may do: each chain of its states is a
-/// chain of the worlds that they show.
+/// Each happening on a bus is one that its units may make: each chain of its states is a chain of the worlds that they
+/// show.
 pub fn chains_of_a_bus_are_chains_of_its_worlds<B: Bus>()
     ensures { (first : B) (past : List BusEvent) (last : B) (states : List B) → IsChain B.step first past last states
         → IsChain WorldStep (B.world first) past (B.world last) (map B.world states) }

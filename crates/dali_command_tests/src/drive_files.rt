@@ -1,4 +1,4 @@
-// `drive` over files. What it does with other orders, answers and journals, its contract and that of a store say.
+// `drive` over files. Its contract and that of a store say what it does with other orders, answers and journals.
 use dali_drive::{StdSink, StdSource, StoreDesk};
 use dali_faults::Status;
 use dali_link_commands::drive::DriveTask;
@@ -24,7 +24,7 @@ pub(crate) const SILENT: [u8; 37] = [
     0xAD, 0x08, 0xAB, 0x45, 0x03,
 ];
 
-// The same, and behind it a record that is cut off in its second byte.
+// The same, followed by a record that is cut off in its second byte.
 const CUT: [u8; 39] = [
     0x44, 0x42, 0x31, 0x02, 0x42, 0x00, 0x00, 0x00, 0x00, 0x00, 0x00, 0x00, 0x01, 0x00, 0x00, 0x00,
     0x00, 0x00, 0x00, 0x00, 0x00, 0x09, 0x06, 0x03, 0x03, 0x04, 0xA4, 0x05, 0xCE, 0x06, 0xEF, 0x07,

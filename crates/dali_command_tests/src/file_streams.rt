@@ -1,5 +1,5 @@
-//! Readers and writers that fail under the commands over a file, and readers without end. What the commands answer
-//! where nothing fails, the cases of examples/ say.
+//! Readers and writers that fail under the commands over a file, and readers without end. The cases of examples/ say
+//! what the commands answer if nothing fails.
 
 use crate::streams::{Behind, TestReader, TestWriter};
 use dali_faults::Status;
@@ -148,7 +148,7 @@ static WRITTEN: [(Command, &[u8], &[u8]); 10] = [
     (Command::Show, b"0", b"fault 14 Hex\n"),
 ];
 
-// Whether a command ends so over what a reader has, and writes this, where there is this room.
+// Whether a command ends so over what a reader has, and writes this, if there is this room.
 fn does<R: Read>(
     alloc: Global,
     command: Command,
@@ -166,14 +166,14 @@ fn does<R: Read>(
     ended == status && writer.held.as_slice() == text
 }
 
-// Whether the command ends as unwritten over an input, where there is room for this text alone.
+// Whether the command ends as unwritten over an input, if there is room for this text alone.
 fn is_cut(alloc: Global, command: Command, input: &[u8], text: &[u8]) -> bool {
     let mut reader = Input::new(TestReader::new(input, Behind::Nothing));
     let room = Some(text.len());
     does(alloc, command, &mut reader, room, Status::Unwritten, text)
 }
 
-// The writer fails at each place of what is written, and at the flush behind it. Nothing more is written then.
+// The writer fails at each place of what is written, and at the flush after it. Nothing more is written then.
 fn fails_to_write(alloc: Global, command: Command, input: &[u8], text: &[u8]) -> Result<(), Fail> {
     for room in 0..=text.len() {
         let is_so = is_cut(alloc, command, input, &text[..room]);
@@ -215,7 +215,7 @@ fn writers_that_fail_in_a_frame(rt: HostRuntime) -> Result<(), Fail> {
     Ok(())
 }
 
-// Whether the command tells that the reader fails behind these bytes.
+// Whether the command reports that the reader fails after these bytes.
 fn fails_behind(alloc: Global, command: Command, bytes: &[u8]) -> bool {
     let mut input = Input::new(TestReader::new(bytes, Behind::Failures));
     let told = b"fault 21 File\n";

@@ -1,4 +1,4 @@
-// `drive --follow` with everything in memory, and where the reader of the orders fails.
+// `drive --follow` with everything in memory, also if the reader of the orders fails.
 use crate::drive_files::{SILENCE, SILENT};
 use crate::drive_memory::SILENT_AT_7;
 use crate::streams::{Behind, TestReader};
@@ -18,7 +18,7 @@ use std::alloc::Global;
 use std::io;
 use std::test::Fail;
 
-// A stream of orders for unit 9, which doesn't answer, and what becomes of it at the moment 7.
+// A stream of orders for unit 9, which doesn't answer, and its result at the moment 7.
 struct Stream<'a> {
     lines: &'a str,
     behind: Behind,
@@ -37,7 +37,7 @@ static STREAMS: [Stream<'static>; 4] = [
         told: "ready\nreply 1 taken\nreply 1 kept 3 Silent\nreply 1 kept 3 Silent\n",
         kept: &SILENT,
     },
-    // A reader that fails behind a line, in one, and behind a refused one.
+    // A reader that fails after a line, in one, and after a refused one.
     Stream {
         lines: "{\"order\":1,\"unit\":9,\"gtin\":\"4006381333931\"}\n",
         behind: Behind::Failures,

@@ -48,6 +48,7 @@ dali_bench journal --updates
 dali_bench verify";
 
 const UNKNOWN: &str = "dali_bench check a b
+dali_bench fields a
 dali_bench check --frames a
 dali_bench check --moment 5 a
 dali_bench journal --report r a

@@ -2,6 +2,9 @@
 //! those of the texts and the inputs go through a command.
 //! Tables of cases are statics: a function is proved with one borrow of a static, and of a constant with one for each
 //! text in it.
+//!
+//! A crate of its own: a crate with tests is proved twice, so tests are apart; these are proved beside those of the
+//! libraries.
 #![tactic(auto)]
 
 #[cfg(test)]

@@ -12,7 +12,7 @@ const SILENT_0: [u8; 37] = [
     0xA4, 5, 0xCE, 6, 0xEF, 7, 0xAD, 8, 0xAB, 0x45, 3,
 ];
 
-// A journal behind that of order 1: how many orders they have as one, or which of them can't be used, and why.
+// A journal after that of order 1: how many orders they have as one, or which of them can't be used, and why.
 struct Two<'a> {
     second: &'a [u8],
     orders: u32,
@@ -40,7 +40,7 @@ fn store_of(alloc: Global, bytes: &[u8]) -> Result<MemoryStore, Fail> {
     Ok(MemoryStore::new(alloc, bytes.to_vec(alloc)?))
 }
 
-// Whether two journals have so many orders as one, or that one of them can't be used.
+// Whether two journals have this many orders as one, or that one of them can't be used.
 fn are_as_told(alloc: Global, two: &Two<'_>) -> Result<bool, Fail> {
     let mut stores = [
         store_of(alloc, SILENT.as_slice())?,

@@ -4,7 +4,7 @@ use std::alloc::Global;
 use std::io;
 use std::io::{ErrorKind, Read, Write};
 
-/// What comes behind the bytes of a reader.
+/// The bytes or failures that follow the bytes of a reader.
 #[derive(Clone, Copy)]
 pub enum Behind {
     Nothing,
@@ -13,7 +13,7 @@ pub enum Behind {
 }
 
 /// A reader that is interrupted before each read, and gives at most 7 of its bytes at a time. It counts the spaces that
-/// it gives behind them.
+/// it gives after them.
 #[derive(Drop)]
 pub struct TestReader<'a> {
     rest: &'a [u8],
@@ -56,8 +56,8 @@ impl Read for TestReader<'_> {
     }
 }
 
-/// A writer that holds all, or with a `room` so many bytes, and then fails once: at the next byte, or where none comes
-/// at the flush. What is written after that it takes, so that it shows.
+/// A writer that holds all, or with a `room` this many bytes, and then fails once: at the next byte, or if none comes
+/// at the flush. It takes what is written after that, so that it shows.
 #[derive(Drop)]
 pub struct TestWriter {
     pub held: Vec<u8>,

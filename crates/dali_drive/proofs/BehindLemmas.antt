@@ -1,4 +1,4 @@
--- Behind older journals each order acts once.
+-- With older journals each order acts once.
 use Rattle.std.proofs.Common.{◌≡◌, ◌∙◌, refl, sym, ap, subst, inl, inr, ℕ, Bool, true, List, ◌++◌, ◌+◌, length}
 use Rattle.std.proofs.Common.{Some, append_assoc, true≢false}
 use Rattle.dali_bank.specs.Order.{Contents}
@@ -28,7 +28,7 @@ use Rattle.dali_drive.specs.Transcript.{Streams}
 use Rattle.dali_drive.proofs.SittingLemmas.{kept_so}
 use Rattle.dali_write.specs.declared.pace.Pace.{Pace}
 
--- where nothing is at work, no order is unfinished
+-- if nothing is at work, no order is unfinished
 none_unfinished : (records : List Record) (id : ℕ) (order : Contents) → IsSentence records
     → standing_of records ≡ standings.Idle → kept_of id records ≡ kepts.Unfinished order → ⊥
 none_unfinished records id order s rests kept = by (((in_the_groups records id s).1 order).0 kept).1

@@ -76,7 +76,7 @@ pub only_journal : (old mid new : Streams) → mid ≡ with_journal old mid → 
     → new ≡ with_journal old new
 only_journal old mid new first second = second ∙ ap (λ (s : Streams). with_journal s new) first
 
--- what came to its end left all
+-- a desk whose work completed leaves all
 pub ends_settled : {A : Type 0} (result : Result A DriveFault) (look : Look) → EndsAs result look
     → OnOk result (IsDurableAt look)
 ends_settled (Ok value) look ends = ends.1

@@ -239,7 +239,7 @@ none_unasked End frame old new broken = refl
 none_unasked TooLong frame old new broken = refl
 none_unasked Out frame old new broken = refl
 
--- and what was told of it
+-- and how it is passed on to the observer
 pub told_of_end : (fault : DriveFault) (told : List Happening → Type 0)
     (told_end : List Happening → DriveFault → Frame → List ℕ → Type 0) (start : Start) (past : List Happening)
     (old new : Streams) (frame : Frame) (text : List ℕ)

@@ -60,7 +60,7 @@ abbrev pub as_drive : (start : Start) (given : List Given) (first : Streams) (wr
 as_drive start given first writer last f =
     drive_at start f.steps given first writer last f.at.driven_at (ap submitted f.at.given_are) f.quiet
 
--- so is one that came to its end where nothing is known of the replies, whatever is told there behind it
+-- so is one that completed, if nothing is known of the replies, whatever is written there after it
 drive_still : {start : Start} {orders : List (Contents × ℕ)} {then last : Streams} {writer : WriterState}
     (first : Streams) → IsDrive start orders (muted first) writer then → Keeps then.journal last.journal
     → Keeps then.link last.link → Keeps then.answers last.answers → IsDrive start orders (muted first) writer last
@@ -92,7 +92,8 @@ drive_still {start} {orders} {then} {last} {writer} first d journal link answers
   consumes_still : (a b c : Option (List ℕ)) (bytes : List ℕ) → Consumes a b bytes → Keeps b c → Consumes a c bytes
   consumes_still a b c bytes taken same = grind arith
 
--- what broke off is such a drive, or comes behind one; the journal was so before the step that was broken off
+-- a drive that broke off, or one that ended and after which something broke off; the journal was so before the step
+-- that was broken off
 abbrev pub Fell : Start → List (Contents × ℕ) → DriveFault → Streams → Streams → (Option (List ℕ) → Type 0) → Type 0
 Fell start orders fault first last so =
     ((d : IsBrokenDrive start orders fault first last) × so d.middle.journal)

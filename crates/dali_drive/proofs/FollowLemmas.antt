@@ -1,4 +1,4 @@
--- How orders are followed: work behind what was done, and a line that is told.
+-- How orders are followed: work after what was done, and a line that is passed on.
 use Rattle.std.proofs.Common.{◌≡◌, ◌∙◌, refl, sym, ap, subst, append_assoc, append-nil, ℕ, List, [], ◌∷◌, ◌++◌}
 use Rattle.std.proofs.Common.{map, reverse, inl, inr}
 use Rattle.std.proofs.Common.{Option, Result, Ok, Err, OnOk, false}
@@ -258,7 +258,7 @@ module _ (start : Start) (given : List Given) (first : Streams) (then : WriterSt
 
 module _ (start : Start) (given : List Given) (first : Streams) (writer : WriterState) (j l a o more : Option (List ℕ))
     (follow : IsFollowed start given first writer (shown j l a o)) (line : ArrayVec ℕ) where
-  -- and then a line was told
+  -- and then a line was written
   pub tells_on : (told : List Happening → Type 0) → told (happenings follow.steps) → Appends o more line.items
       → (next : IsFollowed start (gives.Line line ∷ given) first writer (shown j l a more))
       × told (happenings next.steps)

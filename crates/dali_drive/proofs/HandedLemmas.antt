@@ -1,4 +1,4 @@
--- A trace whose start is what another left, with nothing to be done: behind that one the same may follow, and the plan
+-- A trace whose start is what another left, with nothing to be done: after that one the same may follow, and the plan
 -- asks for the same, as from its own start. So a drive whose writer is handed on to another is one drive with it.
 use Rattle.std.proofs.Common.{◌≡◌, ◌∙◌, refl, ap, subst, inl, inr, ◌⊎◌, ℕ, Bool, true, false, List, [], ◌∷◌, ◌++◌}
 use Rattle.std.proofs.Common.{Option, Some, None, IsSome, if◌then◌else◌, append_assoc, sym, append-nil}
@@ -65,7 +65,7 @@ sent_behind past more =
     let rest = since_behind is_stop past more in
     (frames_in rest.0, ap frames_in rest.1 ∙ frames_joined (since is_stop more) rest.0)
 
--- where an order waits, it was taken in the newer one
+-- if an order waits, it was taken in the newer one
 since_alike : (past more : List Happening) → IsSome (waiting more)
     → sent_since_taken (more ++ past) ≡ sent_since_taken more
 since_alike past [] waits = cc
@@ -83,7 +83,7 @@ since_alike past (_ ∷ more) waits = since_alike past more waits
 abbrev IsAtHand : Start → List Happening → Type 0
 IsAtHand start past = (is_at_work (standing_at start past) ≡ true) ⊎ IsSome (waiting past)
 
--- where one is at hand that wasn't at work at the start, it was begun or taken in the newer one
+-- if one is at hand that wasn't at work at the start, it was begun or taken in the newer one
 told_alike : (next : Start) (past more : List Happening) → is_at_work (standing_of next.records) ≡ false
     → IsAtHand next more → told_in (more ++ past) ≡ told_in more
 told_alike next past [] idle (inl works) = cc
@@ -98,7 +98,7 @@ told_alike next past (Kept entry ∷ more) idle at = refl
 told_alike next past (Stopped pace ∷ more) idle at = refl
 told_alike next past (_ ∷ more) idle at = told_alike next past more idle at
 
--- What is at hand where something is done
+-- The work at hand if something is done
 
 at_hand : (pace : Pace) (past : List Happening) (stands : Standing) (told : List Exchange) (ask : Ask)
     → Asks pace stands told ask
@@ -118,7 +118,7 @@ blocked_waits : (start : Start) (past : List Happening) (id unit : ℕ)
 blocked_waits start (Asked order moment ∷ past) id unit may = absurd may.1
 blocked_waits start past id unit may = number_waits (waiting past) id may.1
 
--- What may follow the newer one may follow the whole
+-- Whatever may follow the newer one may follow the whole
 
 -- what a whole tells from its start, beside what its newer part tells from the second start: as much, and perhaps
 -- older frames
@@ -163,7 +163,7 @@ module _ {start next : Start} {whole more : List Happening} (behind : IsBehind s
       rw (behind.records, behind.outstanding, behind.since (number_waits (waiting more) id may.1)) may
   happens_behind (Answered id reply) may = absurd may
   happens_behind (Sent frame answer) may = rw behind.records (sends_behind (standing_at next more) frame may)
-  -- a read that stands does so whatever came before
+  -- a valid read is valid whatever came before
   happens_behind (Kept entry) may = record {
     whole = rw (behind.records, behind.limit) may.whole;
     due = due_behind entry may.due;
@@ -206,14 +206,14 @@ kept_both [] older = refl
 kept_both (Kept entry ∷ newer) older = ap (◌∷◌ entry) (kept_both newer older)
 kept_both (_ ∷ newer) older = kept_both newer older
 
--- where all is said, nothing is still to be said
+-- if all is said, nothing is still to be said
 said_outstanding : (outstanding : Outstanding) → unsaid_in outstanding ≡ false → outstanding ≡ Quiet
 said_outstanding Quiet said = refl
 said_outstanding (Waiting order moment) said = cc
 said_outstanding Working said = cc
 said_outstanding JustEnded said = cc
 
--- behind a drive the trace from what it left tells as much, and is as much
+-- after a drive, the trace from what it left has the same properties as the whole
 module _ {start : Start} {orders : List (Contents × ℕ)} {first middle : Streams} {handed : WriterState}
     (one : IsDrive start orders first handed middle) where
   abbrev past : List Happening

@@ -131,7 +131,7 @@ stands_at start (Kept entry ∷ past) left more rest trail is all =
 stands_at start (next ∷ past) left more rest trail is all =
     one_more start next past left (stands_at start past left more rest (trail.0.0, trail.1.0, trail.2) is all)
 
--- What a stop may leave behind a journal that was opened is left by a kill at some moment
+-- Whatever a stop may leave after a journal that was opened is left by a kill at some moment
 
 -- bytes that load to some records load to no others
 pub one_records : (limit : ℕ) (bytes : List ℕ) (one other : List Record) → Loads limit one bytes

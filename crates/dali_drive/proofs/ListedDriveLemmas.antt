@@ -50,7 +50,7 @@ orders_behind (order ∷ orders) given are = orders_behind orders given are
 submitted_given : (orders : List (Contents × ℕ)) → submitted (as_given orders) ≡ orders
 submitted_given orders = simp append-nil at (submitted_both orders [])
 
--- so just the replies and the sayings were written
+-- so exactly the replies and the sayings were written
 lines_said : (steps : List Step) → AreOrders (given_in steps) → told_lines steps ≡ said_lines (happenings steps)
 lines_said [] are = refl
 lines_said (Told line ∷ steps) are = absurd are
@@ -162,7 +162,7 @@ module _ {B : Type 0} (told : Start → B → B → List Happening → Type 0)
     observed = listed_broken told _ orders moment listed is _ _ _ _ _ told_end may_leave fault o.observed;
   }
 
--- behind none it is a drive over the store
+-- without an older journal it is a drive over the store
 
 pub stored_drive : {B : Type 0} (told : Start → B → B → List Happening → Type 0) (limit most : ℕ) (pace : Pace)
     (orders : List (Contents × ℕ)) (first : Streams) (before : B) (last : Streams) (after : B) (writer : WriterState)

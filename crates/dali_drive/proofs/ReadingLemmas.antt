@@ -22,7 +22,7 @@ use Rattle.dali_drive.specs.Driven.{BreaksFrame}
 use Rattle.dali_drive.specs.UnitRead.{LinkText, BlockSoFar, BlockTold, BlockFailed, BlockBroke}
 use Rattle.dali_drive.specs.UnitRead.{ReadSoFar, IsUnitRead, UnitReadBroke}
 
--- What was told over a link, piece by piece
+-- The exchanges seen over a link, piece by piece
 
 abbrev pub as_sent : List Exchange → List Happening
 as_sent told = map (λ x. Sent x.frame x.answer) told
@@ -91,7 +91,7 @@ module _ (unit : ℕ) (block : Block) where
   block_failed s first last verdict b is other =
       record { told = b.told; fails = block_silent b.told s unit block verdict b.was b.reads is other; text = b.text }
 
-  -- a block that was read has told a byte of each of its locations
+  -- a block that was read has shown a byte of each of its locations
   pub told_count : (bytes : List ℕ) (first last : Streams) → BlockTold unit block bytes first last
       → length bytes ≡ block.count
   told_count bytes first last t = done_count unit block bytes t.told t.succeeds

@@ -46,7 +46,7 @@ loads_still limit records old new (inl same) loads = rw same loads
 loads_still limit records old new (inr alike) loads =
     subst (λ (r : List Record). Loads limit r new) (one_records limit old records alike.0 loads alike.1) alike.2
 
--- what sittings come to
+-- the records after all sittings
 joined_after : (start : Start) (newest : Sitting) (older : List Sitting)
     → newest.start.records ≡ records_of start (joined older)
     → records_of start (joined (newest ∷ older)) ≡ records_of newest.start newest.past

@@ -1,4 +1,4 @@
--- What a stop leaves of a sink of records, behind what is put there.
+-- The part of a sink of records, and of records that are put there, that a stop leaves.
 use Rattle.std.proofs.Common.{◌≡◌, ◌≤◌, ◌⊎◌, ◌∙◌, sym, ap, arith, ℕ, Bool, true, false, List, [], ◌++◌, Option, Some, None}
 use Rattle.std.proofs.Common.{length, length-append, append-nil, append_assoc}
 use Rattle.std.proofs.lemmas.Bool.{cases_lt}
@@ -7,7 +7,7 @@ use Rattle.dali_store.specs.Stores.{IsDurable, IsBetween, Elapses}
 use Rattle.dali_drive.specs.LentSinks.{SinkLeaves, SinkLeft, flushed_count, longer_begins}
 use Rattle.dali_drive.specs.Streams.{IsPart, Flushes, PutsFirst}
 
--- where a stop leaves all, all was flushed
+-- if a stop leaves all, all was flushed
 all_flushed : (flushed held : List ℕ) → IsPart (Some flushed) (Some held)
     → IsDurable (Some held) (SinkLeaves (Some flushed) (Some held)) → flushed ≡ held
 all_flushed flushed held (rest, is) settled = settled flushed ([], rest, sym (append-nil flushed), is)
@@ -39,7 +39,7 @@ module _ (before more now : List ℕ) (is : now ≡ before ++ more) where
   counted : (flushed : Option (List ℕ)) → FlushedSince before now flushed → length before ≤ flushed_count flushed
   counted flushed since = grind (arith, length-append)
 
--- behind what was put a stop leaves a first part of it
+-- of what was put, a stop leaves a first part
 pub leaves_put : (done : Bool) (flushed held flushed_now held_now : Option (List ℕ)) (more : List ℕ)
     → IsPart flushed held → Appends held held_now more → Flushes done held_now flushed flushed_now
     → IsDurable held (SinkLeaves flushed held) → (c : List ℕ) → SinkLeaves flushed_now held_now c

@@ -1,4 +1,4 @@
--- What a drive over a store leaves.
+-- The result of a drive over a store.
 use Rattle.std.proofs.Common.{◌≡◌, ◌<◌, ◌≤◌, ◌⊎◌, refl, sym, ap, ◌∙◌, inl, inr, ℕ, List, [], ◌∷◌, ◌++◌, Option, Some}
 use Rattle.std.proofs.Common.{None, length, take, drop, arith, length-append, take-append-drop}
 use Rattle.std.proofs.lemmas.List.{append_assoc, append-nil, append_cancel_left}
@@ -65,7 +65,7 @@ between_still was c ([], rest, begins, whole) = begins ∙ append-nil was
 between_still was c (x ∷ front, rest, begins, whole) =
     absurd (omega (arith, ap (length {A = ℕ}) begins, ap (length {A = ℕ}) whole, length-append {A = ℕ}))
 
--- What the journal holds along a trace
+-- The records in the journal along a trace
 
 -- the journal's bytes are those of the start and the recorded ones
 pub journal_recorded : (start : Start) (past : List Happening)
@@ -91,7 +91,7 @@ drive_holds {start} {past} {first} {last} d is =
     grown_known last.journal (journal_spelling Two start.records) (recorded past) (rw is at d.text.journal)
     ∙ ap Some (sym (journal_recorded start past))
 
--- where a frame or a record is next, no reply is due
+-- if a frame or a record is next, no reply is due
 frame_finished : (start : Start) (past : List Happening) (frame : Frame) → IsNextFrame start past frame
     → IsFinished past
 frame_finished start (Asked order moment ∷ past) frame next = absurd (next None).may
@@ -136,7 +136,7 @@ module _ (pace : Pace) {limit most : ℕ} {found : List ℕ} {first : Streams} (
       let limit_is = b.opened.found.loaded.0 in
       rw limit_is at (kept_so (start_by pace b.journal) past (rw limit_is kept) trail.0 trail.2)
 
-  -- its records stand there, and behind them a part of another, or nothing
+  -- its records are there, followed by part of another, or nothing
   with_left : (past : List Happening) (left rest : List ℕ) → IsTrail (start_by pace b.journal) past → IsFinished past
       → (last : Record) × IsCutOf Two rest last
       → left ≡ journal_spelling Two (records_of (start_by pace b.journal) past) ++ rest → Sat past left
@@ -246,7 +246,7 @@ module _ (pace : Pace) {limit most : ℕ} {found : List ℕ} {first last : Strea
       sym (take-append-drop n sp) ∙ ap (λ (l : List ℕ). l ++ drop n sp) k.3 ∙ append_assoc k.0 k.1 (drop n sp) in
       (k.0, k.1 ++ drop n sp, k.2, whole)
 
-  -- where a record stands whole, no less was put
+  -- if a record is whole there, no less was put
   longer : (part : List ℕ) (entry : Record) → left ≡ was ++ part → left ≡ was ++ spelling Two entry
       → length (spelling Two entry) ≤ length part
   longer part entry same all =

@@ -58,7 +58,7 @@ module _ (unit : ℕ) (sought : Sought) (l more a less o out : Option (List ℕ)
       (shown None more less out)
   scan_cut cut = (scan_report, refl, (r.ends, tells), r.text, part_of_it o out line cut)
 
--- so many bytes were read of a unit
+-- this many bytes were read of a unit
 pub has_line : (sought : Sought) (unit : ℕ) (bytes : List ℕ) (first last : Streams)
     → IsUnitRead unit (sought_course sought) (Some bytes) first last → HasUnitLine bytes
 has_line Last unit bytes first last r =
@@ -137,7 +137,7 @@ both_same all one older now so this = grind arith
 pub same_by : {A B C : Type 0} → (A ↔ B) → (B ↔ C) → A ↔ C
 same_by first second = grind arith
 
--- one more order was told
+-- one more order was passed on
 pub told_more : {B : Type 0} (told : B → B → List Found → Type 0)
     (reports : List (Report Contents)) (first mid last : B) (order : Contents) (found : Option Finding)
     (read : List ℕ) (report : Report Contents) → report.item ≡ order → FoundOf report.item report.outcome found read

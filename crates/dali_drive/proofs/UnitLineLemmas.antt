@@ -12,7 +12,7 @@ use Rattle.dali_drive.specs.SurveyLines.{IsUnitLine, bank_with, last_head}
 pub short_byte : (byte : ℕ) → byte < 256 → length (decimal byte) ≤ 3
 short_byte byte below = length-decimal-le 3 byte (omega arith) (omega arith) (omega arith)
 
--- the zeros before so many digits
+-- the zeros before this many digits
 zeros_before : (digits : ℕ)
     → take {A = ℕ} (14 - min digits 14) (drop (min digits 14) (replicate 14 0x30)) ≡ replicate (14 - digits) 0x30
 zeros_before digits =
@@ -21,7 +21,7 @@ zeros_before digits =
     ∙ take-replicate (14 - min digits 14) (14 - min digits 14) 0x30 (omega arith)
     ∙ ap (λ (count : ℕ). replicate count 0x30) left
 
--- so many digits with their zeros, at the end of a line
+-- this many digits with their zeros, at the end of a line
 pub padded : (line digits one two : List ℕ) (number long few : ℕ) → long ≡ length (decimal number)
     → few ≡ min long 14 → digits ≡ decimal number → one ≡ line ++ take (14 - few) (drop few (replicate {A = ℕ} 14 0x30))
     → two ≡ one ++ digits → two ≡ line ++ fourteen_digits number

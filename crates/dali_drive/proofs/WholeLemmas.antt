@@ -1,4 +1,4 @@
--- A drive behind older journals is a drive of the whole, whose bytes are those of the older records and the store's.
+-- A drive after older journals is a drive of the whole, whose bytes are those of the older records and the store's.
 use Rattle.std.proofs.Common.{◌≡◌, ◌∙◌, ◌≤◌, refl, sym, subst, ap, inl, inr, ℕ, List, [], ◌∷◌, ◌++◌, ◌+◌, length, Option, Some}
 use Rattle.std.proofs.Common.{None, append_assoc, reverse, arith}
 use Rattle.std.specs.Prelude.{⊤}
@@ -243,7 +243,7 @@ module _ (older : JournalState) {limit most : ℕ} {first : Streams} (b : IsBegu
             (ap (whole older.records) held) (begun_whole room within) (reverse (submitted given))
             (part_whole seen left part) writer still
 
-  -- what a store shows that was opened before, behind the older records, is the same file
+  -- the bytes that a store shows that was opened before, after the older records, are the same file
   abbrev Again : List ℕ → Type 0
   Again bytes = IsSameFile (order_count older + limit) (bytes_behind older.records bytes) found
 

@@ -1,4 +1,4 @@
--- Work behind work, and the orders that were asked in both.
+-- Work after work, and the orders that were asked in both.
 use Rattle.std.proofs.Common.{◌≡◌, ◌∙◌, refl, sym, ap, append_assoc, append-nil, ℕ, List, [], ◌∷◌, ◌++◌}
 use Rattle.std.proofs.Common.{Option, Result, Ok, Err, reverse}
 use Rattle.std.proofs.lemmas.List.{reverse-append}

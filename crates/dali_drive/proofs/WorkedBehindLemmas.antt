@@ -1,4 +1,4 @@
--- What stands behind older journals, what a list of orders gives, and what is followed, by hand, and what is near it.
+-- The journal after older journals, what a list of orders gives, and what is followed, by hand, and near misses.
 use Rattle.std.proofs.Common.{Some, ◌≡◌, refl, ℕ, List, [], ◌∷◌, ◌++◌, arith, append-nil, length-append, codes, Option}
 use Rattle.std.proofs.Common.{None, ap, length, ◌≤◌}
 use Rattle.dali_bank.specs.Order.{Contents}
@@ -57,7 +57,7 @@ older_records = Ended Silent ∷ Began first_order 7 ∷ []
 abbrev own_records : List Record
 own_records = Ended Silent ∷ Began second_order 8 ∷ []
 
--- the store's stand in front of the older ones, and what the whole may hold is the older orders and the limit
+-- the store's come in front of the older ones, and the whole may hold the older orders and the limit
 pub whole_of_two : (older : JournalState) (most : ℕ) (first : Streams) (b : IsBegunBehind (Some older) 10 most first)
     → older.records ≡ older_records → b.begun.journal.records ≡ own_records
     → (b.journal.records ≡ own_records ++ older_records) × (b.journal.limit ≡ 11)
@@ -65,7 +65,7 @@ whole_of_two older most first b there here = grind arith
 
 -- ---- each order acts once
 
--- a trace from a journal without the older records isn't behind them
+-- a trace from a journal without the older records doesn't follow them
 pub older_records_forgotten : (older : JournalState) (start : Start) → older.records ≡ older_records
     → start.records ≡ [] → ActsOnceBehind older 10 start [] → ⊥
 older_records_forgotten older start there here acts =
@@ -85,12 +85,12 @@ pub unjoined_without_a_common_number : {G B : Type 0} (older : JournalState) (li
     → EndsUnjoined (Repeated 2) (Some older) limit most orders first before left last after → ⊥
 unjoined_without_a_common_number older limit most orders first before left last after there ends = grind arith
 
--- one that stands alone is joined
+-- a journal without an older one is never refused as unjoined
 pub alone_is_joined : {G B : Type 0} (fault : JoinFault) (limit most : ℕ) (orders : G) (first : Streams) (before : B)
     (left : G) (last : Look) (after : B) → EndsUnjoined fault None limit most orders first before left last after → ⊥
 alone_is_joined fault limit most orders first before left last after ends = ends.why
 
--- no frame was sent, no line read and no reply told
+-- no frame was sent, no line read and no reply written
 pub unjoined_and_sent : {G B : Type 0} (fault : JoinFault) (older : Option JournalState) (limit most : ℕ) (orders : G)
     (first : Streams) (before : B) (left : G) (last : Look) (after : B) → first.link ≡ Some []
     → last.streams.link ≡ Some (codes "C301\n")
@@ -125,7 +125,7 @@ pub gave_both : (first now : ListedOrders) → IsList first (first_order ∷ sec
 gave_both first now before after =
     (record { orders = first_order ∷ second_order ∷ []; rest_is = cc; moment_is = cc; given_are = cc }, after.0)
 
--- where the second one is left, just the first was given
+-- if the second one is left, only the first was given
 pub second_before_the_first : (first now : ListedOrders) → IsList first (first_order ∷ second_order ∷ [])
     → IsList now (second_order ∷ []) → GaveListed first now (gives.Order second_order 7 ∷ []) → ⊥
 second_before_the_first first now before after gave =
@@ -141,7 +141,7 @@ pub first_passed_over : (first now : ListedOrders) → IsList first (first_order
 first_passed_over first now before after gave =
     grind (arith, append_cancel_right gave.orders (first_order ∷ []) now.rest.now)
 
--- where both are left, none was given
+-- if both are left, none was given
 pub first_given_and_left : (first now : ListedOrders) → IsList first (first_order ∷ second_order ∷ [])
     → IsList now (first_order ∷ second_order ∷ []) → GaveListed first now (gives.Order first_order 7 ∷ []) → ⊥
 first_given_and_left first now before after gave = grind (arith, append_cancel_right gave.orders [] now.rest.now)
@@ -172,7 +172,7 @@ pub given_in_turn : given_in followed
     ≡ gives.Line last_line ∷ gives.Order second_order 8 ∷ gives.Order first_order 7 ∷ gives.Line first_line ∷ []
 given_in_turn = refl
 
--- what happened: all but the lines that were told
+-- what happened: all but the refused lines that were passed on
 pub happened_in_turn : happenings followed
     ≡ Answered 2 Full ∷ Asked second_order 8 ∷ Powered 5 ∷ Stopped Checked ∷ Sent (Dtr1 1) None ∷ Kept
     (Began first_order 7)
@@ -189,7 +189,7 @@ given_alone = refl
 
 -- ---- orders that were broken off
 
--- one alone is read ahead of what is asked, where there is no memory for it
+-- one order at most is read ahead of what is asked, if there is no memory for it
 pub one_is_ahead_without_memory : AreUnasked NoMemory ((first_order, 7) ∷ [])
 one_is_ahead_without_memory = refl
 

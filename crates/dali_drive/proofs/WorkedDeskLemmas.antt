@@ -1,4 +1,4 @@
--- What a desk shows and what a stop may leave of it, by hand, and what is near it and isn't so.
+-- The state that a desk shows and what a stop may leave of it, by hand, and near misses.
 use Rattle.std.proofs.Common.{refl, inl, inr, arith, ℕ, Bool, true, false, List, [], ◌∷◌, Some, None, Ok, Err}
 use Rattle.dali_trace.specs.declared.fault.DriveFault.TheVariants as faults
 use Rattle.dali_drive.specs.Desks.{Look, look_of, failures, IsDurableAt, IsAhead, EndsAs, LeavesPut}
@@ -7,7 +7,7 @@ use Rattle.dali_drive.specs.LentSinks.{SinkLeaves, SinkLeft}
 use Rattle.dali_drive.specs.Streams.{Flushes, IsPart}
 use Rattle.dali_drive.specs.Transcript.{shown}
 
--- What a flush does
+-- The effect of a flush
 
 pub flushed_all : Flushes true (Some (1 ∷ 2 ∷ [])) (Some (1 ∷ [])) (Some (1 ∷ 2 ∷ []))
 flushed_all = refl
@@ -19,7 +19,7 @@ pub failed_flush_flushes_nothing : Flushes false (Some (1 ∷ 2 ∷ [])) (Some (
     × (Flushes false (Some (1 ∷ 2 ∷ [])) (Some (1 ∷ [])) (Some (1 ∷ 2 ∷ [])) → ⊥)
 failed_flush_flushes_nothing = (refl, λ flushes. cc)
 
--- where it is never told, it isn't told then
+-- if a sink never shows what was flushed, it doesn't show it then
 pub untold_flush : Flushes true (Some (1 ∷ [])) None None × (Flushes true (Some (1 ∷ [])) None (Some (1 ∷ [])) → ⊥)
 untold_flush = (refl, λ flushes. cc)
 
@@ -46,7 +46,7 @@ pub no_other_fault_of_an_unflushed : FlushesFirst {A = ℕ} (Err faults.End) (So
     (Some []) → ⊥
 no_other_fault_of_an_unflushed flushes = cc
 
--- What is flushed of a sink
+-- The part of a sink that is flushed
 
 pub parts : IsPart (Some []) (Some (1 ∷ [])) × IsPart (Some (1 ∷ [])) (Some (1 ∷ 2 ∷ []))
     × IsPart (Some (1 ∷ [])) (Some (1 ∷ []))
@@ -64,7 +64,7 @@ end_isnt_part (rest, is) = cc
 pub told_isnt_part_of_untold : IsPart (Some (1 ∷ [])) None → ⊥
 told_isnt_part_of_untold part = part
 
--- What a stop leaves of a sink
+-- The part of a sink that a stop leaves
 
 pub each_part_left : SinkLeaves (Some (1 ∷ [])) (Some (1 ∷ 2 ∷ 3 ∷ [])) (1 ∷ [])
     × SinkLeaves (Some (1 ∷ [])) (Some (1 ∷ 2 ∷ 3 ∷ [])) (1 ∷ 2 ∷ [])
@@ -91,7 +91,7 @@ no_less_was_left left = omega (arith, left.0)
 pub no_other_was_left : SinkLeft (Some (1 ∷ 2 ∷ [])) (Some (1 ∷ 2 ∷ 3 ∷ [])) 0 (2 ∷ []) → ⊥
 no_other_was_left (least, (rest, is)) = cc
 
--- How a desk stands
+-- The state of a desk
 
 -- its journal shows these bytes, of which a stop leaves all, or those that were flushed
 abbrev desk_of : List ℕ → List ℕ → Bool → Look
@@ -115,7 +115,7 @@ all_settled c (a ∷ more, rest, front, whole) = grind arith
 pub unflushed_isnt_settled : IsDurableAt one_unflushed → ⊥
 unflushed_isnt_settled settled = let lost = settled (1 ∷ []) ([], 2 ∷ [], refl, refl) in cc
 
--- where a record may be kept, and a frame or a reply go out
+-- when a record may be kept, and a frame or a reply go out
 pub all_ahead : IsAhead all_flushed
 all_ahead = ((refl, refl, refl, refl), all_settled)
 
@@ -125,7 +125,7 @@ unflushed_isnt_ahead ahead = unflushed_isnt_settled ahead.1
 pub failed_isnt_ahead : IsAhead (desk_of (1 ∷ []) (1 ∷ []) true) → ⊥
 failed_isnt_ahead ahead = let unfailed = ahead.0.0 in cc
 
--- what came to its end
+-- one that completed
 pub ended_ahead : EndsAs {A = ℕ} (Ok 0) all_flushed
 ended_ahead = all_ahead
 
@@ -142,7 +142,7 @@ unfailed_isnt_broken_off ends = let failed = ends.0 in cc
 pub another_fault_isnt_shown : EndsAs {A = ℕ} (Err faults.Out) journal_failed → ⊥
 another_fault_isnt_shown ends = let unfailed = ends.0 in cc
 
--- what was put is left behind the rest
+-- the bytes that were put are left after the rest
 pub put_left : LeavesPut all_flushed one_unflushed
 put_left c left = left
 

@@ -98,7 +98,7 @@ no_loss_of_power_in_turn turn = turn.0
 pub no_loss_of_power_before : AtEachPast (IsInTurn empty) (Sent (Dtr1 1) None ∷ Powered 5 ∷ begun) → ⊥
 no_loss_of_power_before turn = turn.1.0
 
--- Which streams have failed where a fault comes: its own, and no other
+-- Which streams have failed at a fault: its own, and no other
 
 pub each_its_own : (fault : LineFault)
     → FailedAs faults.Journal true false false false × FailedAs faults.Link false true false false

@@ -196,7 +196,7 @@ both_act_once =
       along = stays_along both_sittings worlds both_chain;
     })
 
--- A unit that came between the two: the second drive is told against what that held then, and acts once over it
+-- A unit that came between the two: the second drive is judged against what that held then, and acts once over it
 pub over_a_new_unit : ActOnce empty (second_sitting ∷ first_sitting ∷ []) begun_file
     (at_rest (alone blank_unit) first_frame (alone blank_unit)
     (alone blank_unit ∷ alone blank_unit ∷ alone blank_unit ∷ alone blank_unit ∷ []))
@@ -218,7 +218,7 @@ pub not_once_over_a_unit_that_came_amid : (sittings : List Sitting) (left : List
     → ActOnce opened_once sittings left amid → ⊥
 not_once_over_a_unit_that_came_amid sittings left once = not_right_amid_an_order once.right
 
--- What is near them and isn't so
+-- Near misses of these
 
 begun_not_bare : Loads 10 [] begun_file → ⊥
 begun_not_bare here = let never = one_records 10 begun_file (Began first_order 7 ∷ []) [] begun_loads here in cc

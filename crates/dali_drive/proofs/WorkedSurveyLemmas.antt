@@ -1,4 +1,4 @@
--- A scan of two units and two orders verified by hand, frames that are broken off, and what is near them and isn't so.
+-- A scan of two units and two orders verified by hand, frames that are broken off, and near misses.
 use Rattle.std.proofs.Common.{◌≡◌, inl, refl, sym, ap, append_assoc, ℕ, zero, suc, List, [], ◌∷◌, ◌++◌, Some, None, codes}
 use Rattle.std.proofs.Common.{true, is_some, take, length, arith, ◌≤◌, ◌+◌, append-nil, take-append-drop, inr, false, replicate, reverse}
 use Rattle.std.proofs.Common.{length-append}
@@ -63,7 +63,7 @@ pub findings_are : (finding_line near_order Same ≡ codes "order 7 unit 1 same\
     × (order_silent_line far_order ≡ codes "order 8 unit 0 silent\n")
 findings_are = search (decimal_digit, arith)
 
--- What came back
+-- The answers that came back
 
 pub line_00 : IsAnswerLine (Some 0x00) (codes "00\n")
 line_00 = answer_line (codes "00") (omega arith) (omega arith)
@@ -83,7 +83,7 @@ line_77 = answer_line (codes "77") (omega arith) (omega arith)
 pub line_A5 : IsAnswerLine (Some 0xA5) (codes "A5\n")
 line_A5 = answer_line (codes "A5") (omega arith) (omega arith)
 
--- a read of unit 1, by the lines that tell where DTR0 stands, the byte and where it stands then
+-- a read of unit 1, by the lines that give DTR0, the byte and DTR0 after it
 pub read_heard : (told : List Exchange) (location byte after : ℕ) (heard place read moved : List ℕ)
     → IsAnswerLine (Some location) place → IsAnswerLine (Some byte) read → IsAnswerLine (Some after) moved
     → AreAnswers (as_sent told) heard
@@ -126,7 +126,7 @@ silent_ends course next =
 pub silent_scanned : IsScanReport sought.Last silent_unit
 silent_scanned = (silent_ends last_course refl, refl)
 
--- a block that was read at once, and a reading that came to its end
+-- a block that was read at once, and a reading that completed
 at_once : (unit : ℕ) (block : Block) (bytes : List ℕ) (told : List Exchange) → IsBlockRead unit block bytes told
     → Succeeds (each_try (block_requests unit block)) (Some bytes) told
 at_once unit block bytes told read =
@@ -168,7 +168,7 @@ two_units_are = (refl, refl, refl, refl, refl, refl, refl)
 pub lines_in_turn : lines_in (silent_order ∷ same_order ∷ []) ≡ codes "order 7 unit 1 same\norder 8 unit 0 silent\n"
 lines_in_turn = refl
 
--- a silent unit has no line, and a unit that answers just its own
+-- a silent unit has no line, and a unit that answers only its own
 pub no_silent_line : Surveyed (IsScanReport sought.Last) two_units before_two_units silent_unit_told → ⊥
 no_silent_line surveyed = grind arith
 
@@ -208,11 +208,11 @@ blank_told = (
   search (decimal_digit, arith),
 )
 
--- the last location alone is told of no unit whose identity was read
+-- the last location alone isn't reported of a unit whose identity was read
 pub not_without_identity : TellsUnit 1 (Some (0x77 ∷ known_bytes)) (codes "unit 1 last 77\n") → ⊥
 not_without_identity tells = grind (arith, decimal_digit)
 
--- where a reading is broken off in its first frame
+-- a reading that is broken off in its first frame
 first_amid : (unit : ℕ) (block : Block) → IsAmid unit block [] (Dtr1 1)
 first_amid unit block =
     record {
@@ -241,7 +241,7 @@ frame_broke {old = old} unit course next broken =
       broke = record { middle = old; text = text; broken = broken };
     })
 
--- a frame's line is broken off behind so many bytes
+-- a frame's line is broken off after `count` bytes
 cut_frame : (frame : Frame) (count : ℕ) (old answers : List ℕ) → count ≤ 5 → BreaksFrame frame faults.Link
     (link_shown (Some old) (Some answers)) (link_shown (Some (old ++ take count (link_line frame))) (Some answers))
 cut_frame frame count old answers few = grind arith
@@ -281,7 +281,7 @@ pub all_asked : (what : Sought) (addresses : List ℕ) (units : ℕ) (first last
     → (scan : IsScan what addresses units first last) → length scan.reports ≡ length addresses
 all_asked what addresses units first last scan = grind (arith, length-map, length-reverse)
 
--- at most so many units as there are addresses
+-- at most as many units as there are addresses
 answered_few : (reports : List (Report ℕ)) → answered reports ≤ length reports
 answered_few [] = omega arith
 answered_few (report ∷ reports) = let few = answered_few reports in grind arith
@@ -349,7 +349,7 @@ short_is_not same = grind arith
 pub silent_is_not : IsSame silent_order → ⊥
 silent_is_not (bytes, is, found) = cc
 
--- another byte isn't told as the same
+-- another byte isn't reported as the same
 pub not_told_same : TellsOrder near_order (Some (0x77 ∷ 0x5A ∷ [])) (codes "order 7 unit 1 same\n") → ⊥
 not_told_same tells = grind (arith, not_other, decimal_digit)
 

@@ -1,5 +1,5 @@
--- What is left where orders aren't followed, since the journal isn't opened or is none with the older one, and what is
--- near that.
+-- The state if orders aren't followed, since the journal isn't opened or can't be joined to the older one, and near
+-- misses of that.
 use Rattle.std.proofs.Common.{◌≡◌, ℕ, List, [], Option, Some, codes}
 use Rattle.dali_frame.specs.declared.forward.Frame.{Frame}
 use Rattle.dali_journal.specs.declared.behind.JoinFault.{JoinFault}
@@ -16,14 +16,14 @@ use Rattle.dali_write.specs.declared.pace.Pace.{Pace}
 
 module _ {G B : Type 0} (older : Option JournalState) (limit most : ℕ) (orders left : G) (first last : Look)
     (before after : B) where
-  -- ---- it is none with the older one
+  -- ---- it can't be joined to the older one
 
   -- no order was taken of the source
   pub unjoined_and_given : (fault : JoinFault)
       → EndsUnjoined fault older limit most orders first.streams before left last after → (left ≡ orders → ⊥) → ⊥
   unjoined_and_given fault ends given = given ends.ungiven
 
-  -- and the observer was told nothing
+  -- and nothing was passed to the observer
   pub unjoined_and_told : (fault : JoinFault)
       → EndsUnjoined fault older limit most orders first.streams before left last after → (after ≡ before → ⊥) → ⊥
   unjoined_and_told fault ends told = told ends.untold
@@ -42,7 +42,7 @@ module _ {G B : Type 0} (older : Option JournalState) (limit most : ℕ) (orders
     pub unopened_and_told : EndsUnopened → (after ≡ before → ⊥) → ⊥
     unopened_and_told ends is_told = is_told ends.2
 
-    -- no frame was sent, no line read and no reply told
+    -- no frame was sent, no line read and no reply written
     pub unopened_and_sent : EndsUnopened → first.streams.link ≡ Some []
         → last.streams.link ≡ Some (codes "C301\n") → ⊥
     unopened_and_sent ends none sent = let kept = rw (none, sent) at ends.0.0.1.link in cc

@@ -1,5 +1,5 @@
--- Orders that are followed behind older journals: the records of these stand behind those of the store in one journal,
--- and the store keeps its own alone.
+-- Orders that are followed after older journals: their records come after those of the store in one journal, and the
+-- store keeps its own alone.
 use Rattle.std.specs.Prelude.{◌≡◌, ◌+◌, ◌++◌, ℕ, true, false, List, [], Option, Some, None, IfSome, option_map, drop, length}
 use Rattle.dali_bank.specs.Order.{Contents}
 use Rattle.dali_frame.specs.declared.forward.Frame.{Frame}
@@ -29,13 +29,13 @@ use Rattle.dali_drive.specs.Stored.{IsBegun, EndsAtFault}
 use Rattle.dali_drive.specs.Transcript.{Streams}
 use Rattle.dali_write.specs.declared.pace.Pace.{Pace}
 
--- the journal of both: its own records and behind them the older ones, for as many orders more as its own
+-- the journal of both: its own records and after them the older ones, for as many more orders as its own
 pub record IsJoined (older : JournalState) (limit : ℕ) (own whole : JournalState) : Type 0 where
   pub kept : AreKept Two whole.limit whole.records
   pub records_are : whole.records ≡ own.records ++ older.records
   pub limit_is : whole.limit ≡ order_count older + limit
 
--- the same, where there is an older one
+-- the same, if there is an older one
 abbrev pub IsWhole : Option JournalState → ℕ → JournalState → JournalState → Type 0
 IsWhole None limit own whole = whole ≡ own
 IsWhole (Some older) limit own whole = IsJoined older limit own whole
@@ -49,7 +49,7 @@ abbrev pub IsUnjoined : JoinFault → JournalState → Option JournalState → T
 IsUnjoined fault own None = ⊥
 IsUnjoined fault own (Some older) = IsJoinFault fault own.records older.records
 
--- the journal that the store showed, and behind it the older one, where there is one
+-- the journal that the store showed, and after it the older one, if there is one
 pub record IsBegunBehind (older : Option JournalState) (limit most : ℕ) (first : Streams) : Type 0 where
   pub begun : IsBegun limit most first
   pub journal : JournalState
@@ -72,7 +72,7 @@ pub record IsFollowBehindBreak {G B : Type 0} (gave : G → G → List Given →
   pub observed : IsObservedFollowBreak gave told told_end (start_by pace behind.journal) orders fault
       (record first { journal = behind.begun.middle }) before orders_left last after may_leave
 
--- a drive of a list behind an older journal, where there is one
+-- a drive of a list after an older journal, if there is one
 pub record IsDriveBehind {B : Type 0} (told : Start → B → B → List Happening → Type 0) (older : Option JournalState)
     (limit most : ℕ) (pace : Pace) (orders : List (Contents × ℕ)) (first : Streams) (before : B) (writer : WriterState)
     (last : Streams) (after : B) : Type 0 where
@@ -88,7 +88,7 @@ pub record IsDriveBehindBreak {B : Type 0} (told : Start → B → B → List Ha
   pub observed : IsObservedBreak told told_end (start_by pace behind.journal) orders fault
       (record first { journal = behind.begun.middle }) before last after may_leave
 
--- the journal was opened, and with the older one it is none; nothing else was done
+-- the journal was opened, and can't be joined to the older one; nothing else was done
 pub record EndsUnjoined {G B : Type 0} (fault : JoinFault) (older : Option JournalState) (limit most : ℕ) (orders : G)
     (first : Streams) (before : B) (orders_left : G) (last : Look) (after : B) : Type 0 where
   pub begun : IsBegun limit most first
@@ -117,9 +117,8 @@ BehindShows (Open fault) failed = FailsOpen fault failed
 BehindShows (Join fault) failed = IsUnfailed failed
 BehindShows (Drive fault) failed = ShowsFault fault failed
 
--- Behind older journals each order acts once: of all that were begun those of the older ones are no others, each that
--- they have gets the reply that they keep for it, or its number is another order's, and the records that the store
--- keeps are a journal by themselves.
+-- With older journals each order acts once: none of the older orders is begun again, each gets the reply that they keep
+-- for it, or its number is another order's, and the records that the store keeps are a journal by themselves.
 pub record ActsOnceBehind (older : JournalState) (limit : ℕ) (start : Start) (past : List Happening) : Type 0 where
   pub own : List Record
   pub records_are : records_of start past ≡ own ++ older.records
@@ -128,12 +127,12 @@ pub record ActsOnceBehind (older : JournalState) (limit : ℕ) (start : Start) (
   pub known : (order : Contents) (reply : Reply) → is_begun order.id older.records ≡ true
       → IsReply start past order reply → IsKnownReply order (kept_of order.id older.records) reply
 
--- What a store's bytes are behind older records
+-- A store's bytes together with older records
 
--- the bytes of both as one journal's: those of the older records, and behind them the store's without their header
+-- the bytes of both as one journal's: those of the older records, followed by the store's without their header
 abbrev pub bytes_behind : List Record → List ℕ → List ℕ
 bytes_behind older own = journal_spelling Two older ++ drop (length (header Two)) own
 
--- the same streams, where the journal's bytes are those of both
+-- the same streams, if the journal's bytes are those of both
 abbrev pub streams_behind : List Record → Streams → Streams
 streams_behind older streams = record streams { journal = option_map (bytes_behind older) streams.journal }

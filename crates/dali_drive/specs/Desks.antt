@@ -1,4 +1,4 @@
--- What a drive works at: a journal, a link there and back, and replies.
+-- The streams of a drive: a journal, a link there and back, and replies.
 use Rattle.std.specs.Prelude.{◌≡◌, ℕ, Bool, false, List, Result, Ok, Err}
 use Rattle.std.specs.Io.KnownBytes.{Appends}
 use Rattle.dali_store.specs.declared.opening.OpenFault.{OpenFault}
@@ -37,21 +37,21 @@ IsUnfailed failed = NoneFailed failed.journal failed.link_out failed.link_in fai
 abbrev pub ShowsFault : DriveFault → Failures → Type 0
 ShowsFault fault failed = FailedAs fault failed.journal failed.link_out failed.link_in failed.out
 
--- and where the journal isn't opened
+-- and if the journal isn't opened
 abbrev pub FailsOpen : OpenFault → Failures → Type 0
 FailsOpen fault failed =
     (failed.journal ≡ is_store_failure fault) × (failed.link_out ≡ false) × (failed.link_in ≡ false)
     × (failed.out ≡ false)
 
--- a stop leaves just what the journal shows
+-- a stop leaves exactly what the journal shows
 abbrev pub IsDurableAt : Look → Type 0
 IsDurableAt look = IsDurable look.streams.journal look.may_leave
 
--- none has failed, and all that was kept is durable: so stands a desk before each record, frame and reply
+-- none has failed, and all that was kept is durable: the state of a desk before each record, frame and reply
 abbrev pub IsAhead : Look → Type 0
 IsAhead look = IsUnfailed look.failed × IsDurableAt look
 
--- it stands so again; or those have failed that do where the fault comes
+-- it is in that state again; or those have failed that do at this fault
 abbrev pub EndsAs : {A : Type 0} → Result A DriveFault → Look → Type 0
 EndsAs (Ok value) look = IsAhead look
 EndsAs (Err fault) look = ShowsFault fault look.failed
@@ -64,8 +64,8 @@ LeavesPut old new = LeavesBetween old.streams.journal new.streams.journal new.ma
 abbrev pub LeavesNoMore : Look → Look → Type 0
 LeavesNoMore old new = (c : List ℕ) → new.may_leave c → old.may_leave c
 
--- bytes were put behind the journal's, and a stop at each moment leaves it with a first part of them; and the streams
--- are the same
+-- bytes were put at the end of the journal, and a stop at each moment leaves it with a first part of them; and the
+-- streams are the same
 pub record Grows {D : Type 0} (look : D → Look) (moment : D → ℕ) (left_since : D → ℕ → List ℕ → Type 0)
     (same : D → D → Type 0) (old new : D) : Type 0 where
   pub more : List ℕ
@@ -74,14 +74,14 @@ pub record Grows {D : Type 0} (look : D → Look) (moment : D → ℕ) (left_sin
       (IsBetween (look old).streams.journal (look new).streams.journal)
   pub stays : same old new
 
--- work at a desk: this came of it, it ended so, and the desk has grown
+-- work at a desk: this is its result, it ended so, and the desk has grown
 pub record Works {D A : Type 0} (look : D → Look) (moment : D → ℕ) (left_since : D → ℕ → List ℕ → Type 0)
     (same : D → D → Type 0) (result : Result A DriveFault) (old new : D) (came : Type 0) : Type 0 where
   pub came_of_it : came
   pub ends : EndsAs result (look new)
   pub grown : Grows look moment left_since same old new
 
--- just the journal, the replies, or the link were written
+-- only the journal, the replies, or the link were written
 abbrev pub with_journal : Streams → Streams → Streams
 with_journal old new = record old { journal = new.journal }
 

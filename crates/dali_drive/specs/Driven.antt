@@ -1,4 +1,4 @@
--- Which traces a drive makes, and where a fault leaves one.
+-- The traces that a drive makes, and the point at which a fault leaves one.
 use Rattle.std.specs.Prelude.{◌≡◌, ◌≤◌, ◌⊎◌, ◌++◌, ℕ, Bool, true, false, List, [], ◌∷◌, Option, Result, Ok, Err, length, ⊤}
 use Rattle.std.specs.Prelude.{take, reverse, map}
 use Rattle.std.specs.Io.KnownBytes.{Appends, Keeps}
@@ -120,7 +120,7 @@ FlushesFirst result held flushed flushed_now left left_now = Flushes true held f
 abbrev pub IsNextFrame : Start → List Happening → Frame → Type 0
 IsNextFrame start past frame = (answer : Option ℕ) → IsNext start past (Sent frame answer)
 
--- the step after this trace that the fault broke off, where these orders were still to be asked
+-- the step after this trace that the fault broke off, while these orders were still to be asked
 abbrev pub BrokenOff : Start → List Happening → List (Contents × ℕ) → DriveFault → Streams → Streams → Type 0
 BrokenOff start past rest Journal old new = (entry : Record) × IsNext start past (Kept entry) × CutRecord entry old new
 BrokenOff start past rest Link old new =
@@ -133,7 +133,7 @@ BrokenOff start past rest Out old new =
 BrokenOff start past rest fault old new =
     (frame : Frame) × IsNextFrame start past frame × BreaksFrame frame fault old new
 
--- What a drive comes to
+-- The result of a drive
 
 -- from this start all these orders were asked in their order, each at its moment, and nothing more is to be done, and
 -- the trace describes the writer
@@ -184,7 +184,7 @@ FailedAs Link journal link_out link_in out =
 FailedAs Out journal link_out link_in out = (journal ≡ false) × (link_out ≡ false) × (link_in ≡ false) × (out ≡ true)
 FailedAs other journal link_out link_in out = NoneFailed journal link_out link_in out
 
--- of what goes over a link: none where it came to its end
+-- of the bytes over a link: none if it completed
 abbrev pub LinkEnds : {A : Type 0} → Result A DriveFault → Bool → Bool → Bool → Type 0
 LinkEnds (Ok value) link_out link_in out = NoneFailed false link_out link_in out
 LinkEnds (Err fault) link_out link_in out = FailedAs fault false link_out link_in out

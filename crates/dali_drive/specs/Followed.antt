@@ -1,5 +1,5 @@
--- Orders that come one after another, each carried out before the next is read, and the lines that are told of what is
--- refused. Steps, as happenings, are listed newest first, and so is what was given.
+-- Orders that come one after another, each carried out before the next is read, and the lines that are written for what
+-- is refused. Steps, as happenings, are listed newest first, and so is what was given.
 use Rattle.std.specs.Prelude.{◌≡◌, ◌⊎◌, ◌++◌, ◌-◌, ◌^◌, ℕ, List, [], ◌∷◌, Option, Some, None, Result, Ok, Err}
 use Rattle.std.specs.Prelude.{length, map, reverse, false}
 use Rattle.std.specs.Io.KnownBytes.{Appends, Keeps}
@@ -21,7 +21,7 @@ use Rattle.dali_drive.specs.Driven.{IsDriven, BrokenOff, AppendsPart, LeavesBetw
 use Rattle.dali_drive.specs.WorkedOn.{AreUnasked, IsDrivenAt}
 use Rattle.dali_drive.specs.Observed.{IsToldEnd}
 
--- What was done: something happened, or a line was told of what is refused.
+-- A step that was done: something happened, or a line was written for what is refused.
 pub data Step : Type 0 where
   Happened : Happening → Step
   Told : ArrayVec ℕ → Step
@@ -32,7 +32,7 @@ happenings [] = []
 happenings (Happened next ∷ steps) = next ∷ happenings steps
 happenings (Told line ∷ steps) = happenings steps
 
--- what is written of one step, and of all: the lines of the replies and the sayings, and those that were told
+-- the text written for one step, and for all: the lines of the replies and the sayings, and those for what is refused
 abbrev pub step_line : Step → List ℕ
 step_line (Happened (Answered id reply)) = reply_line id reply
 step_line (Happened other) = []
@@ -64,18 +64,18 @@ abbrev pub with_next : Option Given → List Given → List Given
 with_next None given = given
 with_next (Some next) given = next ∷ given
 
--- the streams, with nothing known of the replies: what is written there is told of the steps
+-- the streams, with nothing known of the replies: what is written there is described by the steps
 abbrev pub muted : Streams → Streams
 muted streams = record streams { out = None }
 
--- What following comes to
+-- The result of following
 
 -- it ended where there was no more, or after so much that no program lives to see it
 abbrev pub IsOver : Type 0 → List Given → Type 0
 IsOver over given = over ⊎ (length given ≡ 2 ^ 64 - 1)
 
--- From this start just this was given, and each of it done before the next: what happened was driven and describes the
--- writer, the lines were told between, and nothing else was written.
+-- From this start exactly this was given, and each of it done before the next: what happened was driven and describes
+-- the writer, the lines were written between, and nothing else was written.
 pub record IsFollowedAt (start : Start) (steps : List Step) (given : List Given) (first : Streams)
     (writer : WriterState) (last : Streams) : Type 0 where
   pub driven_at : IsDrivenAt start (happenings steps) writer (muted first) last
@@ -89,7 +89,7 @@ pub record IsFollowed (start : Start) (given : List Given) (first : Streams) (wr
   pub at : IsFollowedAt start steps given first writer last
   pub quiet : is_busy start (happenings steps) ≡ false
 
--- a line that is told was broken off, where nothing was to be done
+-- the writing of a line for a refused item was broken off, when nothing was to be done
 pub record BrokenLine (start : Start) (steps : List Step) (given : List Given) (first then last : Streams)
     : Type 0 where
   pub line : ArrayVec ℕ
@@ -102,7 +102,7 @@ pub record BrokenLine (start : Start) (steps : List Step) (given : List Given) (
   pub answers : Keeps then.answers last.answers
   pub out : AppendsPart then.out last.out line.items
 
--- a step of an order was broken off; the newest order was asked, but for one for which there was no memory
+-- a step of an order was broken off; the newest order was asked, except for one for which there was no memory
 pub record BrokenOrder (start : Start) (steps : List Step) (given : List Given) (fault : DriveFault)
     (first then last : Streams) : Type 0 where
   pub unasked : List (Contents × ℕ)
@@ -116,7 +116,7 @@ BrokenStep start steps given Out first then last =
     BrokenLine start steps given first then last ⊎ BrokenOrder start steps given Out first then last
 BrokenStep start steps given fault first then last = BrokenOrder start steps given fault first then last
 
--- just this was given, and after these steps one was broken off
+-- exactly this was given, and after these steps one was broken off
 pub record IsBrokenFollow (start : Start) (given : List Given) (fault : DriveFault) (first last : Streams)
     : Type 0 where
   pub steps : List Step
@@ -124,7 +124,7 @@ pub record IsBrokenFollow (start : Start) (given : List Given) (fault : DriveFau
   pub said : Appends first.out then.out (told_lines steps)
   pub broken : BrokenStep start steps given fault first then last
 
--- and of the journal a stop leaves all that was kept before it; and all of this was told
+-- and of the journal a stop leaves all that was kept before it; and the observer has seen all of this
 pub record BreaksFollow (start : Start) (given : List Given) (fault : DriveFault) (first last : Streams)
     (may_leave : List ℕ → Type 0) (told : List Happening → Type 0)
     (told_end : List Happening → DriveFault → Frame → List ℕ → Type 0) : Type 0 where
@@ -140,7 +140,7 @@ GivenOn start given first (Ok done) writer old new told told_end =
 GivenOn start given first (Err fault) writer old new told told_end =
     BreaksFollow start given fault first new.streams new.may_leave told told_end
 
--- What is given is told by the source; and the observer is told the trace
+-- The source shows what is given; and the observer has seen the trace
 
 pub record IsObservedFollow {G B : Type 0} (gave : G → G → List Given → Type 0) (over : G → Type 0)
     (told : Start → B → B → List Happening → Type 0) (start : Start) (orders : G) (first : Streams) (before : B)

@@ -71,7 +71,7 @@ pub record WasKilled (limit most : ℕ) (found : List ℕ) (sitting : Sitting) (
   pub at : IsKilledAt (start_by pace begun.journal) older past left
   pub is : sitting ≡ record { start = start_by pace begun.journal; past = past }
 
--- a drive over a store came to its end and this happened, or it broke off and this may have happened
+-- a drive over a store completed and this happened, or it broke off and this may have happened
 abbrev pub MayHaveDriven : ℕ → ℕ → Streams → List Happening → Streams → Type 0
 MayHaveDriven limit most first trail last =
     (begun : IsBegun limit most first) × (pace : Pace) × (orders : List (Contents × ℕ))

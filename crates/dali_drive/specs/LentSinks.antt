@@ -5,13 +5,13 @@ use Rattle.dali_store.specs.Stores.{IsBetween}
 use Rattle.dali_drive.specs.declared.lent_sinks.LentSinks.{LentSinks}
 use Rattle.dali_drive.specs.Streams.{IsPart}
 
--- What a stop may leave of a sink: of what it holds a first part that has all that was flushed last. Nothing is said
--- of one that doesn't tell what was flushed.
+-- The bytes that a stop may leave of a sink: of what it holds a first part that has all that was flushed last. Nothing
+-- is said of one that doesn't show what was flushed.
 abbrev pub SinkLeaves : Option (List ℕ) → Option (List ℕ) → List ℕ → Type 0
 SinkLeaves None held c = ⊥
 SinkLeaves (Some flushed) held c = IsBetween (Some flushed) held c
 
--- what a stop might have left since so many bytes were flushed: a first part of that length or more
+-- the bytes that a stop might have left since this many bytes were flushed: a first part of that length or more
 abbrev pub SinkLeft : Option (List ℕ) → Option (List ℕ) → ℕ → List ℕ → Type 0
 SinkLeft None held t c = ⊥
 SinkLeft (Some flushed) held t c = (t ≤ length c) × IsPart (Some c) held

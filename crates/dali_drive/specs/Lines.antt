@@ -13,7 +13,7 @@ use Rattle.dali_trace.specs.declared.fault.DriveFault.TheVariants.{Link, Line, E
 abbrev pub link_line : Frame → List ℕ
 link_line frame = word_line (frame_word frame)
 
--- no line feed stands in it
+-- it has no line feed
 abbrev pub IsInLine : List ℕ → Type 0
 IsInLine bytes = All (λ byte. byte ≢ 10) bytes
 

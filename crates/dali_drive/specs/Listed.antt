@@ -1,4 +1,4 @@
--- What a list of orders gives.
+-- The orders that a list gives.
 use Rattle.std.specs.Prelude.{◌≡◌, ◌++◌, ℕ, List, [], reverse}
 use Rattle.std.proofs.Common.{refl}
 use Rattle.dali_bank.specs.Order.{Contents}

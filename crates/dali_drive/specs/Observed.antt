@@ -1,4 +1,4 @@
--- What an observer was told of a drive: all of its trace, and how an answer broke it off.
+-- An observer's view of a drive: all of its trace, and how an answer broke it off.
 use Rattle.std.specs.Prelude.{ℕ, List, Option}
 use Rattle.dali_frame.specs.declared.forward.Frame.{Frame}
 use Rattle.dali_bank.specs.Order.{Contents}
@@ -11,7 +11,7 @@ use Rattle.dali_drive.specs.Lines.{TakesText}
 use Rattle.dali_drive.specs.Transcript.{Streams}
 use Rattle.dali_drive.specs.Driven.{IsDrive, BreaksOff, IsNextFrame}
 
--- the exchange of the frame that was next was broken off, and what was read of its answer was told
+-- the exchange of the frame that was next was broken off, and the observer has seen what was read of its answer
 pub record IsToldAnswer (told_end : List Happening → DriveFault → Frame → List ℕ → Type 0) (start : Start)
     (past : List Happening) (fault : DriveFault) (old new : Option (List ℕ)) : Type 0 where
   pub frame : Frame
@@ -20,7 +20,7 @@ pub record IsToldAnswer (told_end : List Happening → DriveFault → Frame → 
   pub taken : TakesText fault text old new
   pub told : told_end past fault frame text
 
--- what was told where this fault broke the drive off behind the trace
+-- what the observer has seen if this fault broke the drive off after the trace
 abbrev pub IsToldEnd : (List Happening → Type 0) → (List Happening → DriveFault → Frame → List ℕ → Type 0) → Start
     → List Happening → DriveFault → Option (List ℕ) → Option (List ℕ) → Type 0
 IsToldEnd told told_end start past Journal old new = told past
@@ -28,14 +28,14 @@ IsToldEnd told told_end start past NoMemory old new = told past
 IsToldEnd told told_end start past Out old new = told past
 IsToldEnd told told_end start past fault old new = IsToldAnswer told_end start past fault old new
 
--- a drive, and its observer was told its trace
+-- a drive, and its observer has seen its trace
 pub record IsObserved {B : Type 0} (told : Start → B → B → List Happening → Type 0) (start : Start)
     (orders : List (Contents × ℕ)) (first : Streams) (before : B) (writer : WriterState) (last : Streams)
     (after : B) : Type 0 where
   pub drive : IsDrive start orders first writer last
   pub told_all : told start before after drive.past
 
--- a drive that a fault broke off, and its observer was told the trace before that, and of an exchange that was broken
+-- a drive that a fault broke off, and its observer has seen the trace before that, and of an exchange that was broken
 -- off what was read of its answer
 pub record IsObservedBreak {B : Type 0} (told : Start → B → B → List Happening → Type 0)
     (told_end : Start → B → B → List Happening → DriveFault → Frame → List ℕ → Type 0) (start : Start)

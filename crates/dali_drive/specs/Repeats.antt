@@ -8,7 +8,7 @@ use Rattle.dali_store.specs.Opened.{Loads, LoadsAlike}
 use Rattle.dali_drive.specs.Sittings.{CameToItsEnd, BrokeOff}
 use Rattle.dali_drive.specs.Kills.{WasKilled}
 
--- The same bytes, or others that load to the same records: what is left where no journal was opened.
+-- The same bytes, or others that load to the same records: what is left if no journal was opened.
 abbrev pub IsSameFile : ℕ → List ℕ → List ℕ → Type 0
 IsSameFile limit old new = (new ≡ old) ⊎ LoadsAlike limit (Some old) new
 
@@ -31,10 +31,10 @@ abbrev pub BeginsBy : Start → List Sitting → Type 0
 BeginsBy start [] = ⊤
 BeginsBy start (newest ∷ older) = IsFirstPace start newest.start older × BeginsBy start older
 
--- What a bench may rely on that is switched off and on again any number of times, while units lose their power, and
+-- The guarantees for a bench that is switched off and on again any number of times, while units lose their power, and
 -- come and go between the stays: all that the program knows of is one legal trace that keeps to the plans, what is left
 -- loads to its records, the orders that were begun are the taken ones, each once, every moment of the stay is right,
--- and wherever the journal stands idle in it the units are ready for the next.
+-- and whenever the journal is idle in it the units are ready for the next.
 pub record ActOnce (start : Start) (sittings : List Sitting) (left : List ℕ) (stay : Stay) : Type 0 where
   pub trace : IsOneTrace start sittings
   pub file : Loads start.limit (records_of start (joined sittings)) left

@@ -1,4 +1,4 @@
--- What happened in a drive over a store, and what it left there, by the contract of the call and nothing else.
+-- The events of a drive over a store, and what it left there, by the contract of the call and nothing else.
 use Rattle.std.specs.Prelude.{◌≡◌, ◌⊎◌, ◌↔◌, ◌++◌, ℕ, List, ◌∷◌, Option, Some}
 use Rattle.dali_bank.specs.Order.{Contents}
 use Rattle.dali_frame.specs.declared.forward.Frame.{Frame}
@@ -31,18 +31,19 @@ IsBrokenStep start trace Out next =
 IsBrokenStep start trace other next =
     (frame : Frame) × (answer : Option ℕ) × (next ≡ Sent frame answer) × IsNext start trace next
 
--- What may have happened where a drive broke off: what its trace tells, or that and the step that was broken off.
+-- The traces that may have happened if a drive broke off: the trace up to there, or that and the step that was broken
+-- off.
 abbrev pub MayHaveHappened : Start → List Happening → DriveFault → List Happening → Type 0
 MayHaveHappened start trace fault past =
     (past ≡ trace) ⊎ ((next : Happening) × IsBrokenStep start trace fault next × (past ≡ next ∷ trace))
 
--- A record that was next counts as kept exactly where it stands whole behind those that were kept before.
+-- A record that was next counts as kept exactly when it is whole after those that were kept before.
 abbrev pub KeptWhereWhole : Start → List Happening → List Happening → List ℕ → Type 0
 KeptWhereWhole start trace past left =
     (entry : Record) → IsNext start trace (Kept entry)
     → (past ≡ Kept entry ∷ trace) ↔ (left ≡ journal_spelling Two (records_of start trace) ++ spelling Two entry)
 
--- From a store that showed these bytes a drive came to its end: its trace happened, and is what the store then shows.
+-- From a store that showed these bytes a drive completed: its trace happened, and is what the store then shows.
 pub record CameToItsEnd (limit most : ℕ) (found : List ℕ) (sitting : Sitting) (left : List ℕ) : Type 0 where
   pub pace : Pace
   pub orders : List (Contents × ℕ)

@@ -1,4 +1,4 @@
--- What the streams over std's readers and writers show.
+-- The bytes that the streams over std's readers and writers show.
 use Rattle.std.specs.Prelude.{ℕ, Bool, List, Option, is_some}
 use Rattle.dali_drive.specs.declared.std_streams.StdSource.{StdSource}
 use Rattle.dali_drive.specs.declared.std_streams.StdSink.{StdSink}

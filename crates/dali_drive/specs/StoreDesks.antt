@@ -1,4 +1,4 @@
--- What there is of a desk whose journal is in a store.
+-- The parts of a desk whose journal is in a store.
 use Rattle.std.specs.Prelude.{ℕ, Bool, List, Option}
 use Rattle.dali_drive.specs.declared.store_desk.StoreDesk.{StoreDesk}
 use Rattle.dali_drive.specs.Desks.{Look, look_of, failures}

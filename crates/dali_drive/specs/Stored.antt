@@ -44,7 +44,7 @@ IsStoredFault limit most pace orders (Drive fault) first last =
     (begun : IsBegun limit most first)
     × IsBrokenDrive (start_by pace begun.journal) orders fault (record first { journal = begun.middle }) last
 
--- what a stop may leave then: where no journal was opened, what it might have left before or the same records; else at
+-- what a stop may leave then: if no journal was opened, what it might have left before or the same records; else at
 -- least what was kept before the step that was broken off
 abbrev pub LeavesAtFault : (limit most : ℕ) (pace : Pace) (orders : List (Contents × ℕ)) (fault : StoredFault)
     (first last : Streams) → IsStoredFault limit most pace orders fault first last
@@ -65,14 +65,14 @@ abbrev pub StoredShows : StoredFault → Failures → Type 0
 StoredShows (Open fault) failed = FailsOpen fault failed
 StoredShows (Drive fault) failed = ShowsFault fault failed
 
--- the bytes in version 2 of the records that a store showed, and behind them a first part of what was put until now
+-- the bytes in version 2 of the records that a store showed, followed by a first part of what was put until now
 abbrev pub IsPartBehind : ℕ → Option (List ℕ) → Option (List ℕ) → List ℕ → Type 0
 IsPartBehind limit None new c = ⊤
 IsPartBehind limit (Some bytes) new c =
     (records : List Record) × Loads limit records bytes × IsBetween (Some (journal_spelling Two records)) new c
 
--- what a stop leaves: what it might have left before; or bytes that load to the records that the store showed; or
--- these records' bytes in version 2, with a first part of what was put behind them until now
+-- what a stop leaves: what it might have left before; or bytes that load to the records that the store showed; or these
+-- records' bytes in version 2, followed by a first part of what was put until now
 abbrev pub LeavesPart : ℕ → Option (List ℕ) → Option (List ℕ) → (List ℕ → Type 0) → List ℕ → Type 0
 LeavesPart limit old new before c =
     before c ⊎ LoadsAlike limit old c ⊎ IsPartBehind limit old new c

@@ -1,4 +1,5 @@
--- What the calls of a source and of a sink do to the bytes that they show. Nothing is said where those are not known.
+-- The effect of the calls of a source and of a sink on the bytes that they show. Nothing is said if those are not
+-- known.
 use Rattle.std.specs.Prelude.{◌≡◌, ◌≤◌, ◌==◌, ℕ, Bool, true, false, List, [], ◌∷◌, ◌++◌, Option, Some, None, length}
 use Rattle.std.specs.Prelude.{take, ⊤}
 use Rattle.std.specs.Io.KnownBytes.{Appends, Consumes, Keeps, IsAtEnd}
@@ -21,7 +22,7 @@ abbrev pub Puts : Option (List ℕ) → Option (List ℕ) → Option ℕ → Lis
 Puts old new (Some k) bytes = (k ≤ length bytes) × Appends old new (take k bytes)
 Puts old new None bytes = Keeps old new
 
--- just the first so many of the bytes are held
+-- only a first part of the bytes is held
 abbrev pub PutsFirst : Option (List ℕ) → Option (List ℕ) → List ℕ → Type 0
 PutsFirst old new bytes = (k : ℕ) × (k ≤ length bytes) × Appends old new (take k bytes)
 
@@ -36,7 +37,8 @@ IsPart None held = ⊤
 IsPart (Some flushed) None = ⊥
 IsPart (Some flushed) (Some held) = (rest : List ℕ) × (held ≡ flushed ++ rest)
 
--- what is flushed where a flush succeeded: all that is held, unless that is never told; where it failed, no more
+-- the bytes that are flushed after a flush: all that is held, unless that is never shown; if it failed, no more than
+-- before
 abbrev pub Flushes : Bool → Option (List ℕ) → Option (List ℕ) → Option (List ℕ) → Type 0
 Flushes true held None new = new ≡ None
 Flushes true held (Some old) new = new ≡ held

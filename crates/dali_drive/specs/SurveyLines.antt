@@ -18,7 +18,7 @@ last_head unit last = unit_head unit ++ codes " last " ++ byte_digits last
 abbrev pub last_line : ℕ → ℕ → List ℕ
 last_line unit last = last_head unit last ++ codes "\n"
 
--- a bank with this last location and these bytes from 03h on; what stands between them isn't known
+-- a bank with this last location and these bytes from 03h on; the bytes between them aren't known
 abbrev pub bank_with : ℕ → List ℕ → List ℕ
 bank_with last more = last ∷ 0xFF ∷ 0xFF ∷ more
 
@@ -26,8 +26,8 @@ bank_with last more = last ∷ 0xFF ∷ 0xFF ∷ more
 abbrev pub HasUnitLine : List ℕ → Type 0
 HasUnitLine bytes = (length bytes ≡ 1) ⊎ (length bytes ≡ 15)
 
--- The line of a unit of which these bytes were read: its last location, and where those from 03h to 10h were read what
--- a bank with them is told to have there.
+-- The line of a unit of which these bytes were read: its last location, and if those from 03h to 10h were read, the
+-- GTIN and identification number of a bank with them.
 abbrev pub IsUnitLine : ℕ → List ℕ → List ℕ → Type 0
 IsUnitLine unit [] line = ⊥
 IsUnitLine unit (last ∷ []) line = line ≡ last_line unit last
@@ -37,11 +37,11 @@ IsUnitLine unit (last ∷ byte ∷ more) line =
     × IsRowText (bank_with last (byte ∷ more)) (Of Identification) identification
     × (line ≡ last_head unit last ++ codes " gtin " ++ gtin ++ codes " identification " ++ identification ++ codes "\n")
 
--- so many units answered
+-- this many units answered
 abbrev pub units_line : ℕ → List ℕ
 units_line count = codes "units " ++ decimal count ++ codes "\n"
 
--- so many bytes of a unit were read
+-- this many bytes of a unit were read
 abbrev pub bytes_line : ℕ → ℕ → List ℕ
 bytes_line unit count = unit_head unit ++ codes " bytes " ++ decimal count ++ codes "\n"
 

@@ -54,7 +54,7 @@ pub record Surveyed {A : Type 0} (is_report : Report A → Type 0) (reports : Li
   pub link : LinkText (all_told reports) (link_of first) (link_of last)
   pub out : Appends first.out last.out (lines_in reports)
 
--- one was read for this item, and its line written; of it this is so
+-- one was read for this item, and its line written; and this holds for its report
 pub record Reported {A : Type 0} (is_report : Report A → Type 0) (item : A) (is_so : Report A → Type 0)
     (first last : Streams) : Type 0 where
   pub report : Report A
@@ -90,7 +90,7 @@ IsScanReport sought report =
     Ends report.item (sought_course sought) report.outcome report.told
     × TellsUnit report.item report.outcome report.line
 
--- all of these addresses were asked, in this order, and so many units answered
+-- all of these addresses were asked, in this order, and this many units answered
 pub record IsScan (sought : Sought) (addresses : List ℕ) (units : ℕ) (first last : Streams) : Type 0 where
   pub reports : List (Report ℕ)
   pub each : AllByRecursion (IsScanReport sought) reports
@@ -99,14 +99,14 @@ pub record IsScan (sought : Sought) (addresses : List ℕ) (units : ℕ) (first 
   pub out : Appends first.out last.out (lines_in reports ++ units_line units)
   pub units_are : units ≡ answered reports
 
--- where a fault broke a scan off: at the next of these addresses, or where none was left in the last line
+-- the point where a fault broke a scan off: at the next of these addresses, or, if none was left, in the last line
 abbrev pub BreaksScan : Sought → DriveFault → List ℕ → ℕ → Streams → Streams → Type 0
 BreaksScan sought fault [] units old new =
     (fault ≡ Out) × LinkText [] (link_of old) (link_of new) × AppendsPart old.out new.out (units_line units)
 BreaksScan sought fault (next ∷ rest) units old new =
     BreaksReport (IsScanReport sought) fault next next (sought_course sought) old new
 
--- the first of these addresses were asked, and behind them the fault broke the scan off
+-- the first of these addresses were asked, and after them the fault broke the scan off
 pub record ScanBroke (sought : Sought) (addresses : List ℕ) (fault : DriveFault) (first last : Streams) : Type 0 where
   pub reports : List (Report ℕ)
   pub rest : List ℕ
@@ -117,7 +117,7 @@ pub record ScanBroke (sought : Sought) (addresses : List ℕ) (fault : DriveFaul
 
 -- ---- units beside orders
 
--- an order is told by what is found of it, or as silent
+-- an order's line says what is found of it, or that its unit is silent
 abbrev pub TellsOrder : Contents → Option (List ℕ) → List ℕ → Type 0
 TellsOrder order None line = line ≡ order_silent_line order
 TellsOrder order (Some bytes) line =
@@ -128,7 +128,7 @@ IsOrderReport report =
     Ends report.item.unit (order_course report.item.updates) report.outcome report.told
     × TellsOrder report.item report.outcome report.line
 
--- each location that the order writes was read, and told the order's byte
+-- each location that the order writes was read, and had the order's byte
 abbrev pub IsSame : Report Contents → Type 0
 IsSame report = (bytes : List ℕ) × (report.outcome ≡ Some bytes) × IsFound report.item.updates bytes Same
 
@@ -162,21 +162,21 @@ AreFound (report ∷ reports) [] = ⊥
 AreFound (report ∷ reports) (one ∷ found) =
     (one.order ≡ report.item) × FoundOf report.item report.outcome one.finding one.bytes × AreFound reports found
 
--- and all of it was told
+-- and the observer has seen all of it
 pub record IsAllTold {B : Type 0} (told : B → B → List Found → Type 0)
     (reports : List (Report Contents)) (before after : B) : Type 0 where
   pub found : List Found
   pub are_found : AreFound reports found
   pub told_all : told before after found
 
--- units were read beside orders, and what was found was told
+-- units were read beside orders, and the observer has seen what was found
 pub record IsVerifiedTold {B : Type 0} (told : B → B → List Found → Type 0)
     (orders : List Contents) (all_same : Bool) (first : Streams) (before : B) (last : Streams) (after : B)
     : Type 0 where
   pub verified : IsVerified orders all_same first last
   pub told_all : IsAllTold told verified.reports before after
 
--- the same where a fault broke it off: of the order at which it came nothing was told
+-- the same if a fault broke it off: nothing was passed on of the order at which it came
 pub record VerifyBrokeTold {B : Type 0} (told : B → B → List Found → Type 0)
     (orders : List Contents) (fault : DriveFault) (first : Streams) (before : B) (last : Streams) (after : B)
     : Type 0 where

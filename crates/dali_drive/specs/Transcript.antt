@@ -1,4 +1,4 @@
--- What is written and read along a trace. A trace has the newest happening first.
+-- The bytes that are written and read along a trace. A trace has the newest happening first.
 use Rattle.std.specs.Prelude.{◌≡◌, ℕ, List, [], ◌∷◌, ◌++◌, Option, None}
 use Rattle.std.specs.Io.KnownBytes.{Appends, Consumes}
 use Rattle.dali_journal.specs.declared.version.Version.TheVariants.{Two}

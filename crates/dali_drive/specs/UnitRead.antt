@@ -62,7 +62,7 @@ pub record ReadSoFar (unit : ℕ) (course : Course) (bytes : List ℕ) (first la
   pub bytes_are : bytes_in done ≡ bytes
   pub text : LinkText (told_in done) first last
 
--- it came to its end: with these bytes, or where all tries of a block missed with none
+-- it completed: with these bytes, or with none if all tries of a block missed
 pub record IsUnitRead (unit : ℕ) (course : Course) (outcome : Option (List ℕ)) (first last : Streams) : Type 0 where
   pub told : List Exchange
   pub ends : Ends unit course outcome told

@@ -1,4 +1,4 @@
--- What a drive has come to in its midst.
+-- The progress of a drive in its midst.
 use Rattle.std.specs.Prelude.{◌≡◌, ◌++◌, ℕ, List, [], Result, Ok, Err, false, length, reverse}
 use Rattle.std.specs.Io.KnownBytes.{Appends}
 use Rattle.dali_frame.specs.declared.forward.Frame.{Frame}
@@ -32,8 +32,8 @@ pub record IsDrivenAt (start : Start) (past : List Happening) (writer : WriterSt
   pub described : Describes start past writer
   pub follows : Follows start past writer
 
--- more happened behind this trace, in which just these orders were asked and these lines were said; and the whole was
--- told
+-- more happened after this trace, in which exactly these orders were asked and these lines were said; and the observer
+-- has seen the whole
 pub record HasWorked (start : Start) (past : List Happening) (orders : List (Contents × ℕ)) (first : Streams)
     (writer : WriterState) (middle last : Streams) (told : List Happening → Type 0) : Type 0 where
   pub more : List Happening
@@ -42,13 +42,13 @@ pub record HasWorked (start : Start) (past : List Happening) (orders : List (Con
   pub said : Appends middle.out last.out (said_lines more)
   pub told_all : told (more ++ past)
 
--- which orders were read and not asked, where a step is broken off: the newest one where it found no memory, else none
+-- which orders were read and not asked when a step is broken off: the newest one if it found no memory, else none
 abbrev pub AreUnasked : DriveFault → List (Contents × ℕ) → Type 0
 AreUnasked NoMemory unasked = length unasked ≡ 1
 AreUnasked fault unasked = unasked ≡ []
 
--- more happened behind this trace, in which the first of these orders were asked and these lines were said, and then a
--- step was broken off; a stop may leave this; and this was told of it
+-- more happened after this trace, in which the first of these orders were asked and these lines were said, and then a
+-- step was broken off; a stop may leave this; and the observer has seen this of it
 pub record HasBroken (start : Start) (past : List Happening) (orders : List (Contents × ℕ)) (first : Streams)
     (fault : DriveFault) (middle last : Streams) (may_leave : List ℕ → Type 0) (told : List Happening → Type 0)
     (told_end : List Happening → DriveFault → Frame → List ℕ → Type 0) : Type 0 where
@@ -63,7 +63,7 @@ pub record HasBroken (start : Start) (past : List Happening) (orders : List (Con
   pub left : LeavesBetween then.journal last.journal may_leave
   pub told_all : IsToldEnd told told_end start (more ++ past) fault then.answers last.answers
 
--- work behind a trace, from one look at the desk to another, in which just these orders were asked; or as far as the
+-- work after a trace, from one look at the desk to another, in which exactly these orders were asked; or as far as the
 -- step that was broken off
 abbrev pub WorkedOn : {A : Type 0} → Start → List Happening → List (Contents × ℕ) → Streams → Result A DriveFault
     → WriterState → Look → Look → (List Happening → Type 0)

@@ -1,4 +1,4 @@
--- A scan of two units of which one is silent, two orders verified, and what is near them and isn't so.
+-- A scan of two units of which one is silent, two orders verified, and near misses.
 use Rattle.std.specs.Prelude.{ℕ, zero, suc, replicate, List, [], ◌∷◌, ◌++◌, Some, None, codes}
 use Rattle.dali_frame.specs.declared.forward.Frame.TheVariants.{Dtr0, Dtr1, AskDtr0, AskDtr1, Read}
 use Rattle.dali_bank.specs.Order.{Contents}
@@ -7,7 +7,7 @@ use Rattle.dali_write.specs.WorkedAccesses.{sent}
 use Rattle.dali_drive.specs.Transcript.{Streams, shown, link_shown}
 use Rattle.dali_drive.specs.Surveys.{Report}
 
--- so many tries of unit 0 that missed where DTR1 is asked back
+-- this many tries of unit 0 that missed when DTR1 was asked back
 abbrev pub missed : ℕ → List Exchange
 missed zero = []
 missed (suc tries) = sent (AskDtr1 0) None ∷ sent (Dtr1 1) None ∷ missed tries

@@ -1,4 +1,4 @@
-// Orders that are followed behind older journals.
+// Orders that are followed after older journals.
 ghost use Rattle.std.specs.Prelude.{◌≡◌, IfOk, IfErr, IfSome, OnOk};
 ghost use Rattle.dali_journal.specs.declared.standing.Standing.TheVariants.{Idle};
 ghost use Rattle.dali_journal.specs.Sentence.{standing_of};
@@ -18,7 +18,7 @@ use dali_trace::DriveFault;
 use dali_write::Pace;
 use std::alloc::Global;
 
-/// Why orders weren't all followed behind older journals.
+/// Why orders weren't all followed after older journals.
 #[derive(Clone, Copy, Debug, PartialEq, Eq)]
 pub enum BehindFault {
     /// The journal isn't opened, and no stream was touched.
@@ -29,12 +29,12 @@ pub enum BehindFault {
     Drive(DriveFault),
 }
 
-/// What a drive goes by (profile).
+/// The terms of a drive (profile).
 #[derive(Clone, Copy, PartialEq, Eq)]
 pub struct Terms {
-    /// The journal has at most so many orders, 1 to 100000,
+    /// The journal has at most this many orders, 1 to 100000,
     pub orders: u32,
-    /// and at most so many bytes, where it is opened.
+    /// and at most this many bytes, when it is opened.
     pub bytes: usize,
     /// The plan of its sessions.
     pub pace: Pace,
@@ -42,8 +42,8 @@ pub struct Terms {
 
 /// Opens the journal of a desk and follows what a source of orders gives, as `follow` does.
 ///
-/// Behind an older journal, as of all that were retired, where there is one: its orders count as begun, so that each
-/// gets its kept reply, or `reused`, with no frame. The journal keeps its own records alone. The older one has to be at
+/// With an older journal, as of all that were retired, if there is one: its orders count as begun, so that each gets
+/// its kept reply, or `reused`, with no frame. The journal keeps its own records alone. The older one has to be at
 /// rest.
 pub fn follow_stored<D: OpenDesk, G: Orders, B: Observer>(
     alloc: Global,
@@ -80,7 +80,7 @@ pub fn follow_stored<D: OpenDesk, G: Orders, B: Observer>(
     }
 }
 
-// The journal behind the older one, where there is one.
+// The journal after the older one, if there is one.
 fn joined(own: Journal, older: Option<Journal>) -> Result<Journal, JoinFault>
     requires rests { IfSome older (λ journal. standing_of journal.records ≡ Idle) }
     ensures ok { IfOk result (IsWhole older own.limit own) }
@@ -91,7 +91,7 @@ fn joined(own: Journal, older: Option<Journal>) -> Result<Journal, JoinFault>
     };
     match own.behind(older) {
         Ok(whole) => {
-            // it tells what is so of every journal
+            // it shows what is true of every journal
             let _most = whole.limit();
             Ok(whole)
         }

@@ -1,4 +1,4 @@
-// What a drive works at.
+// The streams of a drive.
 ghost use Rattle.std.specs.Prelude.{◌≡◌, ◌∷◌, [], ℕ, List, Option, IfErr, IfOk, OnOk, true, false};
 ghost use Rattle.std.specs.Io.KnownBytes.{Appends, Keeps};
 ghost use Rattle.dali_frame.specs.Frame.{IsProper};
@@ -21,25 +21,26 @@ use dali_store::OpenFault;
 use dali_trace::DriveFault;
 use std::alloc::Global;
 
-/// What a drive works at: a journal, a link there and back, and replies (profile). Each of its calls is asked where no
+/// The streams of a drive: a journal, a link there and back, and replies (profile). Each of its calls is made when no
 /// stream has failed and all that was kept is durable: a record before the next frame, reply or record goes out.
 pub trait Desk {
-    /// What its streams show, which of them have failed, and what a stop at this moment may leave of the journal.
+    /// The contents of its streams, those of them that have failed, and what a stop at this moment may leave of the
+    /// journal.
     ghost look: { Self → Look };
 
-    /// What was flushed of the link, where that is known.
+    /// The bytes of the link that were flushed, if they are known.
     ghost link_flushed: { Self → Option (List ℕ) };
 
     /// The journal's moment, as a number that doesn't fall.
     ghost moment: { Self → ℕ };
 
-    /// What a stop at some moment from that one on might have left of it.
+    /// The part of it that a stop at some moment from that one on might have left.
     ghost left_since: { Self → ℕ → List ℕ → Type 0 };
 
     /// Its streams are those of the other.
     ghost same: { Self → Self → Type 0 };
 
-    /// Puts a record's bytes behind the journal's. A stop may leave a first part of them until they are settled.
+    /// Puts a record's bytes at the end of the journal. A stop may leave a first part of them until they are settled.
     fn put(&mut self, bytes: &[u8]) -> bool
         requires ahead { IsAhead (look self.old) }
         ensures whole { result ≡ true
@@ -83,7 +84,7 @@ pub trait Desk {
         ensures settled { IsDurableAt (look self.new) }
         ensures grown { Grows look moment left_since same self.old self.new };
 
-    /// Puts a line behind the replies.
+    /// Puts a line after the replies.
     fn say(&mut self, line: &[u8]) -> bool
         requires ahead { IsAhead (look self.old) }
         ensures whole { result ≡ true
@@ -99,13 +100,13 @@ pub trait Desk {
     /// Since this moment there is no other.
     ghost only_now: { (desk : Self) (c : List ℕ) → left_since desk (moment desk) c → (look desk).may_leave c };
 
-    /// Its streams are its own, and those of a third where they are of a second.
+    /// Its streams are its own, and those of a third if they are of a second.
     ghost same_now: { (desk : Self) → same desk desk };
 
     ghost same_on: { (a b c : Self) → same a b → same b c → same a c };
 }
 
-// Puts a record's bytes behind the journal's, and sees to it that a stop leaves them.
+// Puts a record's bytes at the end of the journal, and sees to it that a stop leaves them.
 pub(crate) fn keep<D: Desk>(desk: &mut D, bytes: &[u8]) -> bool
     requires ahead { IsAhead (D.look desk.old) }
     ensures whole { result ≡ true

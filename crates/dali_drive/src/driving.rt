@@ -98,10 +98,10 @@ fn work<D: Desk, B: Observer>(
 /// again.
 ///
 /// The writer has to be at rest: idle, or as `Writer::new` made it. No stream may have failed, and all that
-/// `journal_out` holds has to be flushed, where it tells what was.
+/// `journal_out` holds has to be flushed, if it shows what was.
 ///
-/// Each `DriveFault` says what ended the drive. The writer is gone then, and what goes on is a new one, from the
-/// journal that is loaded from what `journal_out` holds behind the header: whole records of version 2, and at most one
+/// Each `DriveFault` says what ended the drive. The writer is gone then, and the drive goes on with a new one, from the
+/// journal that is loaded from what `journal_out` holds after the header: whole records of version 2, and at most one
 /// that is cut. It writes no header. All that was kept before the step that was broken off is flushed.
 pub fn drive<I: Source, L: Sink, J: Sink, O: Sink>(
     writer: Writer,

@@ -17,15 +17,15 @@ use dali_bank::Order;
 use dali_engine::Writer;
 use dali_trace::DriveFault;
 
-/// What a source of orders gives (profile).
+/// The items that a source of orders gives (profile).
 pub enum Given {
     /// An order, to be submitted at this moment.
     Order(Order, u64),
-    /// A line that is told, and changes nothing: that of an item which is refused.
+    /// A line that is written out, and changes nothing: that of an item which is refused.
     Line(Line),
 }
 
-/// Where orders come from, one after another (profile).
+/// A source of orders, one after another (profile).
 pub trait Orders {
     /// Since it was the first of the two, it gave these, the newest first.
     ghost gave: { Self → Self → List Given → Type 0 };
@@ -33,7 +33,7 @@ pub trait Orders {
     /// There is no more.
     ghost over: { Self → Type 0 };
 
-    /// What comes next, if there is more.
+    /// The next item, if there is more.
     fn next(&mut self) -> Option<Given>
         ensures given { (first : Self) (given : List Given) → gave first self.old given
             → gave first self.new (with_next result given) }
@@ -45,7 +45,7 @@ pub trait Orders {
 
 /// Carries out what the writer still has to do, and then what a source of orders gives, one after another, as `drive`
 /// does: each order is submitted at its moment, its reply written, and the work done that it makes, and each line is
-/// told, before the next is taken (profile). It ends where the source does. An observer is told all that happens.
+/// written, before the next is taken (profile). It ends where the source does. An observer sees all that happens.
 pub fn follow<D: Desk, G: Orders, B: Observer>(
     writer: Writer,
     orders: &mut G,

@@ -37,8 +37,8 @@ ghost use Rattle.dali_drive.specs.Followed.{submitted, happenings, muted, IsFoll
 ghost use Rattle.dali_drive.specs.UnitRead.{IsUnitRead, UnitReadBroke};
 ghost use Rattle.dali_write.specs.declared.pace.Pace.{Pace};
 
-/// What a call of `drive_stored` leaves, by its contract: where it came to its end, just its trace; where it broke off,
-/// whatever a stop may leave of it bears out something that may have happened; and where no journal was opened, the
+/// The journal that a call of `drive_stored` leaves, by its contract: if it completed, exactly its trace; if it broke
+/// off, whatever a stop may leave of it bears out something that may have happened; and if no journal was opened, the
 /// same records, or what a stop might have left before.
 pub fn drives_leave_what_happened()
     ensures ended { (limit most : ℕ) (pace : Pace) (orders : List (Contents × ℕ)) (found left : List ℕ)
@@ -66,7 +66,7 @@ pub fn drives_handed_on_are_one()
         → IsAtRest writer → IsDrive start (orders ++ more) first writer last }
 {}
 
-/// Whatever a stop may leave at some moment of a drive over a store, behind the journal that was opened there, is what
+/// Whatever a stop may leave at some moment of a drive over a store, after the journal that was opened there, is what
 /// it would have left if it had been killed at some moment of what may have happened: with nothing in hand, or a record
 /// that is cut off.
 pub fn stops_leave_a_part()
@@ -84,12 +84,11 @@ pub fn stops_leave_a_part()
 
 /// Drives over a store one after another, however many and however each ended (it returned, it broke off, it was
 /// killed), each from what the one before it left there and by a plan of its own, the first from a journal of either
-/// version: together they act as one, and each order once. While the journal stands idle, between drives or in one,
-/// units may be exchanged, read, verified and used by other masters; while an order is at work, luminaires at other
-/// addresses may be exchanged. Each stay between is right by itself: from a world that fits the start world and the
-/// start records, where it is the first; else from any world in which no unit is write-enabled, or none but a left one,
-/// as each stay leaves its units where it comes to rest, and as after power-up. Units may lose their power at any
-/// moment.
+/// version: together they act as one, and each order once. While the journal is idle, between drives or in one, units
+/// may be exchanged, read, verified and used by other masters; while an order is at work, luminaires at other addresses
+/// may be exchanged. Each stay between is right by itself: the first from a world that fits the start world and the
+/// start records; any other from any world in which no unit is write-enabled, or none but a left one, as each stay
+/// leaves its units when it comes to rest, and as after power-up. Units may lose their power at any moment.
 pub fn drives_act_once()
     ensures follow { (start : Start) (most : ℕ) (first left : List ℕ) (sittings : List Sitting)
         → Loads start.limit start.records first → HaveSat start.limit most first sittings left
@@ -100,8 +99,8 @@ pub fn drives_act_once()
 {}
 
 /// Orders that are followed are one drive of those that were given, each at its moment; and over a store they leave
-/// what such a drive leaves, whether they came to their end or broke off. So all that is so of drives one after
-/// another is so of them.
+/// what such a drive leaves, whether they completed or broke off. So all that is true of drives one after another is
+/// true of them.
 pub fn followed_orders_are_driven()
     ensures drive { (start : Start) (given : List Given) (first : Streams) (writer : WriterState) (last : Streams)
         → IsFollowed start given first writer last
@@ -121,9 +120,9 @@ pub fn followed_orders_are_driven()
         × HasSat limit most found (record { start = start_by pace begun.journal; past = past }) left }
 {}
 
-/// What a call of `read_unit` gives, by its contract, along every chain of worlds over any bus, with losses of power
-/// anywhere. Each byte of a bank, and each that something found of an order rests on, stood at its location when its
-/// read reached the unit, which had its power from the second frame of its block to the last.
+/// The result of a call of `read_unit`, by its contract, along every chain of worlds over any bus, with losses of power
+/// anywhere. Each byte of a bank, and each on which a finding about an order rests, was at its location when its read
+/// reached the unit, which had its power from the second frame of its block to the last.
 pub fn what_is_read_was_there()
     ensures bank { (loses : List ℕ) (unit : ℕ) (bytes : List ℕ) (first last : Streams)
         (read : IsUnitRead unit bank_course (Some bytes) first last) (begun ended : World)
@@ -150,10 +149,10 @@ pub fn what_is_read_stays()
         → (address : ℕ) → KeepsAt (IsAmong loses) begun ended address }
 {}
 
-/// Behind older journals that are at rest, along each trace that may follow, each order acts once over all of them: an
+/// After older journals that are at rest, along each trace that may follow, each order acts once over all of them: an
 /// order that one of them has ended gets that reply, and since that isn't Taken no frame is sent for it; a number that
-/// one of them has with other contents is refused as `reused`; and no number is begun twice in all. What the store
-/// keeps is a journal by itself.
+/// one of them has with other contents is refused as `reused`; and no number is begun twice in all. The records that
+/// the store keeps are a journal by themselves.
 pub fn older_orders_act_once()
     ensures { (older : JournalState) (limit most : ℕ) (pace : Pace) (first : Streams) (past : List Happening)
         (b : IsBegunBehind (Some older) limit most first) → standing_of older.records ≡ Idle
@@ -161,10 +160,10 @@ pub fn older_orders_act_once()
         → ActsOnceBehind older limit (start_by pace b.journal) past }
 {}
 
-/// What is followed behind an older journal, over a store that showed known bytes, is followed over the whole: over a
-/// store whose bytes are those of the older records with the store's own behind them, each without a second header. So
-/// all that is so of drives one after another, killed and started again, is so of drives behind older journals; and
-/// where there are no records yet, the whole is just what the older journals' own drives left.
+/// Orders that are followed after an older journal, over a store that showed known bytes, are followed over the whole:
+/// over a store whose bytes are those of the older records followed by the store's own, each without a second header.
+/// So all that is true of drives one after another, killed and started again, is true of drives after older journals;
+/// and if there are no records yet, the whole is exactly what the older journals' own drives left.
 pub fn what_is_followed_behind_is_of_the_whole()
     ensures ended { (older : JournalState) (limit most room : ℕ) (pace : Pace) (given : List Given)
         (found left : List ℕ)
@@ -189,7 +188,7 @@ pub fn what_is_followed_behind_is_of_the_whole()
         (journal_spelling Two b.journal.records) }
 {}
 
-/// Whatever a stop may leave at some moment of what is followed behind an older journal, behind the journal that was
+/// Whatever a stop may leave at some moment of what is followed after an older journal, after the journal that was
 /// opened there, is with the older records what it would have left if a drive of the whole had been killed at some
 /// moment of what may have happened, as `stops_leave_a_part` says of a drive without older ones. The older one is
 /// durable: a stop leaves it as it is.

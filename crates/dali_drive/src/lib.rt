@@ -1,6 +1,8 @@
-//! Drives of a writer over streams (profile): its records go to a journal, its frames to a link from which the
-//! answers come back, its replies to a third stream; and what is so along one drive after another, wherever each was
-//! broken off.
+//! Drives of a writer over streams (profile): its records go to a journal, its frames to a link from which the answers
+//! come back, its replies to a third stream; and what holds along one drive after another, wherever each was broken
+//! off.
+//!
+//! A crate of its own: runs over a bus need no streams and no journal in a store.
 #![tactic(auto)]
 
 mod behind;

@@ -15,7 +15,7 @@ use dali_trace::{DriveFault, Reply, decimal_of};
 // The most bytes that are read of an answer's line before its line feed: it has at most one less.
 const MOST_ANSWER: usize = 9;
 
-// What was read of an answer's line, without its line feed.
+// The bytes that were read of an answer's line, without its line feed.
 pub type AnswerText = ArrayVec<u8, MOST_ANSWER>;
 
 // No line that is written has more bytes: a number has at most twenty digits.

@@ -18,7 +18,7 @@ impl<'a> ListedOrders<'a> {
         ensures state { state_of result ≡ record { rest = orders.entry.now; moment = moment } }
         ensures few { length orders.entry.now ≤ 2 ^ 64 - 1 }
     {
-        // it tells what is so of every list
+        // it shows what is true of every list
         let _most = orders.len();
         ListedOrders {
             rest: orders,

@@ -1,4 +1,4 @@
-// Who is told what happens in a drive.
+// Observers of a drive.
 ghost use Rattle.std.specs.Prelude.{◌≡◌, ◌∷◌, [], ℕ, List, ⊤};
 ghost use Rattle.dali_frame.specs.Frame.{IsProper};
 ghost use Rattle.dali_frame.specs.declared.forward.Frame.{Frame};
@@ -15,13 +15,13 @@ use dali_journal::Journal;
 use dali_read::Finding;
 use dali_trace::{DriveFault, Happening};
 
-/// Who is told what happens in a drive, at once and in its order (profile). Whatever becomes of that, the drive goes
-/// on.
+/// An observer that sees what happens in a drive, at once and in its order (profile). Whatever becomes of that, the
+/// drive goes on.
 pub trait Observer {
-    /// From this start, and since it was the first of the two, it was told all of this trace.
+    /// From this start, and since it was the first of the two, it has seen all of this trace.
     ghost told: { Start → Self → Self → List Happening → Type 0 };
 
-    /// It was told the trace and then that this fault broke the exchange of this frame off, and what was read of the
+    /// It has seen the trace and then that this fault broke the exchange of this frame off, and what was read of the
     /// answer.
     ghost told_end: { Start → Self → Self → List Happening → DriveFault → Frame → List ℕ → Type 0 };
 
@@ -29,8 +29,8 @@ pub trait Observer {
     fn begin(&mut self, journal: &Journal)
         ensures { (start : Start) → start.records ≡ journal.now.records → told start self.old self.new [] };
 
-    /// This happened, and the journal stands so after it. Beside a record that was kept it is told why the order comes
-    /// to no good end, if it does.
+    /// This happened, and this is the journal after it. With a record that was kept comes the cause, if the order ended
+    /// badly.
     fn see(&mut self, happening: &Happening, journal: &Journal, cause: Option<Cause>)
         ensures { (start : Start) (first : Self) (past : List Happening) → told start first self.old past
             → records_of start (happening.now ∷ past) ≡ journal.now.records
@@ -44,9 +44,9 @@ pub trait Observer {
             → told_end start first self.new past fault frame.now read.now };
 }
 
-/// Who is told what is found of orders, one after the other (profile).
+/// An observer that sees what is found of orders, one after the other (profile).
 pub trait FindingObserver {
-    /// Since it was the first of the two, it was told that all this was found, the newest first.
+    /// Since it was the first of the two, it has seen that all this was found, the newest first.
     ghost told_found: { Self → Self → List Found → Type 0 };
 
     /// This was found of the order, in all these bytes that were read for it: nothing of a silent unit.
@@ -54,7 +54,7 @@ pub trait FindingObserver {
         ensures { (first : Self) (past : List Found) → told_found first self.old past
             → told_found first self.new (was_found order.now found read.now ∷ past) };
 
-    /// At first it was told of none.
+    /// At first it has seen none.
     ghost told_none: { (observer : Self) → told_found observer observer [] };
 }
 

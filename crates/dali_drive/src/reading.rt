@@ -22,7 +22,7 @@ fn keep_block(bytes: &mut ArrayVec<u8, MOST_OF_BANK>, more: &[u8])
     let _fits = bytes.try_extend_from_slice(more);
 }
 
-// Reads a block: its bytes, or none where all tries missed.
+// Reads a block: its bytes, or none if all tries missed.
 fn read_block<I: Source, L: Sink>(
     unit: u8,
     block: Block,

@@ -4,12 +4,12 @@ ghost use Rattle.dali_drive.specs.Surveys.{sought_course};
 
 use dali_read::Places;
 
-/// What a scan reads of each unit (profile).
+/// The locations that a scan reads of each unit (profile).
 #[derive(Clone, Copy, PartialEq, Eq)]
 pub enum Sought {
     /// The last location of its memory bank 1.
     Last,
-    /// And, where its bank reaches them, its GTIN and its identification number.
+    /// And, if its bank reaches them, its GTIN and its identification number.
     Identity,
 }
 

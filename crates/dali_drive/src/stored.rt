@@ -27,8 +27,8 @@ pub enum StoredFault {
 
 /// Opens the journal of a desk and carries out what it still asks for, and then the orders, as `drive` does.
 ///
-/// What happened is borne out by what the desk's store then holds, and by what a stop leaves of it; but where the store
-/// itself failed, of what was put last a stop may leave a first part.
+/// The store of the desk, and what a stop leaves of it, bear out what happened; except that if the store itself failed,
+/// a stop may leave a first part of what was put last.
 pub fn drive_stored<D: OpenDesk>(
     alloc: Global,
     terms: Terms,

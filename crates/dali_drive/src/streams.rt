@@ -1,11 +1,11 @@
-// What a drive reads and writes, a byte or a few at a time.
+// The streams that a drive reads and writes, a byte or a few at a time.
 ghost use Rattle.std.specs.Prelude.{◌≡◌, ◌<◌, ◌||◌, ℕ, Bool, List, Option, IfSome, not, length, true, false};
 ghost use Rattle.std.specs.Io.KnownBytes.{Keeps, Appends};
 ghost use Rattle.dali_drive.specs.Streams.{TakesOneByte, Puts, PutsFirst, Flushes, IsPart, is_failure, is_refusal};
 
 use std::io::ErrorKind;
 
-/// What a source gives for a byte (profile).
+/// The result of asking a source for a byte (profile).
 #[derive(Clone, Copy, PartialEq, Eq)]
 pub enum Got {
     /// The next byte.
@@ -16,15 +16,15 @@ pub enum Got {
     Failed,
 }
 
-/// Where bytes are taken from, one by one (profile).
+/// A source of bytes, one by one (profile).
 pub trait Source {
-    /// The bytes that are still to come, where they are known.
+    /// The bytes that are still to come, if they are known.
     ghost left: { Self → Option (List ℕ) };
 
     /// Whether a call has failed.
     ghost failed: { Self → Bool };
 
-    /// Takes the next byte. Where it fails no byte is lost.
+    /// Takes the next byte. If it fails no byte is lost.
     fn take_byte(&mut self) -> Got
         ensures bytes { TakesOneByte (left self.old) (left self.new) result }
         ensures failed { failed self.new ≡ (failed self.old || is_failure result) };
@@ -33,7 +33,7 @@ pub trait Source {
     fn has_failed(&self) -> bool
         ensures { result ≡ failed self.now };
 
-    /// Of what kind the failure was, where there was one and that is known: not, unless a stream tells it.
+    /// The kind of the failure, if there was one and its kind is known: not, unless a stream reports it.
     fn cause(&self) -> Option<ErrorKind>
         ensures { IfSome result (λ kind. failed self.now ≡ true) }
     {
@@ -41,18 +41,18 @@ pub trait Source {
     }
 }
 
-/// Where bytes are put (profile).
+/// A sink for bytes (profile).
 pub trait Sink {
-    /// The bytes that it holds, where they are known.
+    /// The bytes that it holds, if they are known.
     ghost held: { Self → Option (List ℕ) };
 
-    /// Those that it held when it was flushed last, where they are known.
+    /// Those that it held when it was flushed last, if they are known.
     ghost flushed: { Self → Option (List ℕ) };
 
     /// Whether a call has failed.
     ghost failed: { Self → Bool };
 
-    /// Puts some bytes: `Some(k)` where just the first `k` of them are now held, `None` where none is. `None` and
+    /// Puts some bytes: `Some(k)` if only the first `k` of them are now held, `None` if none is. `None` and
     /// `Some(0)` are failures.
     ///
     /// There has to be a byte.
@@ -62,7 +62,7 @@ pub trait Sink {
         ensures unflushed { flushed self.new ≡ flushed self.old }
         ensures failed { failed self.new ≡ (failed self.old || is_refusal result) };
 
-    /// Sees to it that what is held is where it belongs. `false` where that failed.
+    /// Sees to it that what is held is where it belongs. `false` if that failed.
     fn flush(&mut self) -> bool
         ensures bytes { Keeps (held self.old) (held self.new) }
         ensures flushed { Flushes result (held self.new) (flushed self.old) (flushed self.new) }
@@ -72,18 +72,18 @@ pub trait Sink {
     fn has_failed(&self) -> bool
         ensures { result ≡ failed self.now };
 
-    /// Of what kind the failure was, where there was one and that is known: not, unless a stream tells it.
+    /// The kind of the failure, if there was one and its kind is known: not, unless a stream reports it.
     fn cause(&self) -> Option<ErrorKind>
         ensures { IfSome result (λ kind. failed self.now ≡ true) }
     {
         None
     }
 
-    /// What was flushed is a first part of what is held.
+    /// The bytes that were flushed are a first part of those that are held.
     ghost flushed_is_held: { (sink : Self) → IsPart (flushed sink) (held sink) };
 }
 
-/// Puts all the bytes, and says whether they are held. Where they aren't, just the first so many are (profile).
+/// Puts all the bytes, and says whether they are held. If they aren't, only a first part is (profile).
 pub fn put_all<S: Sink>(sink: &mut S, bytes: &[u8]) -> bool
     ensures whole { result ≡ true → Appends (S.held sink.old) (S.held sink.new) bytes.now }
     ensures cut { result ≡ false → PutsFirst (S.held sink.old) (S.held sink.new) bytes.now }

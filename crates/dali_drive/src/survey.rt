@@ -50,10 +50,10 @@ fn scan_unit<I: Source, L: Sink, O: Sink>(
     }
 }
 
-/// Asks the units at these short addresses, one after the other, for the last location of their memory bank 1, and
-/// where it is sought for their GTIN and their identification number (profile): a line `unit U last LL` to `out` for
-/// each unit that answers, as it is found, with ` gtin G identification I` behind it where these were read, and then
-/// `units K`, where that is the answer too. A unit counts as absent where eight tries of one block missed.
+/// Asks the units at these short addresses, one after the other, for the last location of their memory bank 1, and if
+/// sought for their GTIN and their identification number (profile): a line `unit U last LL` to `out` for each unit that
+/// answers, as it is found, followed by ` gtin G identification I` if these were read, and then
+/// `units K`, which is the answer too. A unit counts as absent if eight tries of one block missed.
 ///
 /// The link is used as by `read_unit`. No stream may have failed.
 ///
@@ -91,7 +91,7 @@ pub fn scan_units<I: Source, L: Sink, O: Sink>(
     }
 }
 
-// What was found of an order, and all bytes that were read for it: nothing of a silent unit.
+// The result for an order, and all bytes that were read for it: nothing of a silent unit.
 #[derive(Drop)]
 struct Compared {
     finding: Option<Finding>,
@@ -138,9 +138,9 @@ fn verify_order<I: Source, L: Sink, O: Sink>(
 }
 
 /// Reads for each of the orders, one after the other, the locations that it writes, and before them its unit's last
-/// location and where it needs that the content format (profile). A line to `out` for each: `order N unit U same`,
+/// location and, if it needs that, the content format (profile). A line to `out` for each: `order N unit U same`,
 /// `order N unit U other LL BB` with the first location that holds another byte than the order's, and that byte,
-/// `short`, `format` or `silent`, and then the observer is told, with all bytes that were read for the order. The
+/// `short`, `format` or `silent`, and then the observer sees it, with all bytes that were read for the order. The
 /// answer is whether all are the same.
 ///
 /// The link is used as by `read_unit`. No stream may have failed.

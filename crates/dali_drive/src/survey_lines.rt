@@ -30,7 +30,7 @@ pub(crate) fn begin_unit(unit: u8) -> Line
     line
 }
 
-/// The line of so many units that answered.
+/// The line for this many units that answered.
 pub(crate) fn units_line(units: usize) -> Line
     ensures { result.items ≡ units_line units }
 {
@@ -41,7 +41,7 @@ pub(crate) fn units_line(units: usize) -> Line
     line
 }
 
-/// The line of a unit of which so many bytes were read.
+/// The line of a unit of which this many bytes were read.
 pub fn bytes_line(unit: u8, count: u8) -> Line
     ensures { result.items ≡ bytes_line unit count }
 {

@@ -16,8 +16,8 @@ use dali_trace::decimal_of;
 // How many locations there are up to the end of the identification number.
 const KNOWN: usize = 17;
 
-/// The line of a unit of which these bytes were read: its last location, and where they follow the texts of its GTIN
-/// and of its identification number.
+/// The line of a unit of which these bytes were read: its last location, and if more was read the texts of its GTIN and
+/// of its identification number.
 pub(crate) fn unit_line(unit: u8, bytes: &[u8]) -> Line
     requires { HasUnitLine bytes.now }
     ensures { IsUnitLine unit bytes.now result.items }

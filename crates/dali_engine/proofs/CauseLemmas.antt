@@ -34,7 +34,7 @@ use Rattle.dali_engine.specs.Follows.{Follows}
 use Rattle.dali_engine.proofs.StepLemmas.{stands_so}
 use Rattle.dali_engine.proofs.KeepLemmas.{same_entry, closing_keeps}
 
--- none where no order is at work
+-- none if no order is at work
 no_cause : (pace : Pace) (stands : Standing) (told : List Exchange) → is_at_work stands ≡ false
     → HasCause pace stands told None
 no_cause pace standings.Idle told none = refl

@@ -74,7 +74,7 @@ known_follows start past w order moment kept replies.IdReused f known =
     record { planned = ((f.planned, tt), tt); told = f.told }
 known_follows start past w order moment kept _ f known = absurd known
 
--- a session is told the answer to the frame that it wanted
+-- a session is given the answer to the frame that it wanted
 follows_on : (pace : Pace) (start : Start) (past : List Happening) (journal : JournalState) (old next : Phase)
     (stands : Standing)
     (frame : Frame) (answer : Option ℕ)

@@ -218,7 +218,7 @@ written_on pace start past journal new order s verdict d ready aim records limit
     (Ended (write_code verdict)) d
     may records limit refl
 
--- a read that stands was answered
+-- a read that still holds was answered
 stands_read : (told : List Exchange) (unit location byte : ℕ) → StillRead told unit location byte → HasRead unit told
 stands_read [] unit location byte stands = absurd stands
 stands_read (x ∷ told) unit location byte (inl ends) = inl (location, byte, ends)
@@ -345,7 +345,7 @@ keeps_written pace start past journal new old order s verdict entry at d ready w
     rw (← same_entry (Ended (write_code verdict)) entry wanted)
     (written_on pace start past journal new order s verdict before stood aim records limit)
 
--- a closing session is followed by a record only where it ended as Closed
+-- a closing session is followed by a record only if it ended as Closed
 pub closing_keeps : (id unit : ℕ) (ask : Ask) (entry : Record) → closing_of id unit ask ≡ Keep entry
     → (ask ≡ asks.Ended verdicts.Closed) × (Closed unit ≡ entry)
 closing_keeps id unit (asks.Send frame) entry e = cc

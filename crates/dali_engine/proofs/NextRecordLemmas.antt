@@ -1,4 +1,4 @@
--- A writer wants a record kept exactly where that is the one that is to be kept next.
+-- A writer wants a record kept exactly when that is the one that is to be kept next.
 use Rattle.std.proofs.Common.{subst, ◌≡◌, ◌↔◌, refl, sym, ap, ◌∙◌, false, List, Option, Some, None, ℕ}
 use Rattle.dali_bank.specs.Order.{Contents}
 use Rattle.dali_journal.specs.declared.record.Code.TheVariants as codes

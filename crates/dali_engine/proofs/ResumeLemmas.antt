@@ -27,7 +27,7 @@ resumed_ready pace journal standings.Idle phase at is =
 resumed_ready pace journal (standings.Left unit) phase at is =
     subst (λ (p : Phase). IsReady pace p journal) (sym is) (rw (← at) refl)
 
--- where no frame was sent, and nothing is still to be said
+-- when no frame was sent, and nothing is still to be said
 resumed_at : (pace : Pace) (past : List Happening) (stands : Standing) (phase : Phase) → sent_of past ≡ []
     → is_unsaid past ≡ false
     → IsResumed pace stands phase → IsAt phase past

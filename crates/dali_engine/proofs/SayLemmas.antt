@@ -1,4 +1,4 @@
--- What a writer wants to be said may be said, and then it is idle.
+-- A saying that a writer wants may come, and then the writer is idle.
 use Rattle.std.proofs.Common.{◌≡◌, refl, ap, ◌∙◌, subst, ℕ, false, List, ◌∷◌, Some}
 use Rattle.std.specs.Prelude.{⊤}
 use Rattle.dali_frame.specs.declared.forward.Frame.{Frame}

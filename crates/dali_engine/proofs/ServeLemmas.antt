@@ -1,4 +1,4 @@
--- What each event adds, where the trace is written oldest first.
+-- The part that each event adds, if the trace is written oldest first.
 use Rattle.std.proofs.Common.{◌≡◌, inl, refl, sym, ap, subst, ◌∙◌, ℕ, List, [], ◌∷◌, ◌++◌, Option, Some, None, reverse, true}
 use Rattle.std.proofs.lemmas.List.{reverse-append}
 use Rattle.dali_bank.specs.Order.{Contents, AreUpdates}

@@ -51,7 +51,7 @@ closing_wants id unit (asks.Send frame) = refl
 closing_wants id unit (asks.Ended verdicts.Closed) = refl
 closing_wants id unit (asks.Ended _) = refl
 
--- the records of a trace stand as the journal that it describes
+-- the records of a trace have the standing of the journal that it describes
 pub stands_so : (start : Start) (past : List Happening) (w : WriterState) (stands : Standing) → Describes start past w
     → standing_of w.journal.records ≡ stands → standing_at start past ≡ stands
 stands_so start past w stands d at = ap standing_of d.same ∙ at
@@ -66,7 +66,7 @@ unsaid start past e = by (is_at_work (standing_at start past)) where
   by true = refl
   by false = e
 
--- the trace is busy exactly where the writer wants something
+-- the trace is busy exactly when the writer wants something
 pub busy_at : (pace : Pace) (start : Start) (past : List Happening) (journal : JournalState) (phase : Phase)
     → Describes start past (record { journal = journal; phase = phase; pace = pace }) → IsReady pace phase journal
     → is_busy start past ≡ is_wanting (want_of phase)
@@ -200,7 +200,7 @@ told_on past s next frame answer (told, older, parts, is_told) f = (
   f told is_told,
 )
 
--- a session is told the answer to the frame that it wanted
+-- a session is given the answer to the frame that it wanted
 pub checks_on : (pace : Pace) (start : Start) (past : List Happening) (journal : JournalState) (order : Contents)
     (s next : Session)
     (frame : Frame) (answer : Option ℕ)

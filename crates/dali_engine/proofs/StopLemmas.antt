@@ -1,4 +1,4 @@
--- What a stop leaves loads again as the same journal.
+-- The bytes that a stop leaves load again as the same journal.
 use Rattle.std.proofs.Common.{◌≡◌, ◌≢◌, refl, sym, ap, ◌∙◌, subst, ℕ, ◌<◌, List, [], ◌++◌, length, take, drop, arith}
 use Rattle.std.proofs.lemmas.List.{take-append-drop, length-drop}
 use Rattle.dali_journal.specs.declared.record.Code.TheVariants.{Done}
@@ -29,7 +29,7 @@ cut_of_some entry spelled reached same ranged more =
         let long = ap (λ (bytes : List ℕ). length bytes) none in
         let all = ap (λ (bytes : List ℕ). length bytes) same in omega (arith, length-drop reached spelled)
 
--- what is loaded from the bytes of a journal with a cut behind them
+-- the journal that is loaded from a journal's bytes with a cut record after them
 pub left_same : (journal again : JournalState) (last : Record) (cut bytes : List ℕ) (limit len : ℕ) (version : Version)
     → IsJournal journal → IsCutOf Two cut last → limit ≡ journal.limit
     → bytes ≡ journal_spelling Two journal.records ++ cut → IsLoaded limit bytes again len version

@@ -166,7 +166,7 @@ first_place past order moment (standings.Left unit) next (s, is, at, closing, is
     subst (λ (p : Phase). IsAt p (Answered order.id replies.Taken ∷ Asked order moment ∷ past)) (sym is)
     (refl, refl, is_told)
 
--- where the first four replies don't apply, Taken is due
+-- if the first four replies don't apply, Taken is due
 pub taken_due : (pace : Pace) (start : Start) (past : List Happening) (journal : JournalState) (phase : Phase)
     (order : Contents)
     → Describes start past (record { journal = journal; phase = phase; pace = pace }) → IsReady pace phase journal
@@ -245,7 +245,7 @@ none_open id ((first, reached.Ended code) ∷ older) order ended e =
 none_open id ((first, reached.Begun) ∷ older) order ended e = absurd ended
 none_open id ((first, reached.Open) ∷ older) order ended e = absurd ended
 
--- where no order is at work, all have ended
+-- if no order is at work, all have ended
 idle_ended : (stands : Standing) (orders : List (Contents × Progress)) → is_at_work stands ≡ false
     → Leaves stands orders
     → HaveEnded orders

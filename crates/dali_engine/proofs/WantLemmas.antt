@@ -1,4 +1,4 @@
--- What a writer wants may happen.
+-- The thing that a writer wants may happen.
 use Rattle.std.proofs.Common.{◌≡◌, refl, sym, subst, List, [], ◌∷◌, Option, Some, None, IsSome, ℕ}
 use Rattle.dali_bank.specs.Order.{Contents}
 use Rattle.dali_frame.specs.declared.forward.Frame.{Frame}

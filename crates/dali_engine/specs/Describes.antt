@@ -10,7 +10,7 @@ use Rattle.dali_trace.specs.Trace.{pace_at, Start, records_of, sent_of, sent_sin
 use Rattle.dali_trace.specs.Legal.{Legal, IsFinished}
 use Rattle.dali_engine.specs.WriterState.{WriterState}
 
--- the session was told the newest of these exchanges
+-- the session has seen the newest of these exchanges
 abbrev pub ToldNewest : List Exchange → Session → Type 0
 ToldNewest sent s = (told : List Exchange) × (older : List Exchange) × (sent ≡ told ++ older) × Told told s
 

@@ -9,7 +9,7 @@ use Rattle.dali_trace.specs.Trace.{Start}
 use Rattle.dali_trace.specs.ByPlan.{told_in, ByPlan}
 use Rattle.dali_engine.specs.WriterState.{WriterState}
 
--- the session of the phase was told these
+-- the session of the phase has seen these exchanges
 abbrev pub WasTold : Phase → List Exchange → Type 0
 WasTold (Checks order s) told = Told told s
 WasTold (Writes order s) told = Told told s

@@ -1,4 +1,4 @@
--- What a writer keeps inside.
+-- The state that a writer keeps inside.
 use Rattle.dali_engine.specs.declared.writer.Writer.TheInside.{Inside}
 use Rattle.dali_engine.specs.WriterState.{WriterState, IsReady}
 

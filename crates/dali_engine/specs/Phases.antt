@@ -1,4 +1,4 @@
--- What a writer is about to do, and what it wants.
+-- The next step of a writer, and its want.
 use Rattle.std.specs.Prelude.{ℕ, Bool, true, false, ⊤, Option, None}
 use Rattle.dali_journal.specs.declared.record.Code.{Code}
 use Rattle.dali_journal.specs.declared.record.Code.TheVariants as codes
@@ -17,7 +17,7 @@ use Rattle.dali_trace.specs.declared.happening.Want.TheVariants as wants
 use Rattle.dali_engine.specs.declared.phase.Phase.{Phase}
 use Rattle.dali_engine.specs.declared.phase.Phase.TheVariants.{Idle, Begins, Checks, Writes, Closes, Says}
 
--- how an order ends whose fresh session ended so: it ends as Short, Format or Silent, where it doesn't as MayOpen
+-- the end of an order, by that of its fresh session: Short, Format or Silent, if the session didn't end as MayOpen
 abbrev pub check_code : Verdict → Code
 check_code verdicts.Short = codes.Short
 check_code verdicts.Format = codes.Format

@@ -14,7 +14,7 @@ opened_work order = opened_limit (length order.updates) + 2
 abbrev pub begun_work : Contents → ℕ
 begun_work order = fresh_limit + 1 + opened_work order
 
--- at most so many records, frames and sayings are still to come
+-- at most this many records, frames and sayings are still to come
 abbrev pub work_left : Phase → ℕ
 work_left Idle = 0
 work_left (Begins order moment) = 1 + begun_work order

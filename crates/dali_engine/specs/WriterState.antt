@@ -1,4 +1,4 @@
--- What contracts see of a writer.
+-- The view that contracts have of a writer.
 use Rattle.std.specs.Prelude.{◌≡◌, ◌⊎◌, ℕ, false, [], length}
 use Rattle.dali_bank.specs.Order.{Contents, AreUpdates}
 use Rattle.dali_journal.specs.declared.record.Record.TheVariants.{Began}
@@ -33,7 +33,7 @@ start_by pace journal = record { records = journal.records; limit = journal.limi
 abbrev pub start_of : WriterState → Start
 start_of w = start_by w.pace w.journal
 
--- the journal stands as the phase needs it: it may begin the order that waits, the order at work is that of the
+-- the journal's standing is as the phase needs it: it may begin the order that waits, the order at work is that of the
 -- session, the unit that is closed is the one that was left, and the order that ended is the newest
 abbrev pub IsReady : Pace → Phase → JournalState → Type 0
 IsReady pace Idle journal = is_at_work (standing_of journal.records) ≡ false
@@ -64,7 +64,7 @@ IsFirst standings.Idle order moment phase = phase ≡ Begins order moment
 IsFirst (standings.Began other) order moment phase = phase ≡ Begins order moment
 IsFirst (standings.Opened other) order moment phase = phase ≡ Begins order moment
 
--- what comes first where the journal stands so: an order that was begun is looked at anew, one that was opened is
+-- the first phase with this standing of the journal: an order that was begun is looked at anew, one that was opened is
 -- carried out anew, and a unit that was left waits for an order
 abbrev pub IsResumed : Pace → Standing → Phase → Type 0
 IsResumed pace (standings.Began order) phase =

@@ -1,5 +1,7 @@
-//! A writer of orders, and runs of it over a bus (profile). What it does is a legal trace, whatever a bus loses and
+//! A writer of orders, and runs of it over a bus (profile). Its happenings are a legal trace, whatever a bus loses and
 //! whenever the program is stopped: so the laws of legal traces hold of it.
+//!
+//! A crate of its own: it is proved beside the texts and inputs, which need no writer.
 #![tactic(auto)]
 
 mod phase;

@@ -12,7 +12,7 @@ use dali_journal::{Code, Record, Standing};
 use dali_trace::{Reply, Want};
 use dali_write::{Ask, Cause, Pace, Session, Verdict};
 
-// What a writer is about to do.
+// The next step of a writer.
 #[derive(Drop)]
 pub(crate) enum Phase {
     // nothing
@@ -46,7 +46,7 @@ impl Phase {
         }
     }
 
-    // What is to be done next.
+    // The next thing to be done.
     pub(crate) fn want(&self) -> Want
         ensures want { result ≡ want_of self.now }
         ensures proper { (frame : Frame) → result ≡ Want.Send frame → IsProper frame }
@@ -133,7 +133,7 @@ pub(crate) fn write_code(verdict: Verdict) -> Code
     }
 }
 
-// What comes after a fresh session that ended so: the order is carried out, or its end is said.
+// The phase after a fresh session that ended so: the order is carried out, or its end is said.
 pub(crate) fn after_check(pace: Pace, order: Order, verdict: Verdict) -> Phase
     ensures { IsAfterCheck pace order verdict result }
 {
@@ -146,7 +146,7 @@ pub(crate) fn after_check(pace: Pace, order: Order, verdict: Verdict) -> Phase
     }
 }
 
-// What comes first where the journal stands so.
+// The first phase with this standing of the journal.
 pub(crate) fn resumed_phase(pace: Pace, standing: Standing) -> Phase
     ensures { IsResumed pace standing result }
 {

@@ -100,12 +100,12 @@ fn serve<B: Bus>(
     Ok(())
 }
 
-/// What a run over a bus gives (profile).
+/// The result of a run over a bus (profile).
 #[derive(Drop)]
 pub struct Outcome {
     /// The journal's bytes, in version 2.
     pub journal: Vec<u8>,
-    /// What happened, the oldest first.
+    /// The happenings, the oldest first.
     pub trace: Vec<Happening>,
 }
 
@@ -126,7 +126,7 @@ pub fn run<B: Bus>(
     run_with_pace(alloc, bus, limit, Pace::Checked, events)
 }
 
-/// Serves the events in their order by this plan, over a bus and an empty journal for at most so many orders
+/// Serves the events in their order by this plan, over a bus and an empty journal for at most this many orders
 /// (profile).
 ///
 /// A `Submit` takes an order and replies. A `Step` does the next thing, if there is one. A `Stop` leaves
@@ -134,8 +134,8 @@ pub fn run<B: Bus>(
 /// the journal that is loaded from them. A `Power` takes its power from a unit and gives it back; the
 /// writer stays as it is.
 ///
-/// Fault 1 Limit where the limit is 0 or over 100000, before anything is done; 2 NoMemory where there
-/// is no memory: then the bus stands where the events so far left it.
+/// Fault 1 Limit if the limit is 0 or over 100000, before anything is done; 2 NoMemory if there is no memory: then the
+/// bus is as the events so far left it.
 pub fn run_with_pace<B: Bus>(
     alloc: Global,
     bus: &mut B,
@@ -156,7 +156,7 @@ pub fn run_with_pace<B: Bus>(
     }
 }
 
-// A writer over an empty journal for at most so many orders.
+// A writer over an empty journal for at most this many orders.
 fn empty_writer(alloc: Global, limit: u32, pace: Pace) -> Result<Writer, RunFault>
     ensures described { IfOk result (λ writer. Describes (fresh limit pace) [] writer) }
     ensures follows { IfOk result (λ writer. Follows (fresh limit pace) [] writer) }

@@ -18,8 +18,8 @@ use dali_journal::{Journal, JournalFault, NoMemory, Record};
 use dali_trace::Want;
 use std::alloc::Global;
 
-// Stops the writer and begins it anew, where so many bytes of the record that is wanted reach the journal. The record
-// that was kept, where all of its bytes do.
+// Stops the writer and begins it anew, when this many bytes of the record that is wanted reach the journal. Returns the
+// record that was kept, if all of its bytes do.
 pub(crate) fn stop(
     alloc: Global,
     writer: &mut Writer,
@@ -39,8 +39,7 @@ pub(crate) fn stop(
     }
 }
 
-// Keeps the record that is wanted, where one is and no more than these bytes of it reach the journal
-// but all do.
+// Keeps the record that is wanted, if there is one and it has at most this many bytes: all of them reach the journal.
 fn keep_within(writer: &mut Writer, bytes: u16) -> Option<Record>
     ensures wanted { IfSome result (λ entry. want_of writer.old.phase ≡ Want.Keep entry) }
     ensures described { IfSome result (λ entry. (start : Start) (past : List Happening)
@@ -69,7 +68,7 @@ fn keep_within(writer: &mut Writer, bytes: u16) -> Option<Record>
     }
 }
 
-// Begins the writer anew, with no more than these bytes of the record that is wanted, where one is, in the journal.
+// Begins the writer anew, with no more than these bytes of the record that is wanted, if there is one, in the journal.
 fn cut_off(alloc: Global, writer: &mut Writer, bytes: u16) -> Result<(), NoMemory>
     requires { (entry : Record) → want_of writer.old.phase ≡ Want.Keep entry → bytes < length (spelling Two entry) }
     ensures described { OnOk result ((start : Start) (past : List Happening)
@@ -87,7 +86,7 @@ fn cut_off(alloc: Global, writer: &mut Writer, bytes: u16) -> Result<(), NoMemor
     }
 }
 
-// Begins the writer anew, from the bytes of its journal with those of a cut record behind them.
+// Begins the writer anew, from the bytes of its journal with those of a cut record after them.
 fn begin_anew(alloc: Global, writer: &mut Writer, cut: &[u8]) -> Result<(), NoMemory>
     requires { (last : Record) × IsCutOf Two cut.now last }
     ensures described { OnOk result ((start : Start) (past : List Happening)
@@ -105,7 +104,7 @@ fn begin_anew(alloc: Global, writer: &mut Writer, cut: &[u8]) -> Result<(), NoMe
     }
 }
 
-// The journal that is loaded from the bytes of this one, with those of a cut record behind them.
+// The journal that is loaded from the bytes of this one, with those of a cut record after them.
 fn loaded_again(alloc: Global, journal: &Journal, cut: &[u8]) -> Result<Journal, NoMemory>
     requires { (last : Record) × IsCutOf Two cut.now last }
     ensures { IfOk result (λ again. (again.records ≡ journal.now.records) × (again.limit ≡ journal.now.limit)) }

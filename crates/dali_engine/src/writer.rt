@@ -33,8 +33,8 @@ use std::mem;
 
 /// A writer of orders (profile): a journal, and what comes next.
 ///
-/// It tells what it wants (`want`), and is told when that was done: `kept`, `heard` or `said`. It
-/// takes memory in `submit` alone.
+/// It says what it wants (`want`), and one of `kept`, `heard` and `said` reports that it was done. It takes memory in
+/// `submit` alone.
 pub struct Writer {
     journal: Journal,
     phase: Phase,
@@ -128,7 +128,7 @@ impl Writer {
         let _limit = self.journal.limit();
     }
 
-    /// What is to be done next: the one thing that may come next by the rules and by the plan, if the trace is busy.
+    /// The next thing to be done: the one that may come next by the rules and by the plan, if the trace is busy.
     pub fn want(&self) -> Want
         ensures phase { result ≡ want_of self.now.phase }
         ensures busy { (start : Start) (past : List Happening) → Describes start past self.now
@@ -146,9 +146,9 @@ impl Writer {
         self.phase.want()
     }
 
-    /// Why the order at hand comes to no good end, as far as its session was told: its first access that failed, or
-    /// that read another byte back than the one that was written. None where all went well so far, or no order is at
-    /// work; some where it ends as `Silent`, `Doubt` or `DoubtOpen`.
+    /// Why the order at hand comes to no good end, as far as its session has seen: its first access that failed, or
+    /// that read another byte back than the one that was written. None if all went well so far, or no order is at work;
+    /// some if it ends as `Silent`, `Doubt` or `DoubtOpen`.
     pub fn cause(&self) -> Option<Cause>
         ensures { (start : Start) (past : List Happening) (entry : Record) → Describes start past self.now
             → Follows start past self.now → want_of self.now.phase ≡ Want.Keep entry
@@ -159,11 +159,11 @@ impl Writer {
 
     /// Takes an order, or tells why not: the first of these replies that applies.
     ///
-    /// 1 `Kept`: the journal has ended this same order. 2 `IdReused`: the journal has its number for
-    /// another unit or with other updates. 3 `Busy`: something is wanted. 4 `Full`: the journal holds
-    /// as many orders as it may. 5 `Taken`. 6 `Blocked` is never given at once. `NoMemory` comes where
-    /// an order could be taken, but there is no memory for its records. Only `Taken` changes what the
-    /// writer wants. The moment is a number of the caller's, kept in the order's `Began`; replies pass over it.
+    /// 1 `Kept`: the journal has ended this same order. 2 `IdReused`: the journal has its number for another unit or
+    /// with other updates. 3 `Busy`: something is wanted. 4 `Full`: the journal holds as many orders as it may. 5
+    /// `Taken`. 6 `Blocked` is never given at once. `NoMemory` comes if an order could be taken, but there is no memory
+    /// for its records. Only `Taken` changes what the writer wants. The moment is a number of the caller's, kept in the
+    /// order's `Began`; replies pass over it.
     pub fn submit(&mut self, order: Order, moment: u64) -> Result<Reply, NoMemory>
         ensures described { IfOk result
             (λ reply. (start : Start) (past : List Happening) → Describes start past self.old
@@ -265,7 +265,7 @@ impl Writer {
         }
     }
 
-    /// What was wanted to be said was said.
+    /// The saying that was wanted was said.
     ///
     /// Something has to be wanted to be said.
     pub fn said(&mut self)
@@ -284,8 +284,8 @@ impl Writer {
     }
 }
 
-/// The reply that the journal has for an order, whatever else is at work: Kept or IdReused. None where it hasn't ended
-/// the order, and its number is no other's.
+/// The reply that the journal has for an order, whatever else is at work: Kept or IdReused. None if it hasn't ended the
+/// order, and its number is no other's.
 pub fn known_reply(journal: &Journal, order: &Order) -> Option<Reply>
     ensures some { IfSome result (λ reply. IsKnownReply order.now (kept_of order.now.id journal.now.records) reply) }
     ensures none { IsNone result → IsNotEnded order.now (kept_of order.now.id journal.now.records) }
@@ -309,7 +309,7 @@ pub fn known_reply(journal: &Journal, order: &Order) -> Option<Reply>
     }
 }
 
-// What comes first for an order that is taken: a unit that was left is closed.
+// The first phase of an order that is taken: a unit that was left is closed.
 fn first_phase(standing: Standing, order: Order, moment: u64) -> Phase
     requires { HasShortUnit standing }
     ensures { IsFirst standing order moment result }

@@ -1,4 +1,4 @@
--- The faults of the program, how they are told, and how the program ends.
+-- The faults of the program, how they are reported, and how the program ends.
 use Rattle.std.specs.Prelude.{◌≡◌, ℕ, List, codes}
 use Rattle.dali_gear.specs.declared.fault.GearFault.TheVariants.{SameAddress}
 use Rattle.dali_gear.specs.Faults as gear
@@ -39,7 +39,7 @@ input_status Hex = Refused
 input_status Memory = Failed
 input_status File = Failed
 
--- where the replies can't be written, nothing can be told
+-- if the replies can't be written, nothing can be reported
 abbrev pub drive_status : DriveFault → Status
 drive_status drives.Journal = Failed
 drive_status drives.Link = Failed

@@ -14,7 +14,7 @@ journal_limit = 33554432
 abbrev pub order_limit : ℕ
 order_limit = 100000
 
--- the input is that journal, of which so many bytes count, in this version
+-- the input is that journal, of which this many bytes count, in this version
 abbrev pub IsJournalIn : List ℕ → JournalState → ℕ → Version → Type 0
 IsJournalIn input journal counted version =
     (length input ≤ journal_limit) × IsLoaded order_limit input journal counted version

@@ -14,9 +14,9 @@ pub enum Status {
     Good,
     /// Something was refused, by name.
     Refused,
-    /// A file or the memory failed, which was told.
+    /// A file or the memory failed, which was reported.
     Failed,
-    /// The output could not be written, so later calls of it told nothing more.
+    /// The output could not be written, so later calls of it wrote nothing more.
     Unwritten,
 }
 
@@ -39,7 +39,7 @@ pub enum Fault {
     /// The input as a whole: 11 Json, 12 Document, 13 TooBig, 14 Hex, 20 Memory, 21 File.
     #[error("{0}")]
     Input(InputFault),
-    /// What a scenario sets up: its units and its orders.
+    /// The setup of a scenario: its units and its orders.
     #[error("the scenario can't be set up")]
     Setup(SetupFault),
     /// The run of a scenario: 1 Limit, 2 NoMemory.
@@ -75,7 +75,7 @@ impl Fault {
     }
 }
 
-// How the program ends at a fault of a drive. Where the replies can't be written, nothing can be told.
+// How the program ends at a fault of a drive. If the replies can't be written, nothing can be reported.
 fn drive_status(fault: DriveFault) -> Status
     ensures status { result ≡ status_of_drive fault }
     ensures unwritten { result ≡ Status.Unwritten → fault ≡ DriveFault.Out }

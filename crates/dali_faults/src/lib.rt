@@ -1,5 +1,7 @@
-//! The faults of the program (profile): how each is told, and with which status a command ends at it; and a journal as
-//! a command's input.
+//! The faults of the program (profile): how each is reported, and with which status a command ends at it; and a journal
+//! as a command's input.
+//!
+//! A crate of its own: commands over files and over links report the same faults, and are proved beside each other.
 #![tactic(auto)]
 
 mod fault;

@@ -1,4 +1,4 @@
--- What is told where the reader or the memory failed.
+-- The lines that are printed if the reader or the memory failed.
 use Rattle.std.proofs.Common.{◌≡◌, ◌⊎◌, List, ℕ, Option, Result, Ok, Err, IfOk, OnOk, inr, refl}
 use Rattle.std.specs.Io.KnownBytes.{Appends}
 use Rattle.dali_input.specs.declared.fault.InputFault.{InputFault}
@@ -7,7 +7,7 @@ use Rattle.dali_faults.specs.declared.fault.Fault.TheVariants.{Input}
 use Rattle.dali_faults.specs.declared.fault.Status.{Status}
 use Rattle.dali_faults.specs.Faults.{IsFailure, told_line, status_of}
 
--- a failure is told by the line of its fault, whatever else may be answered
+-- a failure is reported by the line of its fault, whatever other answers are possible
 pub failure_told : {E : Type 0} (before after : InputState) (old new : Option (List ℕ)) (fault : InputFault)
     (r : Result Status E)
     → IsReadFailure before after fault

@@ -17,7 +17,7 @@ use Rattle.dali_file_commands.specs.FrameAnswers.{AreFourDigits}
 use Rattle.dali_file_commands.specs.Notes.{IsNotedAnswer}
 use Rattle.std.proofs.KnownBytes.{Appends-nil}
 
--- what std reads of four bytes that don't begin with a plus is a word exactly where they are digits
+-- what std reads of four bytes that don't begin with a plus is a word exactly when they are digits
 pub four_digits : {E : Type 0} (text : List ℕ) (r : Result ℕ E) → length text ≡ 4 → get_or text 0 0 ≢ 43
     → ParsesUnsigned 16 16 text r → IsSome (result_ok r) ↔ AreFourDigits text
 four_digits text (Ok word) four plain parsed =
@@ -27,7 +27,7 @@ four_digits text (Err e) four plain parsed =
     let refused = rw (without_leading_plus_none text plain) at parsed in
     (λ some. cc, λ are. absurd (refused ((omega arith, are.1), rw four at (digits_value-lt 16 text are.1))))
 
--- beside the line of a word, nothing is told to a person
+-- with the line of a word, nothing is noted for a person
 pub word_noted : {E N : Type 0} (word : ℕ) (before now : Option (List ℕ)) (contents : N → Option (List ℕ))
     (notes : Output N) (r : Result Status E)
     → IfOk r (λ status. (status ≡ Good) × (frame : Frame) × Spells frame word

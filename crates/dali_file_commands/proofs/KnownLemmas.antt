@@ -170,7 +170,7 @@ module _ (order : Contents) where
       rw (kept_where_begun order.id older ∙ ap is_kept kept) refl
   told_next _ _ older a n onto earlier kept = absurd a
 
-  -- a unit that an order left open is closed since, but where the newest order is this one and has left it
+  -- a unit that an order left open is closed since, except if the newest order is this one and has left it
   pub closed_told : (records : List Record) → IsSentence records
       → kept_of order.id records ≡ kepts.Ended order DoubtOpen
       → IsToldBy order (standing_of records) records (orders_of records)
@@ -255,7 +255,7 @@ none_surveyed = record { first_above = (λ id begun. cc, λ other are. omega ari
 
 -- ---- one record after the other
 
--- so many of the records, the oldest first, are looked at, and the rest of the bytes are those of the others
+-- some of the records, the oldest first, are looked at, and the rest of the bytes are those of the others
 pub record SurveyedSoFar (records : List Record) (rest : List ℕ) (survey : Survey) : Type 0 where
   pub done : List Record
   pub left : List Record
@@ -310,7 +310,7 @@ one_more records rest entry len survey now reads far more =
     read_off records far.done far.left rest entry len survey now reads far.split far.in_range far.bytes far.surveyed
     more
 
--- where the rest begins with no record, all are looked at
+-- if the rest begins with no record, all are looked at
 none_left : (records done left : List Record) (rest : List ℕ) (piece : Piece) (survey : Survey)
     → IsRead Two rest piece → ((entry : Record) (len : ℕ) → ¬ (piece ≡ Whole entry len))
     → records ≡ done ++ left → AllByRecursion (IsRecord Two) left → rest ≡ flat_map (spelling Two) left

@@ -7,3 +7,5 @@ pub mod NoteLemmas
 mod WorkedNoteLemmas
 mod WorkedKnownLemmas
 mod WorkedJournalLemmas
+pub mod FieldLemmas
+mod WorkedFieldLemmas

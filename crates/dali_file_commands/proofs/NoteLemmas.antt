@@ -1,4 +1,4 @@
--- Lemmas on what a person is told beside what is written.
+-- Lemmas on the notes for a person that go with what is written.
 use Rattle.std.proofs.Common.{◌≡◌, ◌⊎◌, ℕ, ◌+◌, List, [], ◌∷◌, ◌++◌, Option, Result, Ok, Err, IfOk, OnOk}
 use Rattle.std.proofs.Common.{length, inr, refl, subst}
 use Rattle.std.specs.Io.KnownBytes.{Appends}
@@ -29,7 +29,7 @@ tells_one_more contents old mid new x n xs step at before failed =
       ),
     )
 
--- a fault that is told by its line and its note, whatever else may be written
+-- a fault that is reported by its line and its note, whatever else may be written
 pub fault_noted : {E N : Type 0} (A : Status → List ℕ → List ℕ → Type 0) (before now : Option (List ℕ))
     (contents : N → Option (List ℕ)) (old new : Output N) (fault : Fault) (r : Result Status E)
     → OnOk r (Appends before now (told_line fault)) → Tells contents old new (IsFaultNote fault)

@@ -78,7 +78,7 @@ count_one_more : {X : Type 0} (p : X → Bool) (xs : List X) (x : X)
 count_one_more p xs x =
     sum_by-append (λ y. cond (p y) 1 0) xs (x ∷ []) ∙ ap (λ n. count_by p xs + n) (zero-add (cond (p x) 1 0))
 
--- an accepted item is told, and then what the journal says of it
+-- an accepted item is printed, and then what the journal says of it
 pub accepted_told : {A E : Type 0} (r : Result A E) (journal : Option JournalState) (number : ℕ) (order : Contents)
     (known : Option Known) (before mid now : Option (List ℕ))
     → IsKnownTo journal order known → Appends before mid (order_lines number order)

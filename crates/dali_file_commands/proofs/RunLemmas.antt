@@ -1,4 +1,4 @@
--- Lemmas on what is answered where a scenario is run, and where it isn't.
+-- Lemmas on the answer if a scenario is run, and if it isn't.
 use Rattle.std.proofs.Common.{◌≡◌, List, [], ℕ, length, Bool, Option, Result, Ok, Err, IfOk, OnOk, inl, inr, refl}
 use Rattle.std.specs.Io.KnownBytes.{Appends}
 use Rattle.dali_gear.specs.SimState.{SimState}
@@ -23,7 +23,7 @@ use Rattle.dali_file_commands.specs.Notes.{IsNotedAnswer}
 use Rattle.dali_file_commands.specs.RunAnswers.{IsRan, IsRunAnswer, IsUnderstood, IsUnrun}
 use Rattle.std.proofs.KnownBytes.{Appends-nil}
 
--- a fault of the run, which tells Limit only where the limit is none
+-- a fault of the run, which tells Limit only if the limit is none
 pub not_run : (before after : InputState) (planned : Planned) (bus : SimState) (all : List Event) (fault : RunFault)
     → IsUnderstood before after planned → IsSetUp planned bus.units bus.fates all
     → (fault ≡ Limit → ¬ IsLimit planned.limit) → IsUnrun before after (Run fault)
@@ -31,7 +31,7 @@ not_run before after planned bus all Limit understood ready limit =
     (planned, understood, (bus.units, bus.fates, all, ready), limit refl)
 not_run before after planned bus all NoMemory understood ready limit = tt
 
--- a run that wasn't made is told by the line of its fault
+-- a run that wasn't made is reported by the line of its fault
 pub unrun_told : {E : Type 0} (single_frames : Bool) (before after : InputState) (old new : Option (List ℕ))
     (fault : Fault) (r : Result Status E)
     → IsUnrun before after fault
@@ -61,7 +61,7 @@ run_told single_frames before after trace journal last old new (Ok status) ran t
 )
 run_told single_frames before after trace journal last old new (Err e) ran told = tt
 
--- beside a run that was told, nothing is told to a person
+-- with a run that was printed, nothing is noted for a person
 pub run_noted : {E N : Type 0} (text : List ℕ) (before now : Option (List ℕ)) (contents : N → Option (List ℕ))
     (notes : Output N) (r : Result Status E)
     → IfOk r (λ status. (status ≡ Good) × Appends before now text)

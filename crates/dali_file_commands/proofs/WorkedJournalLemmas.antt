@@ -1,4 +1,4 @@
--- What `journal` answers of an input, by hand, and what is near it.
+-- The answers of `journal` to an input, by hand, and near misses.
 use Rattle.std.proofs.Common.{◌≡◌, ◌+◌, ◌≤◌, inl, inr, ℕ, Bool, true, false, List, None, length, arith}
 use Rattle.dali_input.specs.declared.fault.InputFault.TheVariants.{TooBig, Memory, File}
 use Rattle.dali_input.specs.declared.fault.InputFault.{InputFault}
@@ -13,7 +13,7 @@ use Rattle.dali_faults.specs.JournalInput.{IsUnloaded, journal_limit}
 use Rattle.dali_file_commands.specs.JournalAnswers.{IsJournalAnswer, IsJournalReport, IsNoJournal}
 
 module _ (with_updates : Bool) (input : List ℕ) (status : Status) (text : List ℕ) where
-  -- ---- of a journal its text is told, and it ends well
+  -- ---- of a journal its text is printed, and it ends well
 
   pub reported_as_refused : IsJournalReport with_updates input Refused text → ⊥
   reported_as_refused report = let is = report.status_is in cc
@@ -41,7 +41,7 @@ module _ (with_updates : Bool) (input : List ℕ) (status : Status) (text : List
       → length input ≤ journal_limit → ⊥
   too_big_within_the_limit none is fits = too_big_is_long none.fault none.stands is fits
 
--- ---- of a reader that failed nothing else is told
+-- ---- of a reader that failed nothing else is reported
 
 abbrev reader : InputState
 reader = record { left = None; failed = false }

@@ -1,4 +1,4 @@
--- What small journals say of an order, by hand, on both sides of each rule.
+-- The answers of small journals about an order, by hand, on both sides of each rule.
 use Rattle.std.proofs.Common.{◌≡◌, ◌<◌, ◌≤◌, ◌^◌, ℕ, Bool, true, false, List, [], ◌∷◌, Some, None, refl, ap}
 use Rattle.std.proofs.Common.{arith, ◌==◌, ◌||◌}
 use Rattle.std.proofs.lemmas.Bool.{eqb-true}
@@ -27,7 +27,7 @@ closed = Closed 5 ∷ left
 abbrev left_again : List Record
 left_again = Ended DoubtOpen ∷ Opened 5 ∷ Began (order_to 2 5) 0 ∷ closed
 
--- order 1 was done, in a journal for so many orders
+-- order 1 was done, in a journal for at most `limit` orders
 abbrev done : ℕ → JournalState
 done limit = record {
   records = Ended Done ∷ Opened 5 ∷ Began (order_to 1 5) 0 ∷ [];

@@ -13,11 +13,11 @@ no_lines front (suc count, some, (lines, line, are, (words, plain, is), split)) 
     let tail : length line ≡ length (front ++ words) + 1 = ap length is ∙ length-append (front ++ words) (codes "\n") in
     omega (arith, size, tail)
 
--- a refused item is told
+-- a refused item is reported
 pub refused_is_told : (number : ℕ) (fault : ItemFault) → ¬ IsItemNote number (Err fault) []
 refused_is_told number fault (inl lines) = no_lines (number_front (codes "item") number) lines
 refused_is_told number fault (inr (order, lines)) = no_lines (order_front (codes "item") number order) lines
 
--- the character that begins a terminal's orders is never told
+-- the character that begins a terminal's orders is never printed
 pub no_escape : ¬ ArePlain (0x1B ∷ [])
 no_escape ((least, most), rest) = omega (arith, least)

@@ -1,4 +1,4 @@
--- What `show` answers and writes.
+-- The answers of `show`, and what it writes.
 use Rattle.std.specs.Prelude.{◌≡◌, ◌⊎◌, List, ℕ}
 use Rattle.dali_text.specs.BankLines.{AreLines, rows}
 use Rattle.dali_input.specs.declared.fault.InputFault.{InputFault}

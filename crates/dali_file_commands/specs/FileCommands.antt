@@ -1,4 +1,4 @@
--- What a command over a file does: each as its own definition says.
+-- The effect of each command over a file, as its own definition says.
 use Rattle.std.specs.Prelude.{ℕ, List}
 use Rattle.dali_input.specs.Input.{InputState}
 use Rattle.dali_input.specs.BankText.{text_limit}

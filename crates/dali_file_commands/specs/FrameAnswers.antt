@@ -1,4 +1,4 @@
--- What `frame` answers and writes.
+-- The answers of `frame`, and what it writes.
 use Rattle.std.specs.Prelude.{◌≡◌, ◌⊎◌, List, ℕ, length}
 use Rattle.std.specs.Str.Parse.{AllDigits}
 use Rattle.dali_frame.specs.declared.forward.Frame.{Frame}

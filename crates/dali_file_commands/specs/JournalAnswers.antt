@@ -1,4 +1,4 @@
--- What `journal` answers and writes.
+-- The answers of `journal`, and what it writes.
 use Rattle.std.specs.Prelude.{◌≡◌, ◌⊎◌, Bool, ℕ, List, length}
 use Rattle.dali_journal.specs.declared.version.Version.{Version}
 use Rattle.dali_journal.specs.JournalState.{JournalState}

@@ -1,4 +1,4 @@
--- What a journal says of an order before it is driven, and which number is free for the next one. A journal's records
+-- A journal's answer about an order before it is driven, and which number is free for the next one. A journal's records
 -- are listed newest first.
 use Rattle.std.specs.Prelude.{◌≡◌, ◌≤◌, ◌<◌, ◌^◌, ◌||◌, ◌++◌, ℕ, Bool, true, false, nat_le, List, [], ◌∷◌, Option, Some, None}
 use Rattle.std.specs.Prelude.{IsSomeAnd, codes, decimal, option_map}
@@ -27,7 +27,7 @@ abbrev pub IsDue : JournalState → Contents → Reply → Type 0
 IsDue journal order reply =
     IsReplyBy order (kept_of order.id journal.records) false (nat_le journal.limit (order_count journal)) reply
 
--- a unit was closed behind the beginning of the order of this number
+-- a unit was closed after the order of this number began
 abbrev pub is_closed_since : ℕ → List Record → Bool
 is_closed_since id [] = false
 is_closed_since id (records.Closed unit ∷ older) = is_begun id older || is_closed_since id older
@@ -49,12 +49,12 @@ IsKnown journal order New =
 IsKnown journal order Full =
     (kept_of order.id journal.records ≡ kepts.Absent) × IsDue journal order replies.Full
 
--- the same of the journal that is asked: nothing where none is
+-- the same of the journal that is asked: nothing if none is
 abbrev pub IsKnownTo : Option JournalState → Contents → Option Known → Type 0
 IsKnownTo None order known = known ≡ None
 IsKnownTo (Some journal) order known = IsSomeAnd known (IsKnown journal order)
 
--- how that is told
+-- the line for that
 abbrev pub known_line : Known → List ℕ
 known_line (Kept code false) = codes "known " ++ reply_text (replies.Kept code) ++ codes "\n"
 known_line (Kept code true) = codes "known " ++ reply_text (replies.Kept code) ++ codes " closed\n"
@@ -80,12 +80,12 @@ abbrev pub IsFree : List Record → Option ℕ → Type 0
 IsFree records (Some number) = IsFirstAbove records number × (number < 2 ^ 64)
 IsFree records None = IsFirstAbove records (2 ^ 64)
 
--- how that is told
+-- the line for that
 abbrev pub free_line : Option ℕ → List ℕ
 free_line None = codes "free none\n"
 free_line (Some number) = codes "free " ++ decimal number ++ codes "\n"
 
--- the text of it where a journal is asked
+-- the text of it if a journal is asked
 abbrev pub IsFreeText : Option JournalState → List ℕ → Type 0
 IsFreeText None text = text ≡ []
 IsFreeText (Some journal) text = (free : Option ℕ) × IsFree journal.records free × (text ≡ free_line free)

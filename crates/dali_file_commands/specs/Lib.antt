@@ -2,6 +2,7 @@ pub mod Known
 pub mod Survey
 pub mod Report
 pub mod FrameAnswers
+pub mod FieldLines
 pub mod BankAnswers
 pub mod RunAnswers
 pub mod JournalAnswers

@@ -1,4 +1,5 @@
--- What a person is told beside what a command writes: of each item and each fault, by the number that stands there too.
+-- The notes for a person that go with what a command writes: on each item and each fault, by the number that is written
+-- there too.
 use Rattle.std.specs.Prelude.{◌≡◌, ◌⊎◌, ℕ, List, [], Option, Ok, Err, codes}
 use Rattle.dali_notes.specs.Notes.{SomeAbout, SomeLines}
 use Rattle.dali_input.specs.declared.fault.InputFault.{InputFault}
@@ -71,7 +72,7 @@ IsNotedCheck journal text note =
     ((outcomes : List Outcome) × IsReportText journal outcomes text × AreItemNotes 1 outcomes note)
     ⊎ IsNotedFault text note
 
--- how another command ended and what it wrote, and the note beside it: none where it ended well
+-- how another command ended and what it wrote, and the note beside it: none if it ended well
 abbrev pub IsNotedAnswer : Status → List ℕ → List ℕ → Type 0
 IsNotedAnswer status text note = ((status ≡ Good) × (note ≡ [])) ⊎ IsNotedFault text note
 

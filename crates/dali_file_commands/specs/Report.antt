@@ -1,4 +1,4 @@
--- What `check` finds in its input, and what it writes, beside a journal that is asked, if one is.
+-- The findings of `check` in its input, and what it writes, with a journal that is asked, if one is.
 use Rattle.std.specs.Prelude.{◌≡◌, ◌==◌, ◌⊎◌, ◌+◌, ℕ, List, [], ◌∷◌, ◌++◌, Option, Ok, Err, count_by, is_ok, not}
 use Rattle.std.specs.Prelude.{if◌then◌else◌}
 use Rattle.serde_json.specs.Data.{Items}
@@ -14,7 +14,7 @@ use Rattle.dali_faults.specs.Faults.{IsFailure, IsRefusal, item_line}
 use Rattle.dali_file_commands.specs.declared.known.Known.{Known}
 use Rattle.dali_file_commands.specs.Known.{IsFreeText, IsKnownTo, known_lines}
 
--- the text of each of these outcomes, counted from a number on, one behind the other
+-- the text of each of these outcomes, counted from a number on, one after the other
 abbrev pub AreEach : (ℕ → Outcome → List ℕ → Type 0) → ℕ → List Outcome → List ℕ → Type 0
 AreEach IsOne number [] text = text ≡ []
 AreEach IsOne number (outcome ∷ outcomes) text = (here : List ℕ) × (later : List ℕ)

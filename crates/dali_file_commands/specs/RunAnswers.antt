@@ -1,4 +1,4 @@
--- What `run` answers and writes, and the way of a scenario to it: read, understood, set up, run, told.
+-- The answers of `run`, and what it writes, and the way of a scenario to it: read, understood, set up, run, printed.
 use Rattle.std.specs.Prelude.{◌≡◌, ◌⊎◌, ℕ, List, Bool, length, ⊤}
 use Rattle.serde_json.specs.Data.{Data}
 use Rattle.dali_gear.specs.declared.fate.Fate.{Fate}
@@ -34,8 +34,8 @@ pub record IsUnderstood (before after : InputState) (planned : Planned) : Type 0
   pub is_json : IsJson scenario_limit input json
   pub says : IsScenario json planned
 
--- it was set up and run: from its units, its fates and its events came this trace and this journal, and the bus
--- stands so after it
+-- it was set up and run: from its units, its fates and its events came this trace and this journal, and this is the bus
+-- after it
 pub record IsScenarioRun (planned : Planned) (trace : List Happening) (journal : List ℕ) (last : SimState)
     : Type 0 where
   pub first : SimState
@@ -69,7 +69,7 @@ IsUnrun before after (Journal fault) = ⊥
 IsUnrun before after (Drive fault) = ⊥
 IsUnrun before after Older = ⊥
 
--- a run is told
+-- a run is printed
 pub record IsRunReport (single_frames : Bool) (before after : InputState) (status : Status) (text : List ℕ)
     : Type 0 where
   pub trace : List Happening

@@ -1,4 +1,4 @@
--- What is looked up once of the journal that is asked.
+-- The numbers that are looked up once in the journal that is asked.
 use Rattle.std.specs.Prelude.{◌≡◌, ◌==◌, ◌+◌, ℕ, Bool, false, List, [], ◌∷◌, Option, Some, None, IfSome}
 use Rattle.dali_bank.specs.Order.{Contents}
 use Rattle.dali_journal.specs.declared.kept.Progress.{Progress}
@@ -10,7 +10,7 @@ use Rattle.dali_file_commands.specs.declared.known.Survey.{Survey}
 use Rattle.dali_file_commands.specs.declared.known.Ledger.{Ledger}
 use Rattle.dali_file_commands.specs.Known.{IsFirstAbove}
 
--- the number above the greatest, 0 where there is none
+-- the number above the greatest, 0 if there is none
 abbrev pub above : Option ℕ → ℕ
 above None = 0
 above (Some greatest) = greatest + 1

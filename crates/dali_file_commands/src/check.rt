@@ -25,7 +25,7 @@ use json::Scratch;
 use std::alloc::Global;
 use std::io::{Read, Write};
 
-// An item, its number in the list, counted from 1, and its keys that orders don't have or that stand there again.
+// An item, its number in the list, counted from 1, and its keys that orders don't have or that occur there again.
 #[derive(Drop)]
 struct NumberedItem<'a> {
     number: u64,
@@ -36,17 +36,17 @@ struct NumberedItem<'a> {
 /// Reads a JSON list of orders, and writes what becomes of each: the updates of an accepted item,
 /// the fault of a refused one, and how many there were of both.
 ///
-/// Where a journal is to be asked, one line behind the updates of an accepted item tells what it says of that order, as
-/// a writer over it would reply: `known kept C NAME` (with ` closed` behind it where the order left its unit open and
-/// that was closed since), `known reused`, `known begun`, `new` or `full`; and a last line the first number above all
-/// that it has, `free N`, or `free none`. The journal stays as it is.
+/// If a journal is to be asked, one line after the updates of an accepted item gives its answer about that order, as a
+/// writer over it would reply: `known kept C NAME` (followed by ` closed` if the order left its unit open and that was
+/// closed since), `known reused`, `known begun`, `new` or `full`; and a last line gives the first number above all that
+/// it has, `free N`, or `free none`. The journal stays as it is.
 ///
-/// Where the input is no such list it writes the fault alone: 13 TooBig over 16777216 bytes,
-/// 11 Json, 12 Document, 20 Memory or 21 File.
+/// If the input is no such list it writes the fault alone: 13 TooBig over 16777216 bytes, 11 Json, 12 Document, 20
+/// Memory or 21 File.
 ///
-/// Where a call of the output fails later ones write nothing more to it, and it ends as `Unwritten`.
+/// If a call of the output fails, later ones write nothing more to it, and it ends as `Unwritten`.
 ///
-/// A person is told in `notes` where the input or an item is wrong and what its rule is, and what is odd about an
+/// The `notes` tell a person where the input or an item is wrong and what its rule is, and what is odd about an
 /// accepted one, as the number of an earlier one that is another order (the writer replies `reused`). Whatever becomes
 /// of the notes, the answer is the same.
 pub fn check<R: Read, W: Write, N: Write>(
@@ -116,7 +116,7 @@ fn write_checked<W: Write, N: Write>(
         Ok(mut items) => return write_report(alloc, &mut items, output, ledger, notes),
         Err(fault) => fault,
     };
-    // What the notes take comes in its place.
+    // The memory that the notes take comes in its place.
     drop(scratch);
     let note = note_of_orders(alloc, input, fault);
     write_noted_failure(output, Fault::Input(fault), notes, &note)

@@ -30,10 +30,10 @@ pub enum FileCommand<'a> {
 }
 
 impl FileCommand<'_> {
-    /// Carries the command out over what the reader has, and writes its text. It ends as `Unwritten` where the text
-    /// can't be written.
+    /// Carries the command out over what the reader has, and writes its text. It ends as `Unwritten` if the text can't
+    /// be written.
     ///
-    /// A person is told in `notes` where the input is wrong and what its rule is. Whatever becomes of the notes, the
+    /// The `notes` tell a person where the input is wrong and what its rule is. Whatever becomes of the notes, the
     /// answer is the same.
     pub fn carry_out<R: Read, W: Write, N: Write>(
         &self,

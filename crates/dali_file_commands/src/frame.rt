@@ -20,11 +20,11 @@ use std::io::Write;
 /// Prints what the word of a forward frame means: the word, the standard's name of the frame, and its
 /// operand or its short address.
 ///
-/// Where the argument isn't four hexadecimal digits it writes fault 14 Hex.
+/// If the argument isn't four hexadecimal digits it writes fault 14 Hex.
 ///
-/// Where a call of the output fails later ones write nothing more to it, and it ends as `Unwritten`.
+/// If a call of the output fails, later ones write nothing more to it, and it ends as `Unwritten`.
 ///
-/// A person is told in `notes` why the argument is no word. Whatever becomes of the notes, the answer is the same.
+/// The `notes` tell a person why the argument is no word. Whatever becomes of the notes, the answer is the same.
 pub fn frame<W: Write, N: Write>(
     alloc: Global,
     argument: &str,

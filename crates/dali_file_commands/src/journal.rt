@@ -16,18 +16,17 @@ use dali_text::{Output, OutputFailed, write_journal};
 use std::alloc::Global;
 use std::io::{Read, Write};
 
-/// Reads a writer's journal, and writes its version, a line for each whole record, the oldest first, then
-/// how many bytes count of all, how many orders were begun, and the standing. The journal may end in a cut
-/// record, which doesn't count. `with_updates`, the line of a record that begins an order has a line for each
-/// of that order's updates behind it, as `check` writes them.
+/// Reads a writer's journal, and writes its version, a line for each whole record, the oldest first, then how many
+/// bytes count of all, how many orders were begun, and the standing. The journal may end in a cut record, which doesn't
+/// count. With `with_updates`, the line of a record that begins an order is followed by a line for each of that order's
+/// updates, as `check` writes them.
 ///
-/// Where the input is no journal it writes the fault alone: 13 TooBig over 33554432 bytes; 7 Header; with the
-/// place of the record 3 Record, 4 Sequence, 5 Repeated, 6 Full (over 100000 orders); 20 Memory or 21
-/// File.
+/// If the input is no journal it writes the fault alone: 13 TooBig over 33554432 bytes; 7 Header; with the place of the
+/// record 3 Record, 4 Sequence, 5 Repeated, 6 Full (over 100000 orders); 20 Memory or 21 File.
 ///
-/// Where a call of the output fails later ones write nothing more to it, and it ends as `Unwritten`.
+/// If a call of the output fails, later ones write nothing more to it, and it ends as `Unwritten`.
 ///
-/// A person is told in `notes` why the input is no journal. Whatever becomes of the notes, the answer is the same.
+/// The `notes` tell a person why the input is no journal. Whatever becomes of the notes, the answer is the same.
 pub fn journal<R: Read, W: Write, N: Write>(
     alloc: Global,
     input: &mut Input<R>,

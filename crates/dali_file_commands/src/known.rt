@@ -1,4 +1,4 @@
-// What a journal says of orders before they are driven.
+// A journal's answers about orders before they are driven.
 ghost use Rattle.std.specs.Prelude.{◌≡◌, ◌≤◌, ◌∷◌, ◌⊎◌, ℕ, List, IfOk, IfSome, OnOk, Some, drop, length, reverse};
 ghost use Rattle.std.specs.List.{AllByRecursion, flat_map};
 ghost use Rattle.dali_journal.specs.declared.kept.Kept.TheVariants as kepts;
@@ -18,10 +18,10 @@ use dali_journal::{Code, Journal, Kept as KeptOrder, Piece, Record, Standing};
 use dali_text::{Output, OutputFailed};
 use std::io::Write;
 
-/// What a journal says of an order before it is driven (profile).
+/// A journal's answer about an order before it is driven (profile).
 #[derive(Clone, Copy, PartialEq, Eq)]
 pub enum Known {
-    /// It has ended this same order so. Closed: its unit was left open, and was closed since.
+    /// It has ended this same order with this code. Closed: its unit was left open, and was closed since.
     Kept(Code, bool),
     /// It has the number for another unit or with other updates.
     Reused,
@@ -33,7 +33,7 @@ pub enum Known {
     Full,
 }
 
-/// What is looked up once of a journal: the greatest number of its orders, and that of the newest one.
+/// The numbers that are looked up once in a journal: the greatest number of its orders, and that of the newest one.
 #[derive(Clone, Copy)]
 pub(crate) struct Survey {
     greatest: Option<u64>,
@@ -41,7 +41,7 @@ pub(crate) struct Survey {
 }
 
 impl Survey {
-    // The same with one more record behind them.
+    // The same with one more record after them.
     fn with(self, entry: &Record) -> Survey
         ensures { (records : List Entry) → IsSurvey records self → IsSurvey (entry.now ∷ records) result }
     {
@@ -102,7 +102,7 @@ impl<'a> Ledger<'a> {
         Ledger { journal, survey }
     }
 
-    /// What the journal says of an order.
+    /// The journal's answer about an order.
     pub(crate) fn known(&self, order: &Order) -> Option<Known>
         requires surveyed { IsSurveyed self.now }
         ensures known { IsKnownTo (asked self.now.journal) order.now result }
@@ -114,7 +114,7 @@ impl<'a> Ledger<'a> {
     }
 }
 
-// What is looked up once of a journal.
+// The numbers that are looked up once in a journal.
 fn survey_of(journal: &Journal) -> Survey
     ensures { IsSurvey journal.now.records result }
 {
@@ -140,7 +140,7 @@ fn survey_each(bytes: &[u8]) -> Survey
     survey
 }
 
-// The bytes behind so many.
+// The bytes after the first `count`.
 fn behind(bytes: &[u8], count: usize) -> &[u8]
     requires { count ≤ length bytes.now }
     ensures { result.now ≡ drop count bytes.now }
@@ -148,7 +148,7 @@ fn behind(bytes: &[u8], count: usize) -> &[u8]
     &bytes[count..]
 }
 
-// What a journal says of an order.
+// A journal's answer about an order.
 fn known_of(journal: &Journal, survey: Survey, order: &Order) -> Known
     requires { IsSurvey journal.now.records survey }
     ensures { IsKnown journal.now order.now result }
@@ -160,7 +160,7 @@ fn known_of(journal: &Journal, survey: Survey, order: &Order) -> Known
     }
 }
 
-// What a journal says of an order that it hasn't ended, and whose number is no other's.
+// A journal's answer about an order that it hasn't ended, and whose number is no other's.
 fn not_ended(journal: &Journal, order: &Order) -> Known
     requires { IsNotEnded order.now (kept_of order.now.id journal.now.records) }
     ensures { IsKnown journal.now order.now result }
@@ -172,8 +172,8 @@ fn not_ended(journal: &Journal, order: &Order) -> Known
     }
 }
 
-// Whether an order that ended so left its unit open, and that was closed since: it is still open only where the newest
-// order left it so.
+// Whether an order with this code left its unit open, and that was closed since: it is still open only if the newest
+// order left it open.
 fn has_closed(journal: &Journal, survey: Survey, order: &Order, code: Code) -> bool
     requires survey { IsSurvey journal.now.records survey }
     requires kept { kept_of order.now.id journal.now.records ≡ kepts.Ended order.now code }
@@ -196,7 +196,7 @@ fn is_left_by(standing: &Standing, newest: Option<u64>, id: u64) -> bool
     }
 }
 
-/// Writes what a journal says of an order, where one is asked.
+/// Writes a journal's answer about an order, if one is asked.
 pub(crate) fn write_known<W: Write>(
     output: &mut Output<W>,
     known: Option<Known>,
@@ -214,7 +214,7 @@ pub(crate) fn write_known<W: Write>(
     }
 }
 
-// Writes that a journal has ended an order so.
+// Writes that a journal has ended an order with this code.
 fn write_kept<W: Write>(
     output: &mut Output<W>,
     code: Code,
@@ -231,7 +231,7 @@ fn write_kept<W: Write>(
     }
 }
 
-/// Writes which number is free for the next order, where a journal is asked.
+/// Writes which number is free for the next order, if a journal is asked.
 pub(crate) fn write_free<W: Write>(
     output: &mut Output<W>,
     ledger: &Ledger<'_>,

@@ -29,7 +29,7 @@ pub fn write_noted_failure<W: Write, N: Write>(
     write_failure(output, fault)
 }
 
-// Tells what is wrong where a fault has such a note.
+// Tells what is wrong if a fault has such a note.
 fn note_fault<N: Write>(notes: &mut Output<N>, fault: Fault, note: &Note)
     ensures { Tells N.contents notes.old notes.new (IsFaultNote fault) }
 {
@@ -56,7 +56,7 @@ fn note_fault<N: Write>(notes: &mut Output<N>, fault: Fault, note: &Note)
     }
 }
 
-// Tells what is wrong with an input as a whole, where the fault is about what it says or how long it is.
+// Notes what is wrong with an input as a whole, if the fault is about what it says or how long it is.
 fn note_input_fault<N: Write>(notes: &mut Output<N>, fault: InputFault, note: &Note)
     ensures { Tells N.contents notes.old notes.new (IsInputNote fault) }
 {

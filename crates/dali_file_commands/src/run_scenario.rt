@@ -29,7 +29,7 @@ use std::io::{Read, Write};
 /// The most bytes of a scenario.
 pub const SCENARIO_LIMIT: u32 = 16_777_216;
 
-// What a run gave, and the bus as it stands after it.
+// The result of a run, and the bus after it.
 #[derive(Drop)]
 struct Ran {
     outcome: Outcome,
@@ -40,14 +40,13 @@ struct Ran {
 /// with a line for each frame or one for each run of frames, then how many frames there were, how
 /// many bytes the journal has, and the units afterwards.
 ///
-/// Where the scenario isn't run it writes the line of the first fault that stands alone: 13 TooBig
-/// over 16777216 bytes, 11 Json, 12 Document, 13 TooBig over 20000 events or fates, the fault of a
-/// unit (1 Address, 2 Size, 3 Fixed), 5 SameAddress, the fault of an order, 1 Limit; 20 Memory or 21
-/// File where the memory or the reader failed.
+/// If the scenario isn't run, it writes only the line of the first fault that applies: 13 TooBig over 16777216 bytes,
+/// 11 Json, 12 Document, 13 TooBig over 20000 events or fates, the fault of a unit (1 Address, 2 Size, 3 Fixed), 5
+/// SameAddress, the fault of an order, 1 Limit; 20 Memory or 21 File if the memory or the reader failed.
 ///
-/// Where a call of the output fails later ones write nothing more to it, and it ends as `Unwritten`.
+/// If a call of the output fails, later ones write nothing more to it, and it ends as `Unwritten`.
 ///
-/// A person is told in `notes` where the scenario is wrong and what its rule is. Whatever becomes of the notes, the
+/// The `notes` tell a person where the scenario is wrong and what its rule is. Whatever becomes of the notes, the
 /// answer is the same.
 pub fn run_scenario<R: Read, W: Write, N: Write>(
     alloc: Global,
@@ -97,7 +96,7 @@ fn try_run<R: Read, W: Write, N: Write>(
     }
 }
 
-// Reads, understands, sets up and runs a scenario. Where it comes to a fault, the note is what is wrong there.
+// Reads, understands, sets up and runs a scenario. If there is a fault, the note is what is wrong there.
 fn ran_of<R: Read>(alloc: Global, input: &mut Input<R>, note: &mut Note) -> Result<Ran, Fault>
     ensures ok { IfOk result (λ ran. IsRan (state_of R.remaining input.old) (state_of R.remaining input.new)
         ran.outcome.trace.items ran.outcome.journal.items ran.bus) }
@@ -120,7 +119,7 @@ fn ran_of<R: Read>(alloc: Global, input: &mut Input<R>, note: &mut Note) -> Resu
     Ok(Ran { outcome, bus })
 }
 
-// The JSON value of a scenario's bytes. Where there is none, the note is why.
+// The JSON value of a scenario's bytes. If there is none, the note is why.
 fn json_noting(alloc: Global, input: &[u8], note: &mut Note) -> Result<Value, InputFault>
     ensures ok { IfOk result (λ json. IsJson scenario_limit input.now (view json)) }
     ensures err { IfErr result (IsNoJson scenario_limit input.now) }
@@ -134,7 +133,7 @@ fn json_noting(alloc: Global, input: &[u8], note: &mut Note) -> Result<Value, In
     }
 }
 
-// What a scenario says. Where it is none, the note is why.
+// The contents of a scenario. If it is none, the note is why.
 fn scenario_noting<'a>(
     alloc: Global,
     json: &'a Value,
@@ -152,7 +151,7 @@ fn scenario_noting<'a>(
     }
 }
 
-// What a scenario sets up. Where it can't be set up, the note is why.
+// The parts that a scenario sets up. If it can't be set up, the note is why.
 fn setup_noting(
     alloc: Global,
     scenario: &Scenario<'_>,
@@ -171,7 +170,7 @@ fn setup_noting(
     }
 }
 
-// Adds what a limit may be, where the fault is that it is none.
+// Adds what a limit may be, if the fault is that it is none.
 fn note_limit(note: &mut Note, fault: Fault) {
     if fault == Fault::Run(RunFault::Limit) {
         note.add(format_args!("limit: a journal has from 1 to {MOST_ORDERS} orders"));

@@ -18,12 +18,12 @@ use std::io::{Read, Write};
 
 /// Reads the bytes of a memory bank as hexadecimal digits, and writes a line for each of its rows.
 ///
-/// Where the input spells no bank it writes the fault alone: 13 TooBig over 4096 bytes of text,
-/// 14 Hex, 13 TooBig over 255 bytes of the bank, 20 Memory or 21 File.
+/// If the input spells no bank it writes the fault alone: 13 TooBig over 4096 bytes of text, 14 Hex, 13 TooBig over 255
+/// bytes of the bank, 20 Memory or 21 File.
 ///
-/// Where a call of the output fails later ones write nothing more to it, and it ends as `Unwritten`.
+/// If a call of the output fails, later ones write nothing more to it, and it ends as `Unwritten`.
 ///
-/// A person is told in `notes` why the input spells no bank. Whatever becomes of the notes, the answer is the same.
+/// The `notes` tell a person why the input spells no bank. Whatever becomes of the notes, the answer is the same.
 pub fn show<R: Read, W: Write, N: Write>(
     alloc: Global,
     input: &mut Input<R>,

@@ -1,4 +1,4 @@
--- What lines give, one line after another.
+-- The orders that lines give, one line after another.
 use Rattle.std.proofs.Common.{◌≡◌, ◌≢◌, refl, sym, ap, subst, ◌∙◌, ◌⊎◌, inl, inr, ℕ, ◌+◌, Bool, true, false, length}
 use Rattle.std.proofs.Common.{List, [], ◌∷◌, ◌++◌, Option, Some, None, arith}
 use Rattle.std.specs.Prelude.{◌||◌, ◌↔◌, IsTrue, codes}
@@ -38,7 +38,7 @@ whole : {R : Type 0} (left : R → Option (List ℕ)) (failed : R → Bool) (fir
 whole left failed first now lines bytes goes_on (inl going) = (sym going.0 ∙ goes_on, going.1)
 whole left failed first now lines bytes goes_on (inr over) = let is = over.0 in cc
 
--- behind `ready`, what the next line comes to is given
+-- after `ready`, what the next line yields is given
 given_next : (first old new : Bool) (lines more : List (List ℕ)) (bytes longer : List ℕ) (come given : List Given)
     (next : Option Given) → (old ≡ true) × (new ≡ true) → IsGiven first old lines bytes come given
     → IsGiven first new more longer (with_next next come) (with_next next given)
@@ -91,7 +91,7 @@ IsNext left old new line =
     ⊎ ((new.is_over ≡ true) × ((line ≢ []) × Consumes (left old.source) (left new.source) line
     × IsAtEnd (left new.source)))
 
--- and what it gives comes behind what the lines before gave
+-- and what it gives comes after what the lines before gave
 pub gave_next : {R : Type 0} (left : R → Option (List ℕ)) (failed : R → Bool) (first old new : OrderLines R)
     (given : List Given) (line : List ℕ) (next : Option Given) → old.is_over ≡ false
     → Gave left failed first old given → IsInLine line → IsNext left old new line → new.moment ≡ old.moment
@@ -149,7 +149,7 @@ gave_next {R} left failed first old new given line next goes_on gave inside is_n
       refused_is = all_refused;
     }
 
--- where the stream ends behind a line feed, and where a line is broken off, nothing more is given
+-- if the stream ends after a line feed, or a line is broken off, nothing more is given
 pub gave_no_more : {R : Type 0} (left : R → Option (List ℕ)) (failed : R → Bool) (first old new : OrderLines R)
     (given : List Given) (line : List ℕ) → old.is_over ≡ false
     → Gave left failed first old given → IsInLine line → new.is_over ≡ true

@@ -1,4 +1,4 @@
--- What is submitted on a line, and what is none.
+-- The order that is submitted on a line, and what is none.
 use Rattle.std.proofs.Common.{◌≡◌, refl, sym, subst, ℕ, Option, None, Err}
 use Rattle.std.specs.Prelude.{IsSome, MatchOption, codes}
 use Rattle.serde_json.specs.Data.{Data}

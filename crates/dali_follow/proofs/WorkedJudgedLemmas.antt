@@ -1,4 +1,4 @@
--- What a line comes to and what it doesn't, and why no more is read, by hand, on both sides of each rule.
+-- The result of a line, and what it isn't, and why no more is read, by hand, on both sides of each rule.
 use Rattle.std.proofs.Common.{◌≡◌, refl, ap, inl, inr, ◌⊎◌, ◌-◌, ◌^◌, ℕ, true, false, List, [], ◌∷◌, Option, Some, None, Ok, Err}
 use Rattle.std.proofs.Common.{length, codes, arith}
 use Rattle.serde_json.specs.Data.{Data, null, number, unsigned, string, object, member, no_members}
@@ -196,7 +196,7 @@ not_over_before lines goes_on less = λ over. by over.1 where
   by (inl is) = cc
   by (inr most) = omega (arith, less, most)
 
--- nor before it was told that lines are read
+-- nor before `ready` was given
 pub not_over_unbegun : {R : Type 0} (lines : OrderLines R) → lines.is_begun ≡ false → ¬ IsOver lines
 not_over_unbegun lines unbegun = λ over. let begun = over.0 in cc
 
@@ -205,7 +205,7 @@ not_over_unbegun lines unbegun = λ over. let begun = over.0 in cc
 abbrev ready : Given
 ready = gives.Line (record { items = codes "ready\n" })
 
--- it stands before all that lines come to
+-- it comes before all that lines yield
 pub ready_before_all : (order : Contents) (line : List ℕ) → IsGiven false true (line ∷ []) (codes "x\n")
     (gives.Order order 5 ∷ []) (gives.Order order 5 ∷ ready ∷ [])
 ready_before_all order line = (record { items = codes "ready\n" }, refl, refl)

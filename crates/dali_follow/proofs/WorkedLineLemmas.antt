@@ -64,11 +64,11 @@ lines_in_turn = refl
 pub last_without_a_line_feed : EndsUnended (codes "c" ∷ codes "a" ∷ []) (codes "a\nc")
 last_without_a_line_feed = ((λ none. cc), refl)
 
--- behind the last line feed is no line
+-- after the last line feed is no line
 pub no_line_behind_the_last : ¬ EndsUnended ([] ∷ codes "a" ∷ []) (codes "a\n")
 no_line_behind_the_last = λ unended. unended.0 refl
 
--- nor behind no lines at all: such bytes belong to one
+-- nor after no lines at all: such bytes belong to one
 pub no_bytes_without_a_line : ¬ EndsUnended [] (codes "a")
 no_bytes_without_a_line = λ never. never
 
@@ -152,7 +152,7 @@ given_in_turn one three order one_told three_told is_order no_json = (
 
 -- ---- why no more is given
 
--- the stream is at its end, or it was broken off: it failed, or a line had more bytes than any program sees; or so many
+-- the stream is at its end, or it was broken off: it failed, or a line had more bytes than any program sees; or 2⁶⁴ - 1
 -- lines were read
 pub why_over : {R : Type 0} (left : R → Option (List ℕ)) (failed : R → Bool) (first now : OrderLines R)
     (given : List Given) → first.is_over ≡ false → Gave left failed first now given → IsOver now

@@ -1,4 +1,4 @@
--- What is kept of the line that is read.
+-- The bytes that are kept of the line that is read.
 use Rattle.std.specs.Prelude.{◌≡◌, ◌<◌, ℕ, List, MatchBool, length}
 use Rattle.dali_follow.specs.declared.line_buffer.LineBuffer.{LineBuffer}
 use Rattle.dali_follow.specs.Lines.{line_limit, is_blank}

@@ -14,7 +14,7 @@ abbrev pub line_name_of : OrderLineFault → List ℕ
 line_name_of (Input fault) = name_of fault
 line_name_of (Item fault) = item_name_of fault
 
--- an item by the number of its line, and by its order's number where it has one
+-- an item by the number of its line, and by its order's number if it has one
 abbrev pub item_head : ℕ → Option ℕ → List ℕ
 item_head number None = codes "item " ++ decimal number
 item_head number (Some order) = codes "item " ++ decimal number ++ codes " order " ++ decimal order

@@ -1,4 +1,4 @@
--- What the lines of a stream give.
+-- The orders that the lines of a stream give.
 use Rattle.std.specs.Prelude.{◌≡◌, ◌≢◌, ◌⊎◌, ◌||◌, ◌+◌, ◌++◌, ◌-◌, ◌^◌, ℕ, Bool, true, false, List, [], ◌∷◌, length}
 use Rattle.std.specs.Prelude.{Option, Some, None, Ok, Err, codes}
 use Rattle.std.specs.List.{All, list_any}
@@ -20,8 +20,8 @@ use Rattle.dali_follow.specs.Judged.{JudgesLine}
 use Rattle.dali_follow.specs.Lines.{is_blank, bytes_of}
 use Rattle.dali_follow.specs.Read.{IsBroken}
 
--- what is known of the orders of a source: the source, the moment of what brings none, how many lines were read,
--- whether one was refused, whether it was told that they are read from here on, and whether no more is
+-- the state of the orders of a source: the source, the moment of an order that brings none, how many lines were read,
+-- whether one was refused, whether `ready` was given, and whether no more is read
 pub record LinesState (R : Type 0) : Type 0 where
   pub source : R
   pub moment : ℕ
@@ -40,8 +40,8 @@ state_of lines = record {
   is_over = lines.is_over;
 }
 
--- no more is given: it was told that lines are read, and the stream has ended or was broken off, or the lines can't be
--- counted any further
+-- no more is given: `ready` was given, and the stream has ended or was broken off, or the lines can't be counted any
+-- further
 abbrev pub IsOver : {R : Type 0} → OrderLines R → Type 0
 IsOver lines = (lines.is_begun ≡ true) × ((lines.is_over ≡ true) ⊎ (lines.count ≡ 2 ^ 64 - 1))
 
@@ -52,14 +52,14 @@ abbrev pub EndsUnended : List (List ℕ) → List ℕ → Type 0
 EndsUnended [] bytes = ⊥
 EndsUnended (last ∷ lines) bytes = (last ≢ []) × (bytes ≡ bytes_of lines ++ last)
 
--- behind these lines one was broken off
+-- after these lines one was broken off
 pub record IsCut (failed : Bool) (lines : List (List ℕ)) (bytes : List ℕ) : Type 0 where
   pub begun : List ℕ
   pub inside : IsInLine begun
   pub bytes_are : bytes ≡ bytes_of lines ++ begun
   pub broken : IsBroken failed begun
 
--- why no more is read: the stream has ended, behind a line feed or without one; or a line was broken off
+-- why no more is read: the stream has ended, after a line feed or without one; or a line was broken off
 abbrev pub IsEnd : Option (List ℕ) → Bool → List (List ℕ) → List ℕ → Type 0
 IsEnd left failed lines bytes =
     (IsAtEnd left × ((bytes ≡ bytes_of lines) ⊎ EndsUnended lines bytes)) ⊎ IsCut failed lines bytes
@@ -72,9 +72,9 @@ AreLines left failed first now lines bytes =
     ((now.is_over ≡ first.is_over) × (bytes ≡ bytes_of lines))
     ⊎ ((now.is_over ≡ true) × IsEnd (left now.source) (failed now.source) lines bytes)
 
--- ---- what they come to
+-- ---- the results of lines
 
--- what a line of this number gives: nothing where it is blank, else its order, or the line that tells why it is refused
+-- what a line of this number gives: nothing if it is blank, else its order, or the line that tells why it is refused
 abbrev pub LineGives : ℕ → ℕ → List ℕ → Option Given → Type 0
 LineGives number moment line None = is_blank line ≡ true
 LineGives number moment line (Some (gives.Order order at)) =
@@ -82,7 +82,7 @@ LineGives number moment line (Some (gives.Order order at)) =
 LineGives number moment line (Some (gives.Line text)) = (is_blank line ≡ false)
     × ((refused : RefusedLine) × JudgesLine moment line (Err refused) × (text.items ≡ item_line number refused))
 
--- what lines give behind so many others, both the newest first
+-- what lines give after `before` others, both the newest first
 abbrev pub LinesGive : ℕ → ℕ → List (List ℕ) → List Given → Type 0
 LinesGive before moment [] given = given ≡ []
 LinesGive before moment (line ∷ lines) given =
@@ -104,15 +104,15 @@ refuses (Some given) = is_refusal given
 abbrev pub ready_line : List ℕ
 ready_line = codes "ready\n"
 
--- what was given where these lines and bytes were read and came to that, by whether `ready` had been told at first, and
--- is now: it is told once, and no byte is read before it
+-- all that was given if these lines and bytes were read and yielded that, by whether `ready` had been given at first,
+-- and is now: it is given once, and no byte is read before it
 abbrev pub IsGiven : Bool → Bool → List (List ℕ) → List ℕ → List Given → List Given → Type 0
 IsGiven true now lines bytes come given = (now ≡ true) × (given ≡ come)
 IsGiven false true lines bytes come given =
     (text : ArrayVec ℕ) × (text.items ≡ ready_line) × (given ≡ come ++ (gives.Line text ∷ []))
 IsGiven false false lines bytes come given = (lines ≡ []) × (bytes ≡ []) × (given ≡ [])
 
--- since it was the first of the two, these lines were read of the source and no other byte, and they came to this
+-- since it was the first of the two, these lines were read of the source and no other byte, and they yielded this
 pub record Gave {R : Type 0} (left : R → Option (List ℕ)) (failed : R → Bool) (first now : OrderLines R)
     (given : List Given) : Type 0 where
   pub lines : List (List ℕ)

@@ -1,4 +1,4 @@
--- What a line comes to that isn't blank.
+-- The result of a line that isn't blank.
 use Rattle.std.specs.Prelude.{◌≡◌, ◌⊎◌, ℕ, List, Option, None, Result, Ok, Err, IsSome, MatchOption}
 use Rattle.std.specs.Prelude.{codes, option_and_then}
 use Rattle.serde_json.specs.Data.{Data}
@@ -18,8 +18,8 @@ use Rattle.dali_follow.specs.Lines.{line_limit}
 abbrev pub Outcome : Type 0
 Outcome = Result (Contents × ℕ) RefusedLine
 
--- what is submitted, and when: an object with the key of a submission says both, as in a scenario; any other value is
--- submitted itself, at the moment of the stream
+-- the order that is submitted, and when: an object with the key of a submission says both, as in a scenario; any other
+-- value is submitted itself, at the moment of the stream
 abbrev pub IsSubmitted : ℕ → Data → Data → ℕ → Type 0
 IsSubmitted moment json item at = MatchOption (get (codes "submit") json) ((item ≡ json) × (at ≡ moment))
     (λ order. IsEvent json (submit item at))
@@ -52,13 +52,13 @@ no_submission_on json =
 abbrev pub no_json_on : InputFault → RefusedLine
 no_json_on fault = record { order = None; fault = Input fault }
 
--- what becomes of a value, where this is the moment of the stream
+-- the result of a value, if this is the moment of the stream
 abbrev pub JudgesValue : ℕ → Data → Outcome → Type 0
 JudgesValue moment json outcome = (IsNoSubmission json × (outcome ≡ Err (no_submission_on json)))
     ⊎ ((item : Data) × (at : ℕ) × IsSubmitted moment json item at × JudgesAt at item outcome)
 
--- what becomes of a line: it has no JSON (too many bytes, other bytes, or no memory, which may come at any line that
--- has a byte and not too many), or what its value comes to
+-- the result of a line: it has no JSON (too many bytes, other bytes, or no memory, which may come at any line that has
+-- a byte and not too many), or the result of its value
 abbrev pub JudgesLine : ℕ → List ℕ → Outcome → Type 0
 JudgesLine moment line outcome =
     ((fault : InputFault) × IsNoJson line_limit line fault × (outcome ≡ Err (no_json_on fault)))

@@ -1,10 +1,10 @@
--- What the reading of a line takes of a source.
+-- The bytes that the reading of a line takes of a source.
 use Rattle.std.specs.Prelude.{◌≡◌, ◌⊎◌, ◌++◌, ◌-◌, ◌^◌, ℕ, Bool, true, List, Option, codes, length}
 use Rattle.std.specs.Io.KnownBytes.{Consumes, IsAtEnd}
 use Rattle.dali_follow.specs.declared.reading.LineEnd.{LineEnd}
 use Rattle.dali_follow.specs.declared.reading.LineEnd.TheVariants.{LineFeed, Stream, Broken}
 
--- why a line is broken off: the source failed, or the line has so many bytes that no program lives to see them
+-- why a line is broken off: the source failed, or the line has more bytes than any program lives to see
 abbrev pub IsBroken : Bool → List ℕ → Type 0
 IsBroken failed line = (failed ≡ true) ⊎ (length line ≡ 2 ^ 64 - 1)
 

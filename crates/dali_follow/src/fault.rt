@@ -1,4 +1,4 @@
-// Why a line is refused, and how that is told.
+// Why a line is refused, and how that is printed.
 ghost use Rattle.std.specs.Prelude.{◌≡◌, ◌≤◌, length};
 ghost use Rattle.arrayvec.specs.ArrayVec.{array_vec_len};
 ghost use Rattle.dali_bank.specs.Faults.{name_of as bank_fault_name};
@@ -16,7 +16,7 @@ use std::fmt;
 pub enum OrderLineFault {
     /// The line is too long, no JSON, or no submission, or memory ran out.
     Input(InputFault),
-    /// What the line submits is no order.
+    /// The value that the line submits is no order.
     Item(ItemFault),
 }
 
@@ -60,7 +60,7 @@ impl fmt::Display for OrderLineFault {
 
 impl Error for OrderLineFault {}
 
-// A line that is refused: the number of the order on it, where it has one, and why.
+// A line that is refused: the number of the order on it, if it has one, and why.
 #[derive(Clone, Copy)]
 pub(crate) struct RefusedLine {
     pub(crate) order: Option<u64>,

@@ -1,4 +1,4 @@
-// What a line comes to.
+// The result of a line.
 ghost use Rattle.std.specs.Prelude.{◌≡◌, ℕ, List};
 ghost use Rattle.serde_json.specs.View.{view};
 ghost use Rattle.dali_follow.specs.Buffers.{Holds};
@@ -12,9 +12,9 @@ use dali_input::{InputFault, json_of, order_of, submission_of};
 use serde_json::Value;
 use std::alloc::Global;
 
-// The order of a line and its moment: the one that stands there, or that of the stream.
+// The order of a line and its moment: the one that is given there, or that of the stream.
 //
-// The first fault that stands (profile): 13 TooBig, 11 Json, 20 Memory, 12 Document, and then that of the item.
+// The first fault that applies (profile): 13 TooBig, 11 Json, 20 Memory, 12 Document, and then that of the item.
 pub(crate) fn judge_line(
     alloc: Global,
     line: &LineBuffer,
@@ -31,7 +31,7 @@ pub(crate) fn judge_line(
     }
 }
 
-// What a value on a line comes to.
+// The result of a value on a line.
 fn judge_value(json: &Value, moment: u64) -> Result<(Order, u64), RefusedLine>
     ensures { JudgesValue moment (view json.now) result }
 {
@@ -45,7 +45,7 @@ fn judge_value(json: &Value, moment: u64) -> Result<(Order, u64), RefusedLine>
     }
 }
 
-// What becomes of what is submitted at a moment.
+// The result of a value that is submitted at a moment.
 fn judge_at(item: &Value, moment: u64) -> Result<(Order, u64), RefusedLine>
     ensures { JudgesAt moment (view item.now) result }
 {

@@ -1,5 +1,7 @@
-//! Orders that come line by line (profile): a stream gives one object of JSON a line, and each line comes to an order
-//! with its moment, or to the line that tells why it is refused.
+//! Orders that come line by line (profile): a stream gives one object of JSON a line, and each line yields an order
+//! with its moment, or the line that says why it is refused.
+//!
+//! A crate of its own: it is proved beside the reports, which need no lines of orders.
 #![tactic(auto)]
 
 mod fault;

@@ -1,4 +1,4 @@
-// What is kept of the line that is read.
+// The bytes that are kept of the line that is read.
 ghost use Rattle.std.specs.Prelude.{◌≡◌, ◌↔◌, ◌++◌, ◌∷◌, [], ℕ, List, IsTrue};
 ghost use Rattle.dali_follow.specs.Lines.{is_blank, is_space};
 ghost use Rattle.dali_follow.specs.Buffers.{Holds};
@@ -42,7 +42,7 @@ impl LineBuffer {
         self.is_blank = true;
     }
 
-    // Puts a byte behind what was read of the line.
+    // Appends a byte to what was read of the line.
     pub(crate) fn push(&mut self, byte: u8)
         ensures { (line : List ℕ) → Holds self.old line → Holds self.new (line ++ byte ∷ []) }
     {

@@ -14,12 +14,12 @@ use std::io::ErrorKind;
 
 /// Orders that a source gives in lines (profile). A line is a value of JSON of at most 16,384 bytes: an object with the
 /// key "submit" is a submission as in a scenario, and any other value is an order itself, submitted at the moment that
-/// the stream has. A line that is refused is told as `item I order N fault F NAME`, where I counts the lines from 1,
-/// and `order N` stands only where the item has a whole number for its order; one of spaces, tabs and carriage returns
-/// alone is passed over. A line ends at its line feed, the last one also where the stream ends.
+/// the stream has. A line that is refused is printed as `item I order N fault F NAME`, where I counts the lines from 1,
+/// with `order N` only if the item has a whole number for its order; one of spaces, tabs and carriage returns alone is
+/// passed over. A line ends at its line feed, the last one also where the stream ends.
 ///
-/// First of all, and before a byte is read, it gives the line `ready`: whoever asks for an order is ready to take one.
-/// A line is read when the next order is wanted, and no further. No more is held than one line.
+/// First of all, and before a byte is read, it gives the line `ready`: the drive that asks for an order is ready to
+/// take one. A line is read when the next order is wanted, and no further. No more is held than one line.
 #[derive(Drop)]
 pub struct OrderLines<R> {
     alloc: Global,
@@ -29,7 +29,7 @@ pub struct OrderLines<R> {
     count: u64,
     // Whether one was refused.
     has_refused: bool,
-    // Whether it was told that lines are read from here on.
+    // Whether `ready` was given: lines are read from here on.
     is_begun: bool,
     // Whether no more is read: the stream has ended, or it was broken off.
     is_over: bool,
@@ -76,7 +76,7 @@ impl<R: Source> OrderLines<R> {
         self.source.has_failed()
     }
 
-    /// Of what kind the failure of the source was, where there was one and that is known.
+    /// The kind of the source's failure, if there was one and its kind is known.
     pub fn cause(&self) -> Option<ErrorKind>
         ensures { IfSome result (λ kind. R.failed (state_of self.now).source ≡ true) }
     {
@@ -108,7 +108,7 @@ impl<R: Source> OrderLines<R> {
         None
     }
 
-    // Reads the next line, and gives what it comes to: nothing where it is blank, or where there is none.
+    // Reads the next line, and gives its result: nothing if it is blank, or if there is none.
     fn take_line(&mut self) -> Option<Given>
         requires goes_on { self.old.is_over ≡ false }
         requires more { self.old.count < 2 ^ 64 - 1 }
@@ -136,7 +136,7 @@ impl<R: Source> OrderLines<R> {
         self.judge()
     }
 
-    // What the line that was read comes to.
+    // The result of the line that was read.
     fn judge(&mut self) -> Option<Given>
         ensures given { (line : List ℕ) → Holds self.old.buffer line
             → LineGives self.old.count self.old.moment line result }

@@ -18,8 +18,8 @@ pub(crate) enum LineEnd {
     Broken,
 }
 
-// Reads up to the next line feed, or to the end of the stream. A line without end is broken off behind so many bytes
-// that no program lives to see it.
+// Reads up to the next line feed, or to the end of the stream. A line without end is broken off after more bytes than
+// any program lives to see.
 pub(crate) fn read_line<R: Source>(source: &mut R, buffer: &mut LineBuffer) -> LineEnd
     ensures { (line : List ℕ) × IsInLine line × Holds buffer.new line
         × ReadsLine (R.left source.old) (R.left source.new) (R.failed source.new) line result }

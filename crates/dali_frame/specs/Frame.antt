@@ -26,7 +26,7 @@ frame_word (AskDtr2 address) = command_word address 0x9D
 frame_word (Read address) = command_word address 0xC5
 frame_word (Other word) = word
 
--- the frame stands in the table: its operand is a byte, or its address is a short address
+-- the frame is in the table: its operand is a byte, or its address is a short address
 abbrev pub IsListed : Frame → Type 0
 IsListed (Dtr0 operand) = operand < 256
 IsListed (Dtr1 operand) = operand < 256
@@ -40,7 +40,7 @@ IsListed (AskDtr2 address) = address < 64
 IsListed (Read address) = address < 64
 IsListed (Other word) = ⊥
 
--- the frame stands in the table with this word
+-- the frame is in the table with this word
 abbrev pub Lists : Frame → ℕ → Type 0
 Lists frame word = IsListed frame × (frame_word frame ≡ word)
 
@@ -48,7 +48,7 @@ Lists frame word = IsListed frame × (frame_word frame ≡ word)
 abbrev pub IsUnlisted : ℕ → Type 0
 IsUnlisted word = (word < 2 ^ 16) × ((frame : Frame) → IsListed frame → frame_word frame ≢ word)
 
--- the frame stands in the table, or it is an `Other` with a word that no frame of the table has
+-- the frame is in the table, or it is an `Other` with a word that no frame of the table has
 abbrev pub IsProper : Frame → Type 0
 IsProper (Other word) = IsUnlisted word
 IsProper frame = IsListed frame

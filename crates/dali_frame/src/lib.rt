@@ -3,6 +3,8 @@
 //!
 //! A forward frame has sixteen bits, an address byte and a second byte. A backward frame, the
 //! answer, has eight. No call takes memory.
+//!
+//! A crate of its own: words and lines of frames are used by all, and depend on nothing.
 #![tactic(auto)]
 
 pub use fault::LineFault;

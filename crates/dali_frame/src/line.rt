@@ -29,7 +29,7 @@ pub fn byte_digits(byte: u8) -> [u8; 2]
 /// The answer that a line without its line feed spells (profile): `--` is `None`, no answer, and
 /// two hexadecimal digits in either case are the byte of a backward frame.
 ///
-/// `Length` (1) where the line hasn't two bytes, and `Digit` (2) where its two bytes are neither.
+/// `Length` (1) if the line hasn't two bytes, and `Digit` (2) if its two bytes are neither.
 pub fn answer_of(line: &[u8]) -> Result<Option<u8>, LineFault>
     ensures ok { IfOk result (λ answer. SpellsAnswer line.now answer) }
     ensures only { (answer : Option ℕ) → SpellsAnswer line.now answer → result ≡ Ok answer }

@@ -1,4 +1,4 @@
--- What frames leave of bank 1.
+-- The bank 1 that frames leave.
 use Rattle.std.proofs.Common.{◌≡◌, refl, sym, subst, ℕ, Bool, true, false, ◌&&◌, ◌||◌, not, ◌==◌, nat_lt, nat_le}
 use Rattle.std.proofs.Common.{if◌then◌else◌, List, [], ◌∷◌, length, map, arith}
 use Rattle.std.specs.Prelude.{slice_index, ⊤}

@@ -9,7 +9,7 @@ use Rattle.std.proofs.lemmas.List.Elements.{filter_map-append}
 use Rattle.dali_gear.specs.UnitState.{UnitState, gear_of}
 use Rattle.dali_gear.specs.SimState.{world_of, AreApart}
 
--- behind units that aren't at an address stands what else is there
+-- if no unit of a first list is at an address, the unit there is that of the further ones
 world_behind : (units more : List UnitState) (address : ℕ) → world_of units address ≡ None
     → world_of (units ++ more) address ≡ world_of more address
 world_behind [] more address free = refl
@@ -42,7 +42,7 @@ not_free (first ∷ units) (suc i) unit lt is =
     behind true rest = λ e. cc
     behind false rest = rest
 
--- no unit comes to an address where each stays at its own
+-- no unit comes to an address if each stays at its own
 stays_free : (f : UnitState → UnitState) → ((unit : UnitState) → (f unit).address ≡ unit.address)
     → (units : List UnitState) (address : ℕ) → world_of units address ≡ None → world_of (map f units) address ≡ None
 stays_free f keeps [] address free = refl

@@ -1,4 +1,4 @@
--- What becomes of a frame on the simulated bus.
+-- The fate of a frame on the simulated bus.
 use Rattle.std.specs.Prelude.{ℕ, Bool, false, ◌==◌, List}
 use Rattle.std.specs.Int.{bit_at}
 use Rattle.std.specs.Prelude.{get_or}
@@ -12,6 +12,6 @@ whole = record { lost = 0; answer_lost = false; refuse = false }
 abbrev pub is_lost : Fate → ℕ → Bool
 is_lost fate address = bit_at fate.lost address == 1
 
--- the fate of the next frame: where all are used up, frames go through whole
+-- the fate of the next frame: if all are used up, frames go through whole
 abbrev pub next_fate : List Fate → Fate
 next_fate fates = get_or fates 0 whole

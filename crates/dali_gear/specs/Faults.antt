@@ -1,4 +1,4 @@
--- Why no unit or bus is made, and how a fault is told.
+-- Why no unit or bus is made, and how a fault is reported.
 use Rattle.std.specs.Prelude.{◌≡◌, ℕ, ◌+◌, ◌<◌, ◌≤◌, List, [], ◌∷◌, length, slice_index, codes, ⊤}
 use Rattle.std.specs.List.{AllByRecursion}
 use Rattle.dali_gear.specs.declared.fault.GearFault.{GearFault}
@@ -33,7 +33,7 @@ LocationsRiseAbove bound (location ∷ locations) = (bound < location) × Locati
 abbrev pub AreFixed : List ℕ → List ℕ → Type 0
 AreFixed bytes fixed = LocationsRiseAbove 2 fixed × AllByRecursion (λ location. location < length bytes) fixed
 
--- why no unit is made of bytes and fixed locations: the first fault that stands
+-- why no unit is made of bytes and fixed locations: the first fault that applies
 abbrev pub IsUnitFault : ℕ → List ℕ → List ℕ → GearFault → Type 0
 IsUnitFault address bytes fixed Address = 63 < address
 IsUnitFault address bytes fixed Size = (address ≤ 63) × ¬ IsBank bytes

@@ -1,4 +1,4 @@
--- What the simulated bus holds, and what it does with each frame and at a loss of power.
+-- The state of the simulated bus, and the effect on it of each frame and of a loss of power.
 use Rattle.std.specs.Prelude.{◌≡◌, ℕ, ◌==◌, List, [], ◌∷◌, map, length, slice_get, Option, Some, None, ⊤, if◌then◌else◌}
 use Rattle.std.specs.List.{filter_map, AllByRecursion}
 use Rattle.std.specs.Prelude.{drop}
@@ -37,7 +37,7 @@ unit_after fate frame unit = if is_lost fate unit.address then unit else after_f
 abbrev pub unit_answer : Fate → Frame → UnitState → Option ℕ
 unit_answer fate frame unit = if is_lost fate unit.address then None else answer_to fate.refuse unit frame
 
--- the answer, where exactly one unit answered
+-- the answer, if exactly one unit answered
 abbrev pub only_answer : List ℕ → Option ℕ
 only_answer answers = if length answers == 1 then slice_get answers 0 else None
 

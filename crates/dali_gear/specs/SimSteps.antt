@@ -1,6 +1,6 @@
 -- Each step of the simulated bus is one that its units may make: lemmas, of which the last says it.
 --
--- They stand in specs/ since the bus's law cites it.
+-- They are in specs/ since the bus's law cites it.
 use Rattle.std.proofs.Common.{◌≡◌, ℕ, Bool, true, false, List, [], ◌∷◌, map, Option, Some, None, inl, inr, refl, sym}
 use Rattle.std.proofs.Common.{subst, ◌∙◌, ◌≢◌}
 use Rattle.std.specs.Prelude.{◌==◌, slice_get, if◌then◌else◌}
@@ -254,7 +254,7 @@ powered_elsewhere address (unit ∷ units) other apart =
     by false true e f rest = refl
     by mine false e f rest = rest
 
--- where those at an address lose their power, that is what the world may do
+-- if those at an address lose their power, that is what the world may do
 pub lose_power : (address : ℕ) (units : List UnitState)
     → LosesPower (world_of units) address (world_of (map (unit_powered address) units))
 lose_power address units =

@@ -1,7 +1,7 @@
--- What a simulated unit does with a frame is one of the things that a unit may do, and what it is after power-up:
--- lemmas, of which `unit_hears` and `unit_powers_up` say it.
+-- Each effect of a frame on a simulated unit is one that a unit may show, and so is its state after power-up: lemmas,
+-- of which `unit_hears` and `unit_powers_up` say it.
 --
--- They stand in specs/ since the law of the simulated bus's steps rests on them.
+-- They are in specs/ since the law of the simulated bus's steps rests on them.
 use Rattle.std.proofs.Common.{◌≡◌, ◌≢◌, ◌<◌, ℕ, zero, suc, Bool, true, false, not, ◌&&◌, ◌||◌, ◌⊎◌, inl, inr, List, []}
 use Rattle.std.proofs.Common.{◌∷◌, length, Option, Some, None, IsSome, IsNone, refl, sym, subst, arith}
 use Rattle.std.specs.Prelude.{◌==◌, nat_lt, slice_get, slice_set, if◌then◌else◌}

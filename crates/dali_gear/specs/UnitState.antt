@@ -1,4 +1,4 @@
--- What a simulated unit holds, and what it does with each frame that it hears.
+-- The state of a simulated unit, and the effect of each frame that it hears.
 use Rattle.std.specs.Prelude.{ℕ, Bool, true, false, not, ◌&&◌, ◌||◌, ◌==◌, nat_lt, nat_le, List, [], ◌∷◌, replicate}
 use Rattle.std.specs.Prelude.{length, slice_get, slice_index, slice_set, Option, Some, None, if◌then◌else◌}
 use Rattle.std.specs.List.{list_any}
@@ -55,7 +55,7 @@ with_stored unit byte =
 abbrev pub carries_out : UnitState → Bool
 carries_out unit = unit.enabled && has_bank unit.dtr1
 
--- it stores what is written, unless it is told to refuse
+-- it stores the byte that is written, unless it is to refuse
 abbrev pub stores : Bool → UnitState → Bool
 stores refuses unit = carries_out unit && not refuses && is_writable (bank_of unit unit.dtr1) unit.dtr0
 
@@ -63,14 +63,14 @@ stores refuses unit = carries_out unit && not refuses && is_writable (bank_of un
 abbrev pub selected_byte : UnitState → Option ℕ
 selected_byte unit = if has_bank unit.dtr1 then slice_get (bank_of unit unit.dtr1).bytes unit.dtr0 else None
 
--- after a write: where it is carried out DTR0 moves on, whether or not the byte is stored
+-- after a write: if it is carried out DTR0 moves on, whether or not the byte is stored
 abbrev pub after_write : Bool → UnitState → ℕ → UnitState
 after_write refuses unit byte =
     if carries_out unit
     then record (if stores refuses unit then with_stored unit byte else unit) { dtr0 = up unit.dtr0 }
     else unit
 
--- after a read: it isn't write-enabled, and where it has the bank DTR0 moves on
+-- after a read: it isn't write-enabled, and if it has the bank DTR0 moves on
 abbrev pub after_read : UnitState → UnitState
 after_read unit =
     if has_bank unit.dtr1

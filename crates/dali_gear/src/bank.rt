@@ -53,7 +53,7 @@ impl Bank {
         self.bytes.get(usize::from(location)).copied()
     }
 
-    // Stores a byte where it can be written, unless the unit is to refuse, and says whether it did.
+    // Stores a byte if it can be written, unless the unit is to refuse, and says whether it did.
     pub(crate) fn write(&mut self, location: u8, byte: u8, refuses: bool) -> bool
         ensures is_stored { result ≡ (not refuses && is_writable self.old location) }
         ensures after { self.new
@@ -66,7 +66,7 @@ impl Bank {
         is_stored
     }
 
-    // Sets the lock byte as it is after power-up, where it exists.
+    // Sets the lock byte as it is after power-up, if it exists.
     pub(crate) fn lock(&mut self)
         ensures { self.new ≡ locked_bank self.old }
     {

@@ -1,7 +1,7 @@
 ghost use Rattle.std.specs.Prelude.{◌≡◌, ◌<◌, ◌==◌};
 ghost use Rattle.dali_gear.specs.Fate.{is_lost};
 
-/// What becomes of one frame on the simulated bus (profile). By default it goes through whole.
+/// The fate of one frame on the simulated bus (profile). By default it goes through whole.
 #[derive(Clone, Copy, Default, PartialEq, Eq)]
 pub struct Fate {
     /// Bit `a` says that the unit at the short address `a` doesn't hear the frame.

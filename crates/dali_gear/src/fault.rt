@@ -4,7 +4,7 @@ use std::alloc::AllocError;
 use std::error::Error;
 use std::fmt;
 
-/// Why no unit or bus was made. Of several faults the one with the lowest number is told (profile).
+/// Why no unit or bus was made. Of several faults the one with the lowest number is reported (profile).
 #[derive(Clone, Copy, Debug, PartialEq, Eq)]
 pub enum GearFault {
     /// The short address is over 63.

@@ -2,6 +2,8 @@
 //! bus that reaches them and may lose frames and answers.
 //!
 //! Only `Unit::blank` and `Unit::with_bank1` take memory.
+//!
+//! A crate of its own: the simulated units are one of many kinds that `dali_bus` allows, and no law rests on them.
 #![tactic(auto)]
 
 mod bank;

@@ -47,7 +47,7 @@ impl SimBus {
     /// A bus of these units, and the fates of its next frames in turn. When all are used up, frames
     /// go through whole.
     ///
-    /// Fault 5 SameAddress where two units are at one short address.
+    /// Fault 5 SameAddress if two units are at one short address.
     pub fn new(units: Vec<Unit>, fates: Vec<Fate>) -> Result<SimBus, GearFault>
         ensures apart { IsOk result ↔ AreApart units.items }
         ensures ok { IfOk result (λ bus. bus ≡ record { units = units.items; fates = fates.items }) }
@@ -87,8 +87,8 @@ impl Bus for SimBus {
 
     ghost allowed = { sim_step-allowed };
 
-    /// Lets each unit hear the frame under the next fate, unless it is lost to the unit. Answers the
-    /// byte where exactly one unit answered and the answer isn't lost.
+    /// Lets each unit hear the frame under the next fate, unless it is lost to the unit. Answers the byte if exactly
+    /// one unit answered and the answer isn't lost.
     fn carry(&mut self, frame: &Frame) -> Option<u8> {
         let fate = take_fate(&mut self.fates);
         let answer = carry_to(&mut self.units, &fate, frame);
@@ -132,7 +132,7 @@ fn take_fate(fates: &mut IntoIter<Fate, Global>) -> Fate
     fates.next().unwrap_or_default()
 }
 
-// Lets each unit hear the frame, and tells the answer where exactly one answered.
+// Lets each unit hear the frame, and tells the answer if exactly one answered.
 fn carry_to(units: &mut [Unit], fate: &Fate, frame: &Frame) -> Option<u8>
     ensures after { units.new ≡ map (unit_after fate.now frame.now) units.old }
     ensures answer { result ≡ only_answer (filter_map (unit_answer fate.now frame.now) units.old) }

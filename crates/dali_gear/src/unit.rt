@@ -85,7 +85,7 @@ impl Model for Unit {
 impl Unit {
     /// A unit whose bank 1 holds `BLANK`, with no fixed location.
     ///
-    /// Fault 1 Address where the short address is over 63, 4 NoMemory where there is no memory.
+    /// Fault 1 Address if the short address is over 63, 4 NoMemory if there is no memory.
     pub fn blank(alloc: Global, address: u8) -> Result<Unit, GearFault>
         ensures accepted { OnOk result (address ≤ 63) }
         ensures ok { IfOk result (λ unit. unit ≡ new_unit address blank_bank []) }
@@ -96,10 +96,9 @@ impl Unit {
 
     /// A unit with these bytes in bank 1, of which those at the fixed locations can't be written.
     ///
-    /// Fault 1 Address where the short address is over 63, 2 Size where there aren't 17 to 255 bytes
-    /// or the first one isn't the last location, 3 Fixed where the fixed locations don't rise or one
-    /// is below 03h or past the last location, 4 NoMemory where there is no memory: the first that
-    /// stands (profile).
+    /// Fault 1 Address if the short address is over 63, 2 Size if there aren't 17 to 255 bytes or the first one isn't
+    /// the last location, 3 Fixed if the fixed locations don't rise or one is below 03h or past the last location, 4
+    /// NoMemory if there is no memory: the first that applies (profile).
     pub fn with_bank1(
         alloc: Global,
         address: u8,
@@ -213,7 +212,7 @@ impl Unit {
         self.obey(frame, true)
     }
 
-    // What a unit does with a frame that it hears, where it refuses writes or not.
+    // The effect of a frame that a unit hears, whether it refuses writes or not.
     fn obey(&mut self, frame: &Frame, refuses: bool) -> Option<u8>
         ensures after { self.new ≡ after_frame refuses self.old frame.now }
         ensures answer { result ≡ answer_to refuses self.old frame.now }

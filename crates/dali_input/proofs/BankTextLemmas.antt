@@ -21,7 +21,7 @@ not_blank byte value digit = grind arith
 digit_stays : (value : ℕ) → value < 16 → is_blank (slice_index upper_digits value) ≡ false
 digit_stays value fits = not_blank (slice_index upper_digits value) value (IsDigits-upper_digits value fits)
 
--- the digits of a byte stand without blanks
+-- the digits of a byte have no blanks
 digits_in-byte_digits : (byte : ℕ) → byte < 256 → digits_in (byte_digits byte) ≡ byte_digits byte
 unfolding encode_with
 digits_in-byte_digits byte fits =
@@ -31,7 +31,7 @@ digits_in-byte_digits byte fits =
 
 -- ---- a row
 
--- the digits of a byte behind a space
+-- the digits of a byte after a space
 abbrev pub behind_space : ℕ → List ℕ
 behind_space byte = codes " " ++ byte_digits byte
 
@@ -57,7 +57,7 @@ digits_in-row_text (byte ∷ rest) are_bytes =
 
 -- ---- the rows
 
--- so many rows
+-- the first `count` rows
 abbrev pub rows : ℕ → List ℕ → List ℕ
 rows count bank = flat_map (λ number. row_text (row_of number bank)) (range_with_len 0 count)
 

@@ -29,7 +29,7 @@ above_63 unit far = grind arith
 
 -- ---- the fields of a draft
 
--- each field stands at the place of its rank, from this rank on
+-- each field is at the place of its rank, from this rank on
 RanksFrom : ℕ → List Field → Type 0
 RanksFrom rank [] = ⊤
 RanksFrom rank (field ∷ others) = (rank_of field ≡ rank) × RanksFrom (rank + 1) others
@@ -156,7 +156,7 @@ acceptable_at source i before now so_far within k d below =
     subst (IsAcceptable source) (sym same) (found_acceptable source (get_or fields k Gtin)
     (found_of (get_or fields k Gtin) now) (so_far.done (get_or fields k Gtin) rank))
 
--- the field behind those that are set is the first that is refused
+-- the field after those that are set is the first that is refused
 pub first_refused : (source : Data) (i : ℕ) (before now : Drafted) (fault : BankFault) → i < length fields
     → SetSoFar source i before now
     → IsFieldRefused source (get_or fields i Gtin) fault → IsFieldFault source fault

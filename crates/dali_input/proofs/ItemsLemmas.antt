@@ -214,7 +214,7 @@ pub array_is_items : (ts : List Token)
 array_is_items ts =
     ap whole (value-begin_array 127 ts (omega arith)) ∙ array_of (items (value item_depth) (length ts) ts)
 
--- the token behind which the items stand
+-- the token before the items
 pub behind_bracket : (first rest now : List Token) (token : Option reader_token.Token) (all : Items)
     → first ≡ Token.begin_array ∷ rest
     → MatchOption token ((first ≡ []) × (now ≡ [])) (λ t. first ≡ token_of t ∷ now)

@@ -171,7 +171,7 @@ walked_more source e left before after so_far here others known =
           (taken_more (string_bytes e.0) (view e.1) _ before after so_far.taken here others known);
     }
 
--- ---- what stands inside a value plays no part
+-- ---- the contents of a value play no part
 
 number_of_emptied : (json : Data) → as_number (emptied json) ≡ as_number json
 number_of_emptied null = refl

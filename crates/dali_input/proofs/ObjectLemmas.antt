@@ -1,4 +1,4 @@
--- An object's members, read off the tokens behind its brace.
+-- An object's members, read off the tokens after its brace.
 use Rattle.std.proofs.Common.{◌≡◌, ◌≢◌, ℕ, ◌-◌, ◌<◌, ◌≤◌, List, length, ◌&&◌, Some, None, refl, ap, ◌∙◌}
 use Rattle.std.proofs.Common.{arith}
 use Rattle.json.specs.Token.{Token}

@@ -70,7 +70,7 @@ module _ (all left others : Items) (source : Data) (next : left ≡ item source 
   split_more : all ≡ before (s.seen ++ source ∷ []) others
   split_more = s.split ∙ ap (before s.seen) next ∙ before_push s.seen source others
 
-  -- one item more gives an order, where none was refused
+  -- one more item gives an order, if none was refused
   pub order_more : (order : Contents) → refused ≡ [] → Judges source (Ok order)
       → SoFar all others (orders ++ order ∷ []) refused (number + 1)
   order_more order none one = record {

@@ -97,7 +97,7 @@ pub all_makeable : (planned : List PlannedUnit) (are_apart : Bool) (units : List
 all_makeable planned true units so_far = so_far.makeable
 all_makeable planned false units so_far = so_far.made.makeable
 
--- one unit more, held only where all are apart
+-- one unit more, held only if all are apart
 pub one_held : (plans : List UnitPlan) (i : ℕ) (plan : UnitPlan) (are_apart held : Bool) (units after : List UnitState)
     (unit : UnitState)
     → i < length plans → plan ≡ get_or plans i plan

@@ -23,7 +23,7 @@ use Rattle.dali_input.specs.Items.{keys_of}
 use Rattle.dali_input.specs.Values.{AreEach, IsArrayOf, IsWhole, IsNoReading, has_only_keys}
 use Rattle.dali_input.proofs.MemberLemmas.{known_more}
 
--- where what is wanted needs something that can't be read, it can't be read either
+-- if what is wanted needs something that can't be read, it can't be read either
 pub needs : {X Y : Type 0} (Part : X → Type 0) (Whole : Y → Type 0) (fault : InputFault)
     → ((y : Y) → Whole y → (x : X) × Part x) → IsNoReading Part fault → IsNoReading Whole fault
 needs Part Whole Document need none = λ y whole. let (x, part) = need y whole in none x part
@@ -54,7 +54,7 @@ each_more Says vs i v xs x within is each says =
     subst (λ ds. AreEach Says (items_of ds) (xs ++ x ∷ [])) (sym split)
     (each_one_more Says (map view (take i vs)) xs (view v) x each says)
 
--- where a value of an array says nothing, neither do all of them
+-- if a value of an array says nothing, neither do all of them
 not_each : {X : Type 0} (Says : Data → X → Type 0) (vs : List Value) (i : ℕ) (v : Value) (xs : List X) → i < length vs
     → v ≡ get_or vs i v
     → ((x : X) → ¬ Says (view v) x) → ¬ AreEach Says (items_view vs) xs
@@ -177,7 +177,7 @@ bit_more_at addresses i bits d within short so_far address =
       | inr new ↦ absurd (differs (only new))
     ]
 
--- the same, where each address is one
+-- the same, if each address is one
 pub bit_more : (addresses : List ℕ) (i bits : ℕ) (d : ℕ) → i < length addresses
     → AllByRecursion (λ address. address ≤ 63) addresses
     → ((address : ℕ) → (bit_at bits address ≡ 1) ↔ Contains (take i addresses) address)

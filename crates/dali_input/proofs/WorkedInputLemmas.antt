@@ -1,5 +1,5 @@
--- What is read of an input and what JSON it is, and what of a list of orders is refused, by hand, on both sides of each
--- rule.
+-- The bytes that are read of an input, their JSON, and the orders of a list that are refused, by hand, on both sides of
+-- each rule.
 use Rattle.std.specs.declared.io.ErrorKind.TheVariants.{OutOfMemory, UnexpectedEof}
 use Rattle.std.proofs.Common.{◌≡◌, ◌∙◌, refl, ap, inl, inr, ℕ, true, false, List, [], ◌∷◌, Some}
 use Rattle.std.proofs.Common.{None, Ok, Err, length, codes, arith, append-nil}
@@ -38,7 +38,7 @@ one_past_the_limit = record {
   unfailed = refl;
 }
 
--- an input of as many bytes as the limit isn't told from a longer one before the reader has ended
+-- an input of as many bytes as the limit isn't distinguished from a longer one before the reader has ended
 pub no_end_at_the_limit : ¬ ReadsInput 2 (reader_with (codes "abcd")) (reader_with (codes "cd")) (codes "ab")
 no_end_at_the_limit = λ reads. let none = reads.whole (omega arith) in cc
 
@@ -129,7 +129,7 @@ nothing_is_read_of_none input json none = λ is. let some = is.1 in cc
 pub too_big_before_json : (input : List ℕ) → length input ≡ 2 → ¬ IsNoJson 1 input Json
 too_big_before_json input two = λ refused. omega (arith, refused.0)
 
--- memory may be wanted over any bytes that aren't too many, and not where there is none
+-- memory may be wanted over any bytes that aren't too many, and not if there is none
 pub memory_over_as_many_bytes : IsNoJson 2 (codes "ab") Memory
 memory_over_as_many_bytes = (omega arith, omega arith)
 
@@ -142,7 +142,7 @@ no_memory_over_one_byte_too_many = λ wanted. omega (arith, wanted.1)
 pub no_memory_over_a_text_that_is_too_big : (text : List ℕ) → length text ≡ 4097 → ¬ IsTextFault text Memory
 no_memory_over_a_text_that_is_too_big text long = λ wanted. omega (arith, wanted)
 
--- of a read that failed it is told just where the reader lacked memory
+-- of a read that failed, Memory is reported exactly when the reader lacked memory
 pub lacked_memory : IsReadFault OutOfMemory Memory false false
 lacked_memory = inl (refl, refl, refl)
 
@@ -169,7 +169,7 @@ nothing_refused_of_no_item refused = λ are. by are where
   by ([], each, all, some) = some all
   by (outcome ∷ outcomes, each, all, some) = each
 
--- where nothing is told as refused, nothing was refused, so that it is no refusal
+-- if none is reported as refused, none was refused, so that it is no refusal
 pub no_refusal_of_nothing : (items : Items) → ¬ AreRefused items []
 no_refusal_of_nothing items = λ (outcomes, each, all, some).
     let never : ¬ (◌≡◌ {A = List (ℕ × ItemFault)} [] []) = some in never refl

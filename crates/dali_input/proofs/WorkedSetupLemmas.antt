@@ -1,4 +1,4 @@
--- Which fault of a scenario comes first where two stand: one of its units before one of its orders.
+-- Which fault of a scenario comes first if there are two: one of its units before one of its orders.
 use Rattle.std.proofs.Common.{ℕ, List, [], ◌∷◌, refl, sym, subst, ◌∙◌, arith}
 use Rattle.dali_write.specs.declared.pace.Pace.TheVariants.{Checked}
 use Rattle.dali_gear.specs.SimState.{AreApart}

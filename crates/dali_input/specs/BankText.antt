@@ -50,7 +50,7 @@ IsTextFault text File = ⊥
 
 -- ---- the text of a bank
 
--- how many bytes a row has, but for the last one
+-- how many bytes a row has, except for the last one
 abbrev pub row_size : ℕ
 row_size = 16
 

@@ -1,4 +1,4 @@
--- What is read of a reader, and the JSON in it.
+-- The bytes that are read of a reader, and their JSON.
 use Rattle.std.specs.Prelude.{◌≡◌, ◌≢◌, ◌⊎◌, ◌+◌, ◌<◌, ◌≤◌, ℕ, Bool, true, List, ◌++◌, Option, Some, None, is_some, length, IsUtf8}
 use Rattle.std.specs.Io.KnownBytes.{Consumes, IsAtEnd}
 use Rattle.std.specs.declared.io.ErrorKind.{ErrorKind}
@@ -9,7 +9,7 @@ use Rattle.dali_input.specs.declared.input.Input.{Input}
 use Rattle.dali_input.specs.declared.fault.InputFault.{InputFault}
 use Rattle.dali_input.specs.declared.fault.InputFault.TheVariants.{Json, Document, TooBig, Hex, Memory, File}
 
--- how a reader stands: the bytes that it has left, where they are known, and whether a read has failed
+-- the state of a reader: the bytes that it has left, if they are known, and whether a read has failed
 pub record InputState : Type 0 where
   pub left : Option (List ℕ)
   pub failed : Bool
@@ -39,7 +39,7 @@ IsReadFailure before after Document = ⊥
 IsReadFailure before after TooBig = ⊥
 IsReadFailure before after Hex = ⊥
 
--- the fault of a read that failed so, and how the reader stands then: it lacked memory, or it has failed
+-- the fault of a read that failed so, and the reader's state then: it lacked memory, or it has failed
 abbrev pub IsReadFault : ErrorKind → InputFault → Bool → Bool → Type 0
 IsReadFault kind fault before after =
     ((kind ≡ OutOfMemory) × (fault ≡ Memory) × (after ≡ before))
@@ -50,7 +50,7 @@ abbrev pub IsReading : List ℕ → Option Data → Type 0
 IsReading input (Some value) = IsUtf8 input × (read input ≡ Some value)
 IsReading input None = IsUtf8 input → read input ≡ None
 
--- the JSON of an input of at most so many bytes
+-- the JSON of an input of at most `limit` bytes
 abbrev pub IsJson : ℕ → List ℕ → Data → Type 0
 IsJson limit input json = (length input ≤ limit) × IsReading input (Some json)
 
@@ -63,7 +63,7 @@ IsNoJson limit input Document = ⊥
 IsNoJson limit input Hex = ⊥
 IsNoJson limit input File = ⊥
 
--- some bytes more are read, at most so many, and stand behind the old ones
+-- some more bytes are read, at most `most`, and follow the old ones
 pub record ReadsMore (most : ℕ) (before after : InputState) (old new : List ℕ) : Type 0 where
   pub bytes : List ℕ
   pub consumed : Consumes before.left after.left bytes

@@ -1,4 +1,4 @@
--- What becomes of an order object of the input.
+-- How an order object of the input is judged.
 use Rattle.std.specs.Prelude.{◌≡◌, ◌≢◌, ◌⊎◌, ◌<◌, ◌≤◌, ◌||◌, ℕ, List, [], ◌∷◌, ◌++◌, Bool, true, false, Option, Some}
 use Rattle.std.specs.Prelude.{None, Result, Ok, Err, option_map, option_and_then, codes, length, MatchOption, ⊤}
 use Rattle.std.specs.List.{AllByRecursion, list_all, list_any}
@@ -61,7 +61,7 @@ text_given Gtin characters = digits characters
 text_given Identification characters = hex characters
 text_given _ characters = text characters
 
--- what a JSON value gives to a field, where it is of a kind that orders have
+-- the value that a JSON value gives to a field, if it is of a kind that orders have
 abbrev pub given : Field → Data → Option Plain
 given field null = Some unknown
 given field (number n) = option_map spelling.number (as_u64 n)
@@ -113,7 +113,7 @@ IsOrderOf source order =
     (draft : Drafted) × IsDraftOf source draft × (¬ VoltagesCross draft) × (updates_of draft ≢ [])
     × (order ≡ order_of draft)
 
--- why an object spells none: the first fault that stands
+-- why an object spells none: the first fault that applies
 abbrev pub IsFaultOf : Data → ItemFault → Type 0
 IsFaultOf source Shape = (whole_at (codes "order") source ≡ None) ⊎ (whole_at (codes "unit") source ≡ None)
 IsFaultOf source Key = (id : ℕ) × (unit : ℕ) × HasNumbers source id unit × KnowsKeys source false

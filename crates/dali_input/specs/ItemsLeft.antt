@@ -15,7 +15,7 @@ use Rattle.dali_input.specs.Shallow.{data_of, emptied}
 abbrev pub item_depth : ℕ
 item_depth = 126
 
--- what was read, where no token follows it
+-- the value that was read, if no token follows it
 abbrev pub if_last : {A : Type 0} → Option (A × List Token) → Option A
 if_last None = None
 if_last (Some (a, [])) = Some a
@@ -29,7 +29,7 @@ value_to_end tokens = option_and_then of_json (option_and_then (λ p. json.if_la
 abbrev pub items_to_end : List Token → Option DataItems
 items_to_end tokens = if_last (converted of_items (items (value item_depth) (length tokens) tokens))
 
--- what is held of an item: what it is, without what stands inside it, and what its members give
+-- the parts of an item that are held: what it is, without its contents, and what its members give
 pub record IsItem (source : Data) (found : Item) : Type 0 where
   pub shows : data_of found.value ≡ emptied source
   pub members : AreMembersOf source found.members

@@ -1,4 +1,4 @@
--- What an object has at each key.
+-- The values of an object at each key.
 use Rattle.std.specs.Prelude.{◌≡◌, ℕ, List, Option, Some, None, MatchOption, option_map}
 use Rattle.std.specs.Prelude.{slice_index_or, true}
 use Rattle.std.specs.List.{list_all}
@@ -23,13 +23,13 @@ use Rattle.dali_input.specs.declared.shallow.Shallow.{Shallow}
 abbrev pub held : Option Shallow → Option Data
 held value = option_map data_of value
 
--- the value at a key, without what stands inside it
+-- the value at a key, without its contents
 abbrev pub value_at : Key → Members → Option Data
 value_at Order members = held members.order
 value_at Unit members = held members.unit
 value_at (Of field) members = held (slice_index_or members.fields (rank_of field) None)
 
--- the members are those of the value, without what stands inside them; none where it is no object
+-- the members are those of the value, without their contents; none if it is no object
 pub record AreMembersOf (source : Data) (members : Members) : Type 0 where
   pub values : (key : Key) → value_at key members ≡ option_map emptied (get (text_of key) source)
   pub known : (all : JsonMembers) → as_object source ≡ Some all → list_all is_key (keys_of all) ≡ members.are_known

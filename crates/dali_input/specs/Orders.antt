@@ -1,4 +1,4 @@
--- What a list of orders says: its items, and what becomes of each.
+-- A list of orders: its items, and how each is judged.
 use Rattle.std.specs.Prelude.{◌≡◌, ◌≢◌, ◌+◌, ℕ, List, [], ◌∷◌, Some, None, Result, Ok, Err, map, ⊤}
 use Rattle.serde_json.specs.Data.{Data, Items, no_items, item}
 use Rattle.serde_json.specs.Find.{as_array}
@@ -13,7 +13,7 @@ use Rattle.dali_input.specs.Items.{Judges}
 abbrev pub orders_limit : ℕ
 orders_limit = 16777216
 
--- the items of an input of at most so many bytes
+-- the items of an input of at most `limit` bytes
 abbrev pub AreItems : ℕ → List ℕ → Items → Type 0
 AreItems limit input items = (json : Data) × IsJson limit input json × (as_array json ≡ Some items)
 

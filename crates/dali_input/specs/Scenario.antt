@@ -1,4 +1,4 @@
--- What a scenario file says.
+-- The contents of a scenario file.
 use Rattle.std.specs.Prelude.{◌≡◌, ◌↔◌, ◌≤◌, ◌^◌, ◌-◌, ℕ, List, [], ◌∷◌, Bool, true, false, Some, Ok, codes, length}
 use Rattle.std.specs.Prelude.{map}
 use Rattle.std.specs.Int.{bit_at}
@@ -72,8 +72,8 @@ pub record IsFate (json : Data) (plan : FatePlan) : Type 0 where
 
 -- ---- events
 
--- an order is submitted, whatever stands there, at a moment; so many steps are made; the program stops, and so many
--- bytes of a record reach the journal; or the unit at an address loses its power
+-- an order is submitted, whatever it is, at a moment; this many steps are made; the program stops, and this many bytes
+-- of a record reach the journal; or the unit at an address loses its power
 pub data PlannedEvent : Type 0 where
   submit : Data → ℕ → PlannedEvent
   steps : ℕ → PlannedEvent
@@ -84,7 +84,7 @@ pub data PlannedEvent : Type 0 where
 abbrev pub most_moment : ℕ
 most_moment = 2 ^ 64 - 1
 
--- an object with one key; beside an order its moment may stand, which is 0 where it is missing
+-- an object with one key; an order may have its moment beside it, which is 0 if it is missing
 abbrev pub IsEvent : Data → PlannedEvent → Type 0
 IsEvent json (submit order moment) =
     (has_only_keys (codes "submit" ∷ codes "moment" ∷ []) json ≡ true) × (get (codes "submit") json ≡ Some order)

@@ -1,4 +1,4 @@
--- What a scenario sets up: units, fates and events, and why one is refused.
+-- The parts that a scenario sets up: units, fates and events, and why one is refused.
 use Rattle.std.specs.Prelude.{◌≡◌, ◌≢◌, ◌+◌, ◌≤◌, ℕ, List, [], ◌∷◌, ◌++◌, length, map, replicate, ⊤}
 use Rattle.std.specs.List.{AllByRecursion, flat_map}
 use Rattle.dali_bank.specs.Order.{Contents}
@@ -100,7 +100,7 @@ IsOrderRefusal planned other = ⊥
 
 -- ---- the whole
 
--- the units stand at addresses of their own
+-- each unit has an address of its own
 pub record IsBus (planned : Planned) (units : List UnitState) : Type 0 where
   pub small : IsSmall planned
   pub made : AreUnits planned.units units
@@ -117,7 +117,7 @@ pub record HasBus (planned : Planned) : Type 0 where
   pub units : List UnitState
   pub bus : IsBus planned units
 
--- why a scenario can't be set up: the first of these that stands, in this order; want of memory may come at any
+-- why a scenario can't be set up: the first of these that applies, in this order; want of memory may come at any
 abbrev pub IsSetupRefused : Planned → SetupFault → Type 0
 IsSetupRefused planned (faults.Input TooBig) = ¬ IsSmall planned
 IsSetupRefused planned (faults.Input Memory) = ⊤

@@ -1,10 +1,10 @@
--- A JSON value without what stands inside it.
+-- A JSON value without its contents.
 use Rattle.serde_json.specs.Data.{Data, null, boolean, number, string, array, object, no_items, no_members}
 use Rattle.serde_json.specs.View.{number_view}
 use Rattle.dali_input.specs.declared.shallow.Shallow.{Shallow}
 use Rattle.dali_input.specs.declared.shallow.Shallow.TheVariants.{Null, Bool, Number, Text, Array, Object}
 
--- the value, where an array and an object are left empty
+-- the value, with an array or an object left empty
 abbrev pub emptied : Data → Data
 emptied null = null
 emptied (boolean b) = boolean b

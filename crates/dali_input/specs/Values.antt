@@ -1,4 +1,4 @@
--- What JSON values say.
+-- The meaning of JSON values.
 use Rattle.std.specs.Prelude.{◌≡◌, ◌≤◌, ℕ, List, [], ◌∷◌, Bool, false, Option, Some, None, option_and_then, option_map}
 use Rattle.std.specs.Prelude.{⊤}
 use Rattle.std.specs.Borrow.{Bor}
@@ -41,7 +41,7 @@ abbrev pub IsRequired : {X : Type 0} → (Data → X → Type 0) → Option Data
 IsRequired Says None x = ⊥
 IsRequired Says (Some json) x = Says json x
 
--- the member of a key that may be missing: then this stands for it
+-- the member of a key that may be missing: then `missing` takes its place
 abbrev pub IsOptional : {X : Type 0} → (Data → X → Type 0) → X → Option Data → X → Type 0
 IsOptional Says missing None x = x ≡ missing
 IsOptional Says missing (Some json) x = Says json x

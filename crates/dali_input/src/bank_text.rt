@@ -14,7 +14,7 @@ pub const TEXT_LIMIT: u32 = 4096;
 // The most bytes of a bank.
 const BANK_LIMIT: usize = 255;
 
-/// The most bytes of the text that is written of a bank: two digits for each byte, and one behind them.
+/// The most bytes of the text that is written of a bank: two digits for each byte, and one after them.
 pub const MOST_BANK_TEXT: usize = 765;
 
 // The most bytes of a row.
@@ -26,8 +26,8 @@ const DIGITS: &[u8; 16] = b"0123456789ABCDEF";
 /// The bytes of the memory bank that a text spells: two hexadecimal digits in either case for each,
 /// apart from spaces, tabs, line feeds and carriage returns anywhere (profile).
 ///
-/// InputFault 13 TooBig where the text has over 4096 bytes, 14 Hex where it spells no bytes, 13 TooBig
-/// where they are over 255, 20 Memory where there is no memory.
+/// InputFault 13 TooBig if the text has over 4096 bytes, 14 Hex if it spells no bytes, 13 TooBig if they are over 255,
+/// 20 Memory if there is no memory.
 pub fn bank_of(alloc: Global, input: Vec<u8>) -> Result<Vec<u8>, InputFault>
     ensures ok { IfOk result (λ bank. IsBankIn input.items bank.items) }
     ensures err { IfErr result (IsTextFault input.items) }

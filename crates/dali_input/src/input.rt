@@ -34,7 +34,7 @@ impl<R: Read> Input<R> {
         }
     }
 
-    /// Of what kind the failure of its reader was, where it has failed.
+    /// The kind of its reader's failure, if it has failed.
     pub fn cause(&self) -> Option<ErrorKind>
         ensures { is_some result ≡ (state_of R.remaining self.now).failed }
     {
@@ -55,8 +55,8 @@ impl<R: Read> Input<R> {
         }
     }
 
-    // Reads once, over the chunk. A read that a signal interrupts is made again, so often that no program lives to
-    // see the end of it. InputFault 20 Memory where the reader has no memory, else 21 File where it failed.
+    // Reads once, over the chunk. A read that a signal interrupts is made again, so often that no program lives to see
+    // the end of it. InputFault 20 Memory if the reader has no memory, else 21 File if it failed.
     fn read(&mut self, chunk: &mut [u8]) -> Result<usize, InputFault>
         ensures bound { IfOk result (λ count. count ≤ length chunk.new) }
         ensures bytes { ReadConsumes (R.remaining self.old.reader) (R.remaining self.new.reader) result chunk.new }
@@ -83,7 +83,7 @@ impl<R: Read> Input<R> {
 /// All that the reader has, or its first bytes up to one past the limit, any number: an input with more
 /// bytes than the limit is too big, and no more of it is read.
 ///
-/// InputFault 20 Memory where there is no memory, 21 File where the reader has failed.
+/// InputFault 20 Memory if there is no memory, 21 File if the reader has failed.
 pub fn read_input<R: Read>(
     alloc: Global,
     input: &mut Input<R>,
@@ -106,7 +106,7 @@ pub fn read_input<R: Read>(
     Ok(bytes)
 }
 
-// Reads once, over the chunk, and puts what it read behind the bytes. Whether that was anything.
+// Reads once, over the chunk, and appends what it read to the bytes. Whether that was anything.
 fn read_more<R: Read>(
     input: &mut Input<R>,
     bytes: &mut Vec<u8>,
@@ -133,8 +133,8 @@ fn read_more<R: Read>(
 
 /// The JSON value of an input.
 ///
-/// InputFault 13 TooBig where the input has more bytes than the limit, 11 Json where they are no JSON, 20
-/// Memory where there is no memory.
+/// InputFault 13 TooBig if the input has more bytes than the limit, 11 Json if they are no JSON, 20 Memory if there is
+/// no memory.
 pub fn json_of(alloc: Global, input: &[u8], limit: u32) -> Result<Value, InputFault>
     ensures ok { IfOk result (λ json. IsJson limit input.now (view json)) }
     ensures err { IfErr result (IsNoJson limit input.now) }

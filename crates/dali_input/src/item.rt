@@ -20,7 +20,7 @@ use std::fmt;
 /// Why an item of a list of orders was refused.
 #[derive(Clone, Copy, Debug, PartialEq, Eq)]
 pub enum ItemFault {
-    /// What a draft refuses.
+    /// A fault of a draft.
     Bank(BankFault),
     /// The item is no object with a whole number as order and one as unit.
     Shape,
@@ -63,14 +63,14 @@ impl Error for ItemFault {}
 /// An item of a list of orders.
 #[derive(Drop)]
 pub struct Item<'a> {
-    /// What it is, without what stands inside it.
+    /// Its kind, without its contents.
     pub value: Shallow<'a>,
-    /// What its members give, where it is an object.
+    /// The values of its members, if it is an object.
     pub members: Members<'a>,
 }
 
 impl<'a> Item<'a> {
-    /// What a JSON value is as an item.
+    /// A JSON value as an item.
     pub fn of(json: &'a Json) -> Item<'a>
         ensures { IsItem (view json.now) result }
     {
@@ -82,8 +82,8 @@ impl<'a> Item<'a> {
 
     /// The order that it spells.
     ///
-    /// The first ItemFault that stands (profile): 9 Shape, 10 Key, 1 Unit, then 2 Kind, 3 Range, 4 Gtin and
-    /// 5 Text of the fields by rising location, then 7 Voltage, 8 Empty.
+    /// The first ItemFault that applies (profile): 9 Shape, 10 Key, 1 Unit, then 2 Kind, 3 Range, 4 Gtin and 5 Text of
+    /// the fields by rising location, then 7 Voltage, 8 Empty.
     pub fn order(&self) -> Result<Order, ItemFault>
         ensures ok { IfOk result (λ order. (source : Data) → IsItem source self.now → IsOrderOf source order) }
         ensures err { IfErr result (λ fault. (source : Data) → IsItem source self.now → IsFaultOf source fault) }
@@ -115,7 +115,7 @@ fn order_of_members(members: &Members<'_>) -> Result<Order, ItemFault>
     }
 }
 
-// The empty draft for the number and the unit of an object, where it has no other key.
+// The empty draft for the number and the unit of an object, if it has no other key.
 fn empty_draft_of(members: &Members<'_>) -> Result<Draft, ItemFault>
     ensures ok { IfOk result (λ draft. (draft ≡ empty_draft draft.id draft.unit)
         × ((source : Data) → AreMembersOf source members.now
@@ -187,8 +187,8 @@ fn set_given(draft: &mut Draft, field: Field, value: Shallow<'_>) -> Result<(), 
     draft.set(field, given)
 }
 
-/// The fault of what a value gives to a field, whatever else the item has (profile): 2 Kind, 3 Range, 4 Gtin or 5
-/// Text. None where the field takes it.
+/// The fault of what a value gives to a field, whatever else the item has (profile): 2 Kind, 3 Range, 4 Gtin or 5 Text.
+/// None if the field takes it.
 pub fn field_fault(field: Field, value: Shallow<'_>) -> Option<BankFault>
     ensures fault { IfSome result (IsRefusedAs (data_of value.entry) field) }
     ensures none { IfNone result
@@ -203,7 +203,7 @@ pub fn field_fault(field: Field, value: Shallow<'_>) -> Option<BankFault>
     }
 }
 
-// What a value gives to a field, where it is of a kind that orders have.
+// The field value that a JSON value gives, if it is of a kind that orders have.
 fn given<'a>(field: Field, value: Shallow<'a>) -> Option<Value<'a>>
     ensures { option_map plain result ≡ given_value field (data_of value.entry) }
 {
@@ -218,7 +218,7 @@ fn given<'a>(field: Field, value: Shallow<'a>) -> Option<Value<'a>>
     }
 }
 
-// What a text gives to a field.
+// The field value that a text gives.
 fn text_given<'a>(field: Field, text: &'a str) -> Value<'a>
     ensures { plain result ≡ given_text field text.now }
 {

@@ -25,7 +25,7 @@ use std::alloc::Global;
 // How deep an item may nest: the array around it is one level.
 const ITEM_DEPTH: usize = MAX_DEPTH - 1;
 
-// How many keys of an item are kept to be told of: more than are told.
+// How many keys of an item are kept to be reported: more than are reported.
 const MOST_ODD: usize = 1001;
 
 /// The items of an array that are still to come, of a text that is known to be JSON to its end (profile). Of each no
@@ -35,15 +35,15 @@ pub struct Items<'a> {
     reader: Reader<'a>,
     // How many there are.
     left: u64,
-    // The keys of the last one that orders don't have, or that stand there again.
+    // The keys of the last one that orders don't have, or that occur there again.
     odd: OddKeys<'a>,
 }
 
 impl<'a> Items<'a> {
     /// The items of an input. It is read to its end, to know that it is JSON, and then again, item by item.
     ///
-    /// InputFault 13 TooBig where the input has more bytes than the limit, 11 Json where they are no JSON, 12
-    /// Document where the JSON is no array, 20 Memory where there is no memory.
+    /// InputFault 13 TooBig if the input has more bytes than the limit, 11 Json if they are no JSON, 12 Document if the
+    /// JSON is no array, 20 Memory if there is no memory.
     pub fn of(
         alloc: Global,
         input: &'a [u8],
@@ -83,13 +83,13 @@ impl<'a> Items<'a> {
         read_item(&mut self.reader, &mut self.odd).ok()
     }
 
-    /// The keys of the last item that orders don't have or that stand there again, for whoever tells of them.
+    /// The keys of the last item that orders don't have or that occur there again, for whoever reports them.
     pub fn odd_keys(&self) -> &OddKeys<'a> {
         &self.odd
     }
 }
 
-// The text of an input of at most so many bytes.
+// The text of an input of at most `limit` bytes.
 fn text_within(input: &[u8], limit: u32) -> Result<&str, InputFault>
     ensures ok { IfOk result (λ text. (length input.now ≤ limit) × IsUtf8 input.now × (text.now ≡ input.now)) }
     ensures err { IfErr result (IsNoJson limit input.now) }
@@ -156,7 +156,7 @@ fn fault_of_other<'a>(reader: &mut Reader<'a>, token: Token<'a>) -> InputFault
     InputFault::Document
 }
 
-// The item that comes next, and its keys that orders don't have. Invalid where there is none that `serde_json` reads.
+// The item that comes next, and its keys that orders don't have. Invalid if there is none that `serde_json` reads.
 fn read_item<'a>(reader: &mut Reader<'a>, odd: &mut OddKeys<'a>) -> Result<Item<'a>, Invalid>
     ensures ok { IfOk result (λ found. (source : Data) × IsItem source found
         × (converted of_json (value item_depth reader.old) ≡ Some (source, reader.new))) }

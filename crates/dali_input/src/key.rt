@@ -8,7 +8,7 @@ ghost use Rattle.dali_input.specs.Keys.{text_of};
 
 use dali_bank::Field;
 
-/// What a key of an order object names.
+/// The meaning of a key of an order object.
 #[derive(Clone, Copy)]
 pub enum Key {
     /// The order's number.
@@ -19,7 +19,7 @@ pub enum Key {
     Of(Field),
 }
 
-/// What the text names, where it is a key of order objects.
+/// The meaning of the text, if it is a key of order objects.
 pub fn key_named(text: &str) -> Option<Key>
     ensures named { IfSome result (λ key. text.now ≡ text_of key) }
     ensures none { IfNone result (is_key text.now ≡ false) }

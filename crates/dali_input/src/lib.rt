@@ -1,7 +1,9 @@
-//! What files say: bytes read up to a limit, banks in hexadecimal digits, JSON values, orders, and
-//! scenarios with what they set up (profile).
+//! The contents of files: bytes read up to a limit, banks in hexadecimal digits, JSON values, orders, and scenarios
+//! with what they set up (profile).
 //!
-//! What a file gives is never trusted: each call tells what stands there, or why it says nothing.
+//! The contents of a file are never trusted: each call reports what is there, or why it says nothing.
+//!
+//! A crate of its own: files are read and judged without a writer, beside whose proofs it is proved.
 #![tactic(auto)]
 
 mod bank_text;

@@ -22,7 +22,7 @@ use serde_json::Value as Json;
 // How many fields there are.
 const FIELDS: usize = Field::ALL.len();
 
-/// What an object has at each key of orders, gathered in one walk over it.
+/// The values of an object at each key of orders, gathered in one walk over it.
 #[derive(Drop)]
 pub struct Members<'a> {
     pub order: Option<Shallow<'a>>,
@@ -46,7 +46,7 @@ impl<'a> Members<'a> {
         }
     }
 
-    /// What the object gives to a field.
+    /// The value that the object gives to a field.
     pub fn field(&self, field: Field) -> Option<Shallow<'a>>
         ensures { held result ≡ value_at (Of field) self.now }
     {
@@ -54,7 +54,7 @@ impl<'a> Members<'a> {
         fields[field as usize]
     }
 
-    // Adds a key that orders have, where a member with it was taken before.
+    // Adds a key that orders have, if a member with it was taken before.
     fn tell_again<'b>(&self, key: &'b str, odd: &mut OddKeys<'b>) {
         let is_again = match key_named(key) {
             Some(Key::Order) => self.order.is_some(),
@@ -92,7 +92,7 @@ impl<'a> Members<'a> {
     }
 }
 
-/// The members of a value, none where it is no object.
+/// The members of a value, none if it is no object.
 pub fn members_of(item: &Json) -> Members<'_>
     ensures { AreMembersOf (view item.now) result }
 {
@@ -106,8 +106,8 @@ pub fn members_of(item: &Json) -> Members<'_>
     members
 }
 
-/// The members of the object behind whose brace the reader stands, with values nested at most so deep, up to the brace
-/// that closes it. Invalid where there is none that `serde_json` reads.
+/// The members of the object after whose brace the reader is, with values nested at most `depth` deep, up to the brace
+/// that closes it. Invalid if there is none that `serde_json` reads.
 pub fn read_members<'a>(
     reader: &mut Reader<'a>,
     depth: usize,

@@ -7,7 +7,7 @@ ghost use Rattle.serde_json.specs.View.{number_view};
 use fast_float::Numeral;
 use serde_json::Number;
 
-/// The number that a token of JSON spells. None where it is beyond all floats, as 1e999.
+/// The number that a token of JSON spells. None if it is beyond all floats, as 1e999.
 pub fn number_of(text: &str) -> Option<Number>
     ensures { option_map number_view result ≡ number_of text.now }
 {
@@ -36,7 +36,7 @@ fn positive(numeral: &Numeral<'_>) -> Option<Number>
     }
 }
 
-// The number of a numeral behind a minus.
+// The number of a numeral after a minus.
 fn negative(numeral: &Numeral<'_>) -> Option<Number>
     ensures { option_map number_view result ≡ number_from true numeral.now }
 {

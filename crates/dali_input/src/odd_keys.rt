@@ -1,7 +1,7 @@
 use std::alloc::Global;
 
-/// The keys of an item that a person is told of, each once: those that orders don't have, and those that stand there
-/// again. The first ones by their bytes; one for which there is no memory is left out.
+/// The keys of an item that are reported to a person, each once: those that orders don't have, and those that occur
+/// there again. The first ones by their bytes; one for which there is no memory is left out.
 #[derive(Drop)]
 pub struct OddKeys<'a> {
     keys: Vec<&'a str>,
@@ -10,7 +10,7 @@ pub struct OddKeys<'a> {
 }
 
 impl<'a> OddKeys<'a> {
-    /// No keys, of which at most so many will be kept.
+    /// No keys, of which at most `most` will be kept.
     pub(crate) fn new(alloc: Global, most: usize) -> OddKeys<'a> {
         OddKeys {
             keys: Vec::new(alloc),

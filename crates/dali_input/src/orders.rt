@@ -13,8 +13,8 @@ pub const ORDERS_LIMIT: u32 = 16_777_216;
 
 /// The orders of an input, or all its items that are refused, counted from 1, each with its fault (profile).
 ///
-/// InputFault 13 TooBig where there are more than 16777216 bytes, 11 Json where they are no JSON, 12 Document where the
-/// JSON is no array, 20 Memory where there is no memory.
+/// InputFault 13 TooBig if there are more than 16777216 bytes, 11 Json if they are no JSON, 12 Document if the JSON is
+/// no array, 20 Memory if there is no memory.
 pub fn read_orders(
     alloc: Global,
     input: &[u8],

@@ -29,7 +29,7 @@ const MOST_BANK_DIGITS: usize = 512;
 /// A unit of a scenario, as its object says it (profile).
 #[derive(Drop)]
 pub struct UnitPlan {
-    /// Its short address, 0 to 255: whether it is one is tested where the unit is made.
+    /// Its short address, 0 to 255: whether it is one is tested when the unit is made.
     pub address: u8,
     /// The bytes of its bank 1, at most 256.
     pub bank: Vec<u8>,
@@ -44,18 +44,18 @@ pub struct UnitPlan {
 pub struct FatePlan {
     /// How many frames in a row have it.
     pub times: u32,
-    /// What becomes of each.
+    /// The fate of each.
     pub fate: Fate,
 }
 
 /// An event of a scenario (profile).
 #[derive(Clone, Copy, Drop)]
 pub enum EventPlan<'a> {
-    /// An order is submitted, what stands there, at a moment.
+    /// An order is submitted, whatever it is, at a moment.
     Submit(&'a Json, u64),
     /// So many steps are made, 1 to 20000.
     Steps(u32),
-    /// The program stops, and at most so many bytes of the record that was to be kept reach the journal.
+    /// The program stops, and at most this many bytes of the record that was to be kept reach the journal.
     Stop(u16),
     /// The unit at this short address, 0 to 63, loses its power and gets it back.
     Power(u8),
@@ -75,7 +75,7 @@ impl EventPlan<'_> {
     }
 }
 
-/// What a scenario file says (profile).
+/// The contents of a scenario file (profile).
 #[derive(Drop)]
 pub struct Scenario<'a> {
     /// The most orders of the journal, any number.
@@ -86,11 +86,11 @@ pub struct Scenario<'a> {
     pub units: Vec<UnitPlan>,
     /// The fates of the frames, in their order.
     pub fates: Vec<FatePlan>,
-    /// What is done, in its order.
+    /// The events, in their order.
     pub events: Vec<EventPlan<'a>>,
 }
 
-// What a unit's object says.
+// The unit that an object describes.
 fn unit_plan(alloc: Global, json: &Json) -> Result<UnitPlan, InputFault>
     ensures ok { IfOk result (λ plan. IsUnit (view json.now) (unit_planned plan)) }
     ensures err { IfErr result (IsNoReading (IsUnit (view json.now))) }
@@ -118,7 +118,7 @@ fn address_in(json: Option<&Json>) -> Result<u8, InputFault>
     }
 }
 
-// The bytes of a unit's bank 1: a blank one where there are none.
+// The bytes of a unit's bank 1: a blank one if there are none.
 fn bank_in(alloc: Global, json: Option<&Json>) -> Result<Vec<u8>, InputFault>
     ensures ok { IfOk result (λ bank. IsOptional IsBankText blank_bank (value_if_any json.entry) bank.items) }
     ensures err { IfErr result (IsNoReading (IsOptional IsBankText blank_bank (value_if_any json.entry))) }
@@ -136,7 +136,7 @@ fn bank_in(alloc: Global, json: Option<&Json>) -> Result<Vec<u8>, InputFault>
     }
 }
 
-// The fixed locations of a unit: none where there is no list.
+// The fixed locations of a unit: none if there is no list.
 fn fixed_in(alloc: Global, json: Option<&Json>) -> Result<Vec<u8>, InputFault>
     ensures ok { IfOk result (λ fixed. IsOptional AreBytes [] (value_if_any json.entry) fixed.items) }
     ensures err { IfErr result (IsNoReading (IsOptional AreBytes [] (value_if_any json.entry))) }
@@ -147,7 +147,7 @@ fn fixed_in(alloc: Global, json: Option<&Json>) -> Result<Vec<u8>, InputFault>
     }
 }
 
-// DTR0, DTR1 and DTR2 of a unit: zeros where there is no list.
+// DTR0, DTR1 and DTR2 of a unit: zeros if there is no list.
 fn dtrs_in(alloc: Global, json: Option<&Json>) -> Result<(u8, u8, u8), InputFault>
     ensures ok { IfOk result (IsOptional AreDtrs (0, 0, 0) (value_if_any json.entry)) }
     ensures err { IfErr result (IsNoReading (IsOptional AreDtrs (0, 0, 0) (value_if_any json.entry))) }
@@ -163,7 +163,7 @@ fn dtrs_in(alloc: Global, json: Option<&Json>) -> Result<(u8, u8, u8), InputFaul
     Ok((dtrs[0], dtrs[1], dtrs[2]))
 }
 
-// What a fate's object says.
+// The fate that an object describes.
 fn fate_plan(alloc: Global, json: &Json) -> Result<FatePlan, InputFault>
     ensures ok { IfOk result (IsFate (view json.now)) }
     ensures err { IfErr result (IsNoReading (IsFate (view json.now))) }
@@ -184,7 +184,7 @@ fn fate_plan(alloc: Global, json: &Json) -> Result<FatePlan, InputFault>
     })
 }
 
-// How many frames have a fate: one where nothing stands there.
+// How many frames have a fate: one if nothing is given there.
 fn times_in(json: Option<&Json>) -> Result<u32, InputFault>
     ensures ok { IfOk result (IsOptional (IsWhole 1 most_events) 1 (value_if_any json.entry)) }
     ensures err { IfErr result (IsNoReading (IsOptional (IsWhole 1 most_events) 1 (value_if_any json.entry))) }
@@ -196,7 +196,7 @@ fn times_in(json: Option<&Json>) -> Result<u32, InputFault>
     }
 }
 
-// The units that don't hear a frame: none where there is no list.
+// The units that don't hear a frame: none if there is no list.
 fn lost_in(alloc: Global, json: Option<&Json>) -> Result<u64, InputFault>
     ensures ok { IfOk result (IsOptional AreLost 0 (value_if_any json.entry)) }
     ensures err { IfErr result (IsNoReading (IsOptional AreLost 0 (value_if_any json.entry))) }
@@ -220,7 +220,7 @@ fn bits_of(addresses: &[u8]) -> u64
     bits
 }
 
-// Whether something is so: not so where nothing stands there.
+// Whether something is so: not so if nothing is given there.
 fn boolean_in(json: Option<&Json>) -> Result<bool, InputFault>
     ensures ok { IfOk result (IsOptional IsBoolean false (value_if_any json.entry)) }
     ensures err { IfErr result (IsNoReading (IsOptional IsBoolean false (value_if_any json.entry))) }
@@ -232,7 +232,7 @@ fn boolean_in(json: Option<&Json>) -> Result<bool, InputFault>
     }
 }
 
-// The moment at which an order is submitted: 0 where nothing stands there.
+// The moment at which an order is submitted: 0 if nothing is given there.
 fn moment_in(json: Option<&Json>) -> Result<u64, InputFault>
     ensures ok { IfOk result (IsOptional (IsWhole 0 most_moment) 0 (value_if_any json.entry)) }
     ensures err { IfErr result (IsNoReading (IsOptional (IsWhole 0 most_moment) 0 (value_if_any json.entry))) }
@@ -244,10 +244,10 @@ fn moment_in(json: Option<&Json>) -> Result<u64, InputFault>
     }
 }
 
-/// What an object with the key "submit" submits, whatever stands there, and at which moment: 0 where it says none
+/// The order that an object with the key "submit" submits, whatever it is, and at which moment: 0 if it gives none
 /// (profile). None of a value that hasn't that key.
 ///
-/// InputFault 12 Document where the object has other keys than "submit" and "moment", or its moment is none.
+/// InputFault 12 Document if the object has other keys than "submit" and "moment", or its moment is none.
 pub fn submission_of(json: &Json) -> Option<Result<(&Json, u64), InputFault>>
     ensures none { IfNone result (get (codes "submit") (view json.now) ≡ None) }
     ensures some { IfSome result (λ reading. IsSome (get (codes "submit") (view json.now))) }
@@ -268,7 +268,7 @@ pub fn submission_of(json: &Json) -> Option<Result<(&Json, u64), InputFault>>
     }
 }
 
-// What an event's object says.
+// The event that an object describes.
 fn event_plan(json: &Json) -> Result<EventPlan<'_>, InputFault>
     ensures ok { IfOk result (λ plan. IsEvent (view json.now) (event_of plan)) }
     ensures err { IfErr result (IsNoReading (IsEvent (view json.now))) }
@@ -299,7 +299,7 @@ fn event_plan(json: &Json) -> Result<EventPlan<'_>, InputFault>
     Err(InputFault::Document)
 }
 
-// What the values of an array of units say.
+// The units that an array describes.
 fn unit_plans(alloc: Global, json: Option<&Json>) -> Result<Vec<UnitPlan>, InputFault>
     ensures ok { IfOk result
         (λ plans. IsRequired (IsArrayOf IsUnit) (value_if_any json.entry) (map unit_planned plans.items)) }
@@ -318,7 +318,7 @@ fn unit_plans(alloc: Global, json: Option<&Json>) -> Result<Vec<UnitPlan>, Input
     Ok(plans)
 }
 
-// What the values of an array of fates say: no fates where there is none.
+// The fates that an array describes: no fates if there is none.
 fn fate_plans(alloc: Global, json: Option<&Json>) -> Result<Vec<FatePlan>, InputFault>
     ensures ok { IfOk result (λ plans. IsOptional (IsArrayOf IsFate) [] (value_if_any json.entry) plans.items) }
     ensures err { IfErr result (IsNoReading (IsOptional (IsArrayOf IsFate) [] (value_if_any json.entry))) }
@@ -336,7 +336,7 @@ fn fate_plans(alloc: Global, json: Option<&Json>) -> Result<Vec<FatePlan>, Input
     Ok(plans)
 }
 
-// What the values of an array of events say.
+// The events that an array describes.
 fn event_plans<'a>(alloc: Global, json: Option<&'a Json>) -> Result<Vec<EventPlan<'a>>, InputFault>
     ensures ok { IfOk result
         (λ plans. IsRequired (IsArrayOf IsEvent) (value_if_any json.entry) (map event_of plans.items)) }
@@ -355,9 +355,9 @@ fn event_plans<'a>(alloc: Global, json: Option<&'a Json>) -> Result<Vec<EventPla
     Ok(plans)
 }
 
-/// What a scenario file says.
+/// The contents of a scenario file.
 ///
-/// InputFault 12 Document where it isn't of the form of a scenario, 20 Memory where there is no memory.
+/// InputFault 12 Document if it isn't of the form of a scenario, 20 Memory if there is no memory.
 pub fn scenario_of(alloc: Global, json: &Json) -> Result<Scenario<'_>, InputFault>
     ensures ok { IfOk result (λ scenario. IsScenario (view json.now) (planned_of scenario)) }
     ensures err { IfErr result (IsNoReading (IsScenario (view json.now))) }
@@ -389,7 +389,7 @@ fn limit_in(json: Option<&Json>) -> Result<u64, InputFault>
     }
 }
 
-// The plan of the sessions: the checked one where nothing stands there.
+// The plan of the sessions: the checked one if nothing is given there.
 fn pace_in(json: Option<&Json>) -> Result<Pace, InputFault>
     ensures ok { IfOk result (IsOptional IsPlan Pace.Checked (value_if_any json.entry)) }
     ensures err { IfErr result (IsNoReading (IsOptional IsPlan Pace.Checked (value_if_any json.entry))) }
@@ -416,7 +416,7 @@ impl Scenario<'_> {
     }
 }
 
-// How many events these stand for, up to the most that a `u64` tells.
+// How many events these stand for, up to the most that a `u64` holds.
 fn count_events(plans: &[EventPlan<'_>]) -> u64
     ensures { result ≡ min (sum_by (λ plan. event_count (event_of plan)) plans.now) (2 ^ 64 - 1) }
 {
@@ -427,7 +427,7 @@ fn count_events(plans: &[EventPlan<'_>]) -> u64
     count
 }
 
-// How many fates these stand for, up to the most that a `u64` tells.
+// How many fates these stand for, up to the most that a `u64` holds.
 fn count_fates(plans: &[FatePlan]) -> u64
     ensures { result ≡ min (sum_by (λ plan. plan.times) plans.now) (2 ^ 64 - 1) }
 {

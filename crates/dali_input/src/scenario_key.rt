@@ -1,5 +1,5 @@
-//! The keys of the objects of a scenario (profile): one name for each, for whoever reads it and whoever tells what is
-//! wrong there.
+//! The keys of the objects of a scenario (profile): one name for each, for reading it and for notes on what is wrong
+//! there.
 
 /// Of a scenario: the most orders of the journal.
 pub const LIMIT: &str = "limit";

@@ -51,20 +51,20 @@ impl<T: Drop> From<AllocFailed<T>> for SetupFault {
     }
 }
 
-/// What a scenario sets up (profile).
+/// The parts that a scenario sets up (profile).
 #[derive(Drop)]
 pub struct Setup {
     /// The units, and the fates of the frames.
     pub bus: SimBus,
-    /// What is done, in its order.
+    /// The events, in their order.
     pub events: Vec<Event>,
 }
 
 /// The units, the fates and the events of a scenario.
 ///
-/// The first that stands: fault 13 TooBig where there are over 20000 events or fates; the fault of
-/// the first unit that can't be made, 1 Address, 2 Size or 3 Fixed; 5 SameAddress where two units are
-/// at one address; the fault of the first order that is refused. 20 Memory where there is no memory.
+/// The first fault that applies: fault 13 TooBig if there are over 20000 events or fates; the fault of the first unit
+/// that can't be made, 1 Address, 2 Size or 3 Fixed; 5 SameAddress if two units are at one address; the fault of the
+/// first order that is refused. 20 Memory if there is no memory.
 pub fn setup_of(alloc: Global, scenario: &Scenario<'_>) -> Result<Setup, SetupFault>
     ensures ok { IfOk result
         (λ setup. IsSetUp (planned_of scenario.now) setup.bus.units setup.bus.fates setup.events.items) }
@@ -158,7 +158,7 @@ fn fates_of(alloc: Global, plans: &[FatePlan]) -> Result<Vec<Fate>, AllocError>
     Ok(fates)
 }
 
-// Puts a fate at the end, so many times.
+// Appends a fate this many times.
 fn push_fates(fates: &mut Vec<Fate>, fate: Fate, times: u32) -> Result<(), AllocError>
     ensures { OnOk result (fates.new.items ≡ fates.old.items ++ replicate times fate) }
 {
@@ -190,7 +190,7 @@ fn events_of(alloc: Global, plans: &[EventPlan<'_>]) -> Result<Vec<Event>, Setup
     Ok(events)
 }
 
-// Puts so many steps at the end.
+// Appends this many steps.
 fn push_steps(events: &mut Vec<Event>, count: u32) -> Result<(), AllocError>
     ensures { OnOk result (events.new.items ≡ events.old.items ++ replicate count Step) }
 {

@@ -4,7 +4,7 @@ ghost use Rattle.dali_input.specs.Shallow.{data_of, emptied};
 
 use serde_json::{Number, Value as Json};
 
-/// A JSON value without what stands inside it.
+/// A JSON value without its contents.
 #[derive(Clone, Copy, Drop)]
 pub enum Shallow<'a> {
     Null,
@@ -16,7 +16,7 @@ pub enum Shallow<'a> {
 }
 
 impl<'a> Shallow<'a> {
-    /// What a value is, without what stands inside it.
+    /// A value without its contents.
     pub fn of(json: &'a Json) -> Shallow<'a>
         ensures { data_of result ≡ emptied (view json.now) }
     {

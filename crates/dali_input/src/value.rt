@@ -1,4 +1,4 @@
-// From tokens to a value, of which nothing is kept that stands inside it.
+// From tokens to a value, whose contents aren't kept.
 ghost use Rattle.std.specs.Prelude.{◌≡◌, ◌<◌, ◌≤◌, ◌∷◌, IfOk, None, Ok, OnOk, Some, is_err, length, true};
 ghost use Rattle.json.specs.Json.{items, members, value};
 ghost use Rattle.json.specs.Reads.{token_of};
@@ -14,8 +14,8 @@ use std::alloc::AllocError;
 /// How deep a text may nest, as `serde_json` reads it.
 pub const MAX_DEPTH: usize = 127;
 
-/// The value that a whole text is, as `serde_json` reads it, or how many of its bytes stand in front of where it stops
-/// being JSON.
+/// The value that a whole text is, as `serde_json` reads it, or how many of its bytes come before the place where it
+/// stops being JSON.
 pub fn value_of_text<'a>(
     text: &'a str,
     scratch: &'a mut Scratch,
@@ -35,7 +35,7 @@ pub fn value_of_text<'a>(
     }
 }
 
-/// The value that a token begins, nested at most so deep. Invalid where there is none that `serde_json` reads.
+/// The value that a token begins, nested at most `depth` deep. Invalid if there is none that `serde_json` reads.
 #[cycle(read)]
 #[inline(always)]
 pub fn value_of<'a>(
@@ -76,7 +76,7 @@ pub fn value_of<'a>(
     }
 }
 
-/// The value that comes next, nested at most so deep. Invalid where there is none that `serde_json` reads.
+/// The value that comes next, nested at most `depth` deep. Invalid if there is none that `serde_json` reads.
 #[cycle(read)]
 #[inline(always)]
 pub fn read_value<'a>(reader: &mut Reader<'a>, depth: usize) -> Result<Shallow<'a>, Invalid>
@@ -91,7 +91,7 @@ pub fn read_value<'a>(reader: &mut Reader<'a>, depth: usize) -> Result<Shallow<'
     }
 }
 
-// Passes the items of an array behind its bracket, and the bracket that closes it.
+// Passes the items of an array after its bracket, and the bracket that closes it.
 #[cycle(read)]
 #[inline(never)]
 fn pass_items(reader: &mut Reader<'_>, depth: usize) -> Result<(), Invalid>
@@ -107,7 +107,7 @@ fn pass_items(reader: &mut Reader<'_>, depth: usize) -> Result<(), Invalid>
     Ok(())
 }
 
-// Passes the members of an object behind its brace, and the brace that closes it.
+// Passes the members of an object after its brace, and the brace that closes it.
 #[cycle(read)]
 #[inline(never)]
 fn pass_members(reader: &mut Reader<'_>, depth: usize) -> Result<(), Invalid>

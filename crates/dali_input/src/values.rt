@@ -35,7 +35,7 @@ fn is_one_of(text: &str, texts: &[&str]) -> bool
 
 /// The whole number that a value is.
 ///
-/// InputFault 12 Document where it is none, or one that isn't within the bounds.
+/// InputFault 12 Document if it is none, or one that isn't within the bounds.
 pub fn whole_within(json: &Json, least: u64, most: u64) -> Result<u64, InputFault>
     ensures ok { IfOk result (IsWhole least most (view json.now)) }
     ensures err { IfErr result (IsNoReading (IsWhole least most (view json.now))) }
@@ -49,7 +49,7 @@ pub fn whole_within(json: &Json, least: u64, most: u64) -> Result<u64, InputFaul
 
 /// The whole numbers that an array holds, 0 to `most` each.
 ///
-/// InputFault 12 Document where the value is no such array, 20 Memory where there is no memory.
+/// InputFault 12 Document if the value is no such array, 20 Memory if there is no memory.
 pub fn numbers_of(alloc: Global, json: &Json, most: u8) -> Result<Vec<u8>, InputFault>
     ensures ok { IfOk result (λ numbers. IsArrayOf (IsWhole 0 most) (view json.now) numbers.items) }
     ensures err { IfErr result (IsNoReading (IsArrayOf (IsWhole 0 most) (view json.now))) }

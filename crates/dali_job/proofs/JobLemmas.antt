@@ -18,7 +18,8 @@ use Rattle.dali_job.specs.Jobs.{HasFlag, HasNumber, HasOption, HasValue, IsEnter
 use Rattle.dali_job.specs.Jobs.{AreUnits, IsApp, IsNoAddress, IsNoScan, IsRule}
 use Rattle.dali_job.specs.Jobs.{IsNoJob, IsNumber, bench_app}
 use Rattle.dali_job.specs.declared.job.Job.{Job}
-use Rattle.dali_job.specs.declared.job.Job.TheVariants.{Address, Check, Run, Frame, Show, Journal, Drive, Read, Verify, Scan}
+use Rattle.dali_job.specs.declared.job.Job.TheVariants.{Address, Check, Run, Frame, Show, Journal, Fields, Drive, Read}
+use Rattle.dali_job.specs.declared.job.Job.TheVariants.{Verify, Scan}
 
 bench_is_simple : is_simple bench_app ≡ true
 unfolding clap_on_literals
@@ -152,7 +153,7 @@ units_more (text ∷ texts) (suc index) d (first ∷ units) unit below are is =
     let rest = units_more texts index d units unit (omega arith) (are.0.1, are.1.1) is in
     ((are.0.0, rest.0), (are.1.0, rest.1))
 
--- where one text is none, they are no short addresses
+-- if one text is none, they are no short addresses
 pub no_units : (texts : List (Bor Text)) (index : ℕ) (d : Bor Text) → index < length texts
     → ((unit : ℕ) → ¬ (IsNumber (get_or texts index d).now unit × (unit ≤ 63)))
     → (units : List ℕ) → ¬ AreUnits (texts_of texts) units
@@ -172,7 +173,7 @@ with_argument was argument app rule more (app_is, local) (rule_is, own) added = 
   added.globals ∙ ap₂ (λ old new. old || new) local own,
 )
 
--- where a command was made and got one more argument, it is with it
+-- if a command was made and got one more argument, it is with it
 pub with_next : (E : Type 0) (made : Result Command E) (argument : Arg) (more : Result Command E) (app : App)
     (rule : Rule) → IfOk made (IsApp app) → IsRule rule argument
     → IfOk more (λ all. IsOkAnd made (λ command. AddsArg command argument all))
@@ -181,7 +182,7 @@ with_next E (Ok was) argument (Ok more) app rule is own added = with_argument wa
 with_next E (Err error) argument (Ok more) app rule is own added = absurd added
 with_next E made argument (Err error) app rule is own added = tt
 
--- where a program and a command were made and joined, the program is with it
+-- if a program and a command were made and joined, the program is with it
 pub with_added : (E : Type 0) (program made all : Result Command E) (before next : App)
     → IfOk program (λ was. app_of was ≡ before) → IfOk made (IsApp next)
     → IfOk all (λ all. IsOkAnd program (λ was. IsOkAnd made (λ command. AddsSubcommand was command all)))
@@ -195,8 +196,9 @@ with_added E program made (Err error) before next was_is is_next added = tt
 
 -- ---- jobs
 
--- where no command has its value, the parse entered no job's
+-- if no command has its value, the parse entered no job's
 pub no_job : (entered : Option (Text × List Row))
+    → ¬ IsEntered entered (codes "fields")
     → ((value : Text) → ¬ HasValue entered (codes "run") (codes "SCENARIO") value)
     → ((value : Text) → ¬ HasValue entered (codes "frame") (codes "HEX") value)
     → ((value : Text) → ¬ HasValue entered (codes "show") (codes "HEXFILE") value)
@@ -204,26 +206,27 @@ pub no_job : (entered : Option (Text × List Row))
     → ((value : Text) → ¬ HasValue entered (codes "verify") (codes "ORDERS") value)
     → ((unit : ℕ) (bank : Bor Text) (progress : Bool) → ¬ IsJob entered (Read unit bank progress))
     → IsNoCheck entered → IsNoScan entered → IsNoAddress entered → IsNoDrive entered → IsNoJob entered
-no_job _ no_scenario _ _ _ _ _ _ _ _ _ (Run scenario _) = λ named. no_scenario scenario.now named.0
-no_job _ _ no_digits _ _ _ _ _ _ _ _ (Frame digits) = no_digits digits.now
-no_job _ _ _ no_dump _ _ _ _ _ _ _ (Show dump) = no_dump dump.now
-no_job _ _ _ _ no_records _ _ _ _ _ _ (Journal records _) = λ named. no_records records.now named.0
-no_job _ _ _ _ _ no_compared _ _ _ _ _ (Verify orders _ _) = λ named. no_compared orders.now named.0
-no_job _ _ _ _ _ _ no_read _ _ _ _ (Read unit bank progress) = no_read unit bank progress
-no_job _ _ _ _ _ _ _ no_check _ _ _ (Check orders journal older) = no_check orders journal older
-no_job _ _ _ _ _ _ _ _ no_scan _ _ (Scan units with_gtin progress) = no_scan units with_gtin progress
-no_job _ _ _ _ _ _ _ _ _ no_address _ (Address units all list count journal progress) =
+no_job _ no_fields _ _ _ _ _ _ _ _ _ _ Fields = no_fields
+no_job _ _ no_scenario _ _ _ _ _ _ _ _ _ (Run scenario _) = λ named. no_scenario scenario.now named.0
+no_job _ _ _ no_digits _ _ _ _ _ _ _ _ (Frame digits) = no_digits digits.now
+no_job _ _ _ _ no_dump _ _ _ _ _ _ _ (Show dump) = no_dump dump.now
+no_job _ _ _ _ _ no_records _ _ _ _ _ _ (Journal records _) = λ named. no_records records.now named.0
+no_job _ _ _ _ _ _ no_compared _ _ _ _ _ (Verify orders _ _) = λ named. no_compared orders.now named.0
+no_job _ _ _ _ _ _ _ no_read _ _ _ _ (Read unit bank progress) = no_read unit bank progress
+no_job _ _ _ _ _ _ _ _ no_check _ _ _ (Check orders journal older) = no_check orders journal older
+no_job _ _ _ _ _ _ _ _ _ no_scan _ _ (Scan units with_gtin progress) = no_scan units with_gtin progress
+no_job _ _ _ _ _ _ _ _ _ _ no_address _ (Address units all list count journal progress) =
     no_address units all list count journal progress
-no_job _ _ _ _ _ _ _ _ _ _ no_drive
+no_job _ _ _ _ _ _ _ _ _ _ _ no_drive
     (Drive orders journal moment follow short_plan require_done require_now require_journal progress report older) =
     no_drive orders journal moment follow short_plan require_done require_now require_journal progress report older
 
--- what follows from what there is where no job was found
+-- what follows from what there is if no job was found
 pub none_then : (found : Option Job) (P Q : Type 0) → (P → Q) → IfNone found P → IfNone found Q
 none_then None P Q follows none = follows none
 none_then (Some job) P Q follows none = tt
 
--- what `get_one` reads of a text as a `bool` is true exactly where the text is `true`
+-- what `get_one` reads of a text as a `bool` is true exactly when the text is `true`
 read_as_true : (E : Type 0) (text : Option Text) (o : Option Bool) → (text ≡ None → o ≡ None)
     → ((t : Text) → text ≡ Some t → ReadsOne {E = E} ParsesBool t o)
     → Decides (option_eq beq o (Some true)) (text ≡ Some (codes "true"))
@@ -236,7 +239,7 @@ read_as_true E (Some t) (Some false) none value =
     let as_false : t ≡ codes "false" = value t refl in
     (λ is_true. cc, λ given. cc)
 
--- the same of a flag, where a parse entered the command
+-- the same of a flag, if a parse entered the command
 pub flag_decided : (E : Type 0) (entered : Option (Text × List Row)) (command id : Text) (rows : List Row)
     (o : Option Bool)
     → entered ≡ Some (command, rows)

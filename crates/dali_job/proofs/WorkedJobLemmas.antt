@@ -4,9 +4,10 @@ use Rattle.std.proofs.Common.{option_map, subst, get_or}
 use Rattle.std.specs.Prelude.{unwrap_or}
 use Rattle.std.specs.declared.vec.Vec.{Vec}
 use Rattle.std.specs.declared.alloc.Global.{Global}
-use Rattle.clap.specs.Words.{Row, Text, all_of, first_of, one_of, subcommand_of}
+use Rattle.clap.specs.Words.{Row, Text, all_of, fault_of, first_of, one_of, subcommand_of}
+use Rattle.clap.specs.declared.error.kind.ErrorKind.TheVariants.{UnknownArgument}
 use Rattle.clap.proofs.OnLiterals.{clap_on_literals}
-use Rattle.dali_job.specs.declared.job.Job.TheVariants.{Address, Check, Run, Read, Verify, Scan}
+use Rattle.dali_job.specs.declared.job.Job.TheVariants.{Address, Check, Run, Fields, Read, Verify, Scan}
 use Rattle.dali_job.specs.Jobs.{AreUnits, HasFlag, HasNumber, HasOption, HasUnits, HasValue, HasValues, IsJobOf}
 use Rattle.dali_job.specs.Jobs.{IsNumber, bench_app}
 
@@ -144,6 +145,24 @@ unfolding clap_on_literals
 journal_not_dropped orders older = λ is.
     let (rows, entered, none) = is.1 in
     let left_out : Some (codes "j") ≡ None = ap (λ e. first_of (codes "journal") (rows_in e)) entered ∙ none in cc
+
+pub fields_asked : IsJobOf (codes "dali_bench" ∷ codes "fields" ∷ []) Fields
+unfolding clap_on_literals
+fields_asked = (rows_in (entered_by (codes "fields" ∷ [])), refl)
+
+pub no_fields_asked_by_check : ¬ IsJobOf (codes "dali_bench" ∷ codes "check" ∷ codes "a" ∷ []) Fields
+unfolding clap_on_literals
+no_fields_asked_by_check = λ (rows, entered). let other : codes "check" ≡ codes "fields" = ap name_in entered in cc
+
+-- it takes no argument
+pub no_fields_of_a_file : fault_of bench_app (codes "dali_bench" ∷ codes "fields" ∷ codes "a" ∷ [])
+    ≡ UnknownArgument ∷ []
+unfolding clap_on_literals
+no_fields_of_a_file = refl
+
+pub no_fault_without_it : fault_of bench_app (codes "dali_bench" ∷ codes "fields" ∷ []) ≡ []
+unfolding clap_on_literals
+no_fault_without_it = refl
 
 -- ---- a flag
 

@@ -16,7 +16,8 @@ use Rattle.clap.specs.declared.builder.ArgAction.{ArgAction}
 use Rattle.clap.specs.declared.builder.ArgAction.TheVariants.{Append, Set, SetTrue}
 use Rattle.clap.specs.declared.builder.ValueParser.TheVariants.{Unsigned}
 use Rattle.dali_job.specs.declared.job.Job.{Job}
-use Rattle.dali_job.specs.declared.job.Job.TheVariants.{Address, Check, Run, Frame, Show, Journal, Drive, Read, Verify, Scan}
+use Rattle.dali_job.specs.declared.job.Job.TheVariants.{Address, Check, Run, Frame, Show, Journal, Fields, Drive, Read}
+use Rattle.dali_job.specs.declared.job.Job.TheVariants.{Verify, Scan}
 
 -- `clap` sees this command, none of whose arguments is also one of its own commands
 abbrev pub IsApp : App → Command → Type 0
@@ -34,7 +35,7 @@ value_rule id = record (new_rule id) { required = true; action = Some Set }
 abbrev pub flag_rule : Text → Rule
 flag_rule id = record (new_rule id) { long = Some id; action = Some SetTrue }
 
--- an option under its own name, which takes a number of a `u64`, and has this one where it isn't given
+-- an option under its own name, which takes a number of a `u64`, and has this one if it isn't given
 abbrev pub number_rule : Text → Text → Rule
 number_rule id missing = record (new_rule id) {
   long = Some id;
@@ -84,8 +85,8 @@ run_app = with_rule (command_app (codes "run") (codes "SCENARIO")) (flag_rule (c
 abbrev pub journal_app : App
 journal_app = with_rule (command_app (codes "journal") (codes "FILE")) (flag_rule (codes "updates"))
 
--- the command that drives, with its two files, the moment, which is 0 where it isn't given, its six flags, its
--- report, and the older journals
+-- the command that drives, with its two files, the moment, which is 0 if it isn't given, its six flags, its report, and
+-- the older journals
 abbrev pub drive_app : App
 drive_app = let files = with_rule (command_app (codes "drive") (codes "ORDERS")) (value_rule (codes "JOURNAL")) in
     let timed = with_rule files (number_rule (codes "moment") (codes "0")) in
@@ -112,7 +113,7 @@ abbrev pub scan_app : App
 scan_app = let units = with_rule (new_app (codes "scan")) (units_rule (codes "UNIT")) in
     with_rule (with_rule units (flag_rule (codes "gtin"))) (flag_rule (codes "progress"))
 
--- the command that gives short addresses, with them, its flags, and the journal that has to stand idle
+-- the command that gives short addresses, with them, its flags, and the journal that has to be idle
 abbrev pub address_app : App
 address_app = let units = with_rule (new_app (codes "address")) (units_rule (codes "UNIT")) in
     let listed = with_rule (with_rule units (flag_rule (codes "all"))) (flag_rule (codes "list")) in
@@ -126,7 +127,8 @@ bench_app = let checks = with_subcommand top_app check_app.top in
     let frames = with_subcommand runs (command_app (codes "frame") (codes "HEX")).top in
     let shows = with_subcommand frames (command_app (codes "show") (codes "HEXFILE")).top in
     let journals = with_subcommand shows journal_app.top in
-    let drives = with_subcommand journals drive_app.top in
+    let fields = with_subcommand journals (new_app (codes "fields")).top in
+    let drives = with_subcommand fields drive_app.top in
     let reads = with_subcommand drives read_app.top in
     let verifies = with_subcommand reads verify_app.top in
     let scans = with_subcommand verifies scan_app.top in
@@ -146,12 +148,12 @@ abbrev pub IsLeftOut : Option (Text × List Row) → Text → Text → Type 0
 IsLeftOut entered command id =
     (rows : List Row) × (entered ≡ Some (command, rows)) × (first_of id rows ≡ None)
 
--- a parse entered the command, and its option has the value that is given, or is left out where none is
+-- a parse entered the command, and its option has the value that is given, or is left out if none is
 abbrev pub HasOption : Option (Text × List Row) → Text → Text → Option (Bor Text) → Type 0
 HasOption entered command id (Some value) = HasValue entered command id value.now
 HasOption entered command id None = IsLeftOut entered command id
 
--- a parse entered the command, and its option was given just these values, in their order: none where it is left out
+-- a parse entered the command, and its option was given exactly these values, in their order: none if it is left out
 abbrev pub HasValues : Option (Text × List Row) → Text → Text → List Text → Type 0
 HasValues entered command id values =
     (rows : List Row) × (entered ≡ Some (command, rows)) × (unwrap_or (all_of id rows) [] ≡ values)
@@ -161,7 +163,7 @@ abbrev pub HasFlag : Option (Text × List Row) → Text → Text → Type 0
 HasFlag entered command id =
     (rows : List Row) × (entered ≡ Some (command, rows)) × (one_of id rows ≡ Some (codes "true"))
 
--- the text is the number in decimal digits, as a `u64` is read: a plus may stand before them
+-- the text is the number in decimal digits, as a `u64` is read: a plus may come before them
 pub record IsNumber (text : Text) (number : ℕ) : Type 0 where
   pub numeral : IsNumeral 10 (without_leading_plus text)
   pub value : digits_value 10 (without_leading_plus text) ≡ number
@@ -180,7 +182,7 @@ HasUnit entered command id unit = HasNumber entered command id unit × (unit ≤
 abbrev pub AreUnits : List Text → List ℕ → Type 0
 AreUnits texts units = AllZip IsNumber texts units × AllByRecursion (λ unit. unit ≤ 63) units
 
--- a parse entered the command, and its argument was given just these short addresses of units, in their order
+-- a parse entered the command, and its argument was given exactly these short addresses of units, in their order
 abbrev pub HasUnits : Option (Text × List Row) → Text → Text → List ℕ → Type 0
 HasUnits entered command id units =
     (texts : List Text) × HasValues entered command id texts × AreUnits texts units
@@ -199,6 +201,7 @@ IsJob entered (Show dump) = HasValue entered (codes "show") (codes "HEXFILE") du
 IsJob entered (Journal records with_updates) =
     HasValue entered (codes "journal") (codes "FILE") records.now
     × Decides with_updates (HasFlag entered (codes "journal") (codes "updates"))
+IsJob entered Fields = IsEntered entered (codes "fields")
 IsJob entered
     (Drive orders journal moment follow short_plan require_done require_now require_journal progress report older) =
     HasValue entered (codes "drive") (codes "ORDERS") orders.now

@@ -9,10 +9,10 @@ use crate::usages::{
     ABOUT, ADDRESS, ADDRESS_ALL_HELP, ADDRESS_COUNT_HELP, ADDRESS_JOURNAL_HELP, ADDRESS_LIST_HELP,
     ADDRESS_UNITS_HELP, Argument, CHECK, CHECK_JOURNAL_HELP, CHECK_OLDER_HELP, CHECK_ORDERS, DRIVE,
     DRIVE_DONE_HELP, DRIVE_FOLLOW_HELP, DRIVE_JOURNAL_HELP, DRIVE_MOMENT_HELP, DRIVE_NOW_HELP,
-    DRIVE_OLDER_HELP, DRIVE_REPORT_HELP, DRIVE_SHORT_HELP, DRIVE_THERE_HELP, FRAME, FRAME_HEX,
-    JOURNAL, JOURNAL_FILE, JOURNAL_UPDATES_HELP, LINK_ORDERS, PROGRESS_HELP, READ, READ_BANK_HELP,
-    READ_UNIT_HELP, RUN, RUN_FRAMES_HELP, RUN_SCENARIO, SCAN, SCAN_GTIN_HELP, SCAN_UNITS_HELP,
-    SHOW, SHOW_DUMP, TOP_HELP, Usage, VERIFY, VERIFY_REPORT_HELP,
+    DRIVE_OLDER_HELP, DRIVE_REPORT_HELP, DRIVE_SHORT_HELP, DRIVE_THERE_HELP, FIELDS, FRAME,
+    FRAME_HEX, JOURNAL, JOURNAL_FILE, JOURNAL_UPDATES_HELP, LINK_ORDERS, PROGRESS_HELP, READ,
+    READ_BANK_HELP, READ_UNIT_HELP, RUN, RUN_FRAMES_HELP, RUN_SCENARIO, SCAN, SCAN_GTIN_HELP,
+    SCAN_UNITS_HELP, SHOW, SHOW_DUMP, TOP_HELP, Usage, VERIFY, VERIFY_REPORT_HELP,
 };
 use clap::{Arg, ArgAction, Command, value_parser};
 use std::alloc::{AllocError, Global};
@@ -30,14 +30,15 @@ pub(crate) fn bench_command<'a>(alloc: Global) -> Result<Command<'a>, AllocError
     let frames = with_made(runs, command_of(alloc, &FRAME, &FRAME_HEX));
     let shows = with_made(frames, command_of(alloc, &SHOW, &SHOW_DUMP));
     let journals = with_made(shows, journal_command(alloc));
-    let drives = with_made(journals, drive_command(alloc));
+    let fields = with_made(journals, Ok(plain_command(alloc, &FIELDS)));
+    let drives = with_made(fields, drive_command(alloc));
     let reads = with_made(drives, read_command(alloc));
     let verifies = with_made(reads, verify_command(alloc));
     let scans = with_made(verifies, scan_command(alloc));
     with_made(scans, address_command(alloc))
 }
 
-// The program with one more command, where both could be made.
+// The program with one more command, if both could be made.
 fn with_made<'a>(
     program: Result<Command<'a>, AllocError>,
     made: Result<Command<'a>, AllocError>,
@@ -48,7 +49,7 @@ fn with_made<'a>(
     program?.subcommand(made?)
 }
 
-// The command with one more argument, where it could be made.
+// The command with one more argument, if it could be made.
 fn with_argument<'a>(
     made: Result<Command<'a>, AllocError>,
     argument: Arg<'a>,
@@ -116,7 +117,7 @@ fn scan_command<'a>(alloc: Global) -> Result<Command<'a>, AllocError>
     named.arg(flag_of(alloc, "progress", PROGRESS_HELP))
 }
 
-// The command that gives short addresses over a link, with its flags and the journal that has to stand idle.
+// The command that gives short addresses over a link, with its flags and the journal that has to be idle.
 fn address_command<'a>(alloc: Global) -> Result<Command<'a>, AllocError>
     ensures { IfOk result (IsApp address_app) }
 {
@@ -223,7 +224,7 @@ fn older_option<'a>(alloc: Global, help: &'a str) -> Arg<'a>
         .action(ArgAction::Append)
 }
 
-// The option of `drive`, with the number that stands where it isn't given.
+// The option of `drive`, with the number that holds if it isn't given.
 fn moment_option<'a>(alloc: Global) -> Arg<'a>
     ensures { IsRule (number_rule (codes "moment") (codes "0")) result }
 {

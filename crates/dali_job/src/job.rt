@@ -2,8 +2,8 @@ ghost use Rattle.std.specs.Prelude.{◌≡◌, ◌≤◌, ◌⊎◌, [], Bool, L
 ghost use Rattle.std.specs.Bool.{Decides};
 ghost use Rattle.std.specs.Borrow.{Bor};
 ghost use Rattle.clap.specs.Words.{HasKind, all_of, app_of, fault_of, found_of, rows_of, subcommand_rows_of};
-ghost use Rattle.dali_job.specs.Jobs.{AreUnits, HasFlag, HasNumber, HasUnit, HasUnits, HasValue, HasValues, IsJob, IsJobOf};
-ghost use Rattle.dali_job.specs.Jobs.{IsNoAddress, IsNoCheck, IsNoDrive, IsNoJob, IsNoScan, IsNumber};
+ghost use Rattle.dali_job.specs.Jobs.{AreUnits, HasFlag, HasNumber, HasUnit, HasUnits, HasValue, HasValues, IsEntered, IsJob};
+ghost use Rattle.dali_job.specs.Jobs.{IsJobOf, IsNoAddress, IsNoCheck, IsNoDrive, IsNoJob, IsNoScan, IsNumber};
 ghost use Rattle.dali_job.specs.Jobs.{NamesNoJob, bench_app};
 ghost use Rattle.dali_job.specs.declared.job.Job.TheVariants.{Read};
 
@@ -12,11 +12,11 @@ use clap::error::ErrorKind;
 use clap::{ArgMatches, Command, Error};
 use std::alloc::{AllocError, Global};
 
-/// What the command line asks for.
+/// The task that the command line gives.
 #[derive(Drop, PartialEq, Eq)]
 pub enum Job<'a> {
-    /// To check a file of orders. `journal` is the one, if any is to be asked, that tells what it says of each order,
-    /// behind the `older` ones, in the order in which they were given.
+    /// To check a file of orders. `journal` is the one, if any is to be asked, that answers for each order, after the
+    /// `older` ones, in the order in which they were given.
     Check {
         orders: &'a str,
         journal: Option<&'a str>,
@@ -37,14 +37,15 @@ pub enum Job<'a> {
         records: &'a str,
         with_updates: bool,
     },
+    /// To print the fields that an order may have.
+    Fields,
     /// To carry out a file of orders over a link, with the journal of a file. `moment` is kept with
     /// each order that begins. With `follow` the file is a stream, of which each line is carried out
     /// before the next is read. With `short_plan` its sessions keep to the short plan. With
-    /// `require_done` it is to end well only where each order is done, with `require_now` only where
-    /// each was done by it. With `require_journal` no journal is made. With `progress` a person sees on
-    /// standard error how far it is. `report` is the file, if one is wanted, that gets a line for each
-    /// order at its last reply. `older` are the journals whose orders get their kept replies, in the
-    /// order in which they were given.
+    /// `require_done` it is to end well only if each order is done, with `require_now` only if
+    /// each was done by it. With `require_journal` no journal is made. With `progress` a person sees its progress on
+    /// standard error. `report` is the file, if one is wanted, that gets a line for each order at its last reply.
+    /// `older` are the journals whose orders get their kept replies, in the order in which they were given.
     Drive {
         orders: &'a str,
         journal: &'a str,
@@ -71,7 +72,7 @@ pub enum Job<'a> {
         report: Option<&'a str>,
         progress: bool,
     },
-    /// To look which units of a link answer: those at these short addresses, or all where none is named. With
+    /// To look which units of a link answer: those at these short addresses, or all if none is named. With
     /// `with_gtin` each is also asked for its GTIN and its identification number; with `progress` as `Drive`.
     Scan {
         units: Vec<u8>,
@@ -79,7 +80,7 @@ pub enum Job<'a> {
         progress: bool,
     },
     /// To give short addresses over a link, these in their order, or the lowest that are free: with `all` anew to each
-    /// unit, with `list` to none; with `count` to count units. `journal` is the one, if any is named, that has to stand
+    /// unit, with `list` to none; with `count` to count units. `journal` is the one, if any is named, that has to be
     /// idle; with `progress` as `Drive`.
     Address {
         units: Vec<u8>,
@@ -122,7 +123,7 @@ fn job_by<'a>(
     }
 }
 
-// The job of the command that the words enter, where they enter one and it is a job's.
+// The job of the command that the words enter, if they enter one and it is a job's.
 fn entered_job<'a>(
     alloc: Global,
     command: &mut Command<'a>,
@@ -159,7 +160,7 @@ fn job_in<'a>(alloc: Global, matches: &ArgMatches<'a>) -> Result<Option<Job<'a>>
     }
 }
 
-// The job of the command that a parse entered, where that is another than `check`, `scan`, `address` and
+// The job of the command that a parse entered, if that is another than `check`, `scan`, `address` and
 // `drive`.
 fn other_job_in<'a>(matches: &ArgMatches<'a>) -> Option<Job<'a>>
     ensures named { IfSome result (IsJob (subcommand_rows_of matches.now)) }
@@ -168,6 +169,9 @@ fn other_job_in<'a>(matches: &ArgMatches<'a>) -> Option<Job<'a>>
         → IsNoAddress (subcommand_rows_of matches.now) → IsNoDrive (subcommand_rows_of matches.now)
         → IsNoJob (subcommand_rows_of matches.now)) }
 {
+    if is_entered(matches, "fields") {
+        return Some(Job::Fields);
+    }
     if let Some(scenario) = value_of(matches, "run", "SCENARIO") {
         let single_frames = has_flag(matches, "run", "frames");
         return Some(Job::Run {
@@ -200,7 +204,7 @@ fn other_job_in<'a>(matches: &ArgMatches<'a>) -> Option<Job<'a>>
     read_in(matches)
 }
 
-// The job of the command that reads a bank, where a parse entered it.
+// The job of the command that reads a bank, if a parse entered it.
 fn read_in<'a>(matches: &ArgMatches<'a>) -> Option<Job<'a>>
     ensures named { IfSome result (IsJob (subcommand_rows_of matches.now)) }
     ensures none { IfNone result
@@ -217,7 +221,7 @@ fn read_in<'a>(matches: &ArgMatches<'a>) -> Option<Job<'a>>
     })
 }
 
-// The job of the command that checks, where a parse entered it.
+// The job of the command that checks, if a parse entered it.
 fn check_in<'a>(alloc: Global, matches: &ArgMatches<'a>) -> Result<Option<Job<'a>>, AllocError>
     ensures named { IfOk result (λ found. IfSome found (IsJob (subcommand_rows_of matches.now))) }
     ensures none { IfOk result (λ found. IfNone found (IsNoCheck (subcommand_rows_of matches.now))) }
@@ -237,7 +241,7 @@ fn check_in<'a>(alloc: Global, matches: &ArgMatches<'a>) -> Result<Option<Job<'a
     Ok(Some(job))
 }
 
-// The job of the command that looks which units answer, where a parse entered it.
+// The job of the command that looks which units answer, if a parse entered it.
 fn scan_in<'a>(alloc: Global, matches: &ArgMatches<'a>) -> Result<Option<Job<'a>>, AllocError>
     ensures named { IfOk result (λ found. IfSome found (IsJob (subcommand_rows_of matches.now))) }
     ensures none { IfOk result (λ found. IfNone found (IsNoScan (subcommand_rows_of matches.now))) }
@@ -255,7 +259,7 @@ fn scan_in<'a>(alloc: Global, matches: &ArgMatches<'a>) -> Result<Option<Job<'a>
     Ok(Some(job))
 }
 
-// The job of the command that gives short addresses, where a parse entered it.
+// The job of the command that gives short addresses, if a parse entered it.
 fn address_in<'a>(alloc: Global, matches: &ArgMatches<'a>) -> Result<Option<Job<'a>>, AllocError>
     ensures named { IfOk result (λ found. IfSome found (IsJob (subcommand_rows_of matches.now))) }
     ensures none { IfOk result (λ found. IfNone found (IsNoAddress (subcommand_rows_of matches.now))) }
@@ -279,7 +283,7 @@ fn address_in<'a>(alloc: Global, matches: &ArgMatches<'a>) -> Result<Option<Job<
     Ok(Some(job))
 }
 
-// The short addresses that a command was given, where a parse entered it.
+// The short addresses that a command was given, if a parse entered it.
 fn short_addresses_of(
     alloc: Global,
     matches: &ArgMatches<'_>,
@@ -296,7 +300,7 @@ fn short_addresses_of(
     units_of(alloc, texts.as_slice())
 }
 
-// The job of the command that drives, where a parse entered it.
+// The job of the command that drives, if a parse entered it.
 fn drive_in<'a>(alloc: Global, matches: &ArgMatches<'a>) -> Result<Option<Job<'a>>, AllocError>
     ensures named { IfOk result (λ found. IfSome found (IsJob (subcommand_rows_of matches.now))) }
     ensures none { IfOk result (λ found. IfNone found (IsNoDrive (subcommand_rows_of matches.now))) }
@@ -336,7 +340,14 @@ fn drive_in<'a>(alloc: Global, matches: &ArgMatches<'a>) -> Result<Option<Job<'a
     Ok(Some(job))
 }
 
-// The value of a command's argument, where a parse entered that command.
+// Whether a parse entered the command.
+fn is_entered(matches: &ArgMatches<'_>, command: &str) -> bool
+    ensures { Decides result (IsEntered (subcommand_rows_of matches.now) command.now) }
+{
+    matches.subcommand_matches(command).is_some()
+}
+
+// The value of a command's argument, if a parse entered that command.
 fn value_of<'a>(matches: &ArgMatches<'a>, command: &str, id: &str) -> Option<&'a str>
     ensures found { IfSome result (λ value. HasValue (subcommand_rows_of matches.now) command.now id.now value.now) }
     ensures none { IfNone result
@@ -348,7 +359,7 @@ fn value_of<'a>(matches: &ArgMatches<'a>, command: &str, id: &str) -> Option<&'a
     }
 }
 
-// The values that a command's option was given, in their order, where a parse entered that command.
+// The values that a command's option was given, in their order, if a parse entered that command.
 fn values_of<'a>(
     alloc: Global,
     matches: &ArgMatches<'a>,
@@ -366,7 +377,7 @@ fn values_of<'a>(
     }
 }
 
-// The values of all uses of an argument, in their order: none where it wasn't used.
+// The values of all uses of an argument, in their order: none if it wasn't used.
 fn given_values<'a>(
     alloc: Global,
     found: &ArgMatches<'a>,
@@ -381,7 +392,7 @@ fn given_values<'a>(
     }
 }
 
-// The number that a command's argument has, where a parse entered that command.
+// The number that a command's argument has, if a parse entered that command.
 fn number_of(matches: &ArgMatches<'_>, command: &str, id: &str) -> Option<u64>
     ensures found { IfSome result (HasNumber (subcommand_rows_of matches.now) command.now id.now) }
     ensures none { IfNone result
@@ -393,7 +404,7 @@ fn number_of(matches: &ArgMatches<'_>, command: &str, id: &str) -> Option<u64>
     }
 }
 
-// The short address that a command's argument has, where a parse entered that command.
+// The short address that a command's argument has, if a parse entered that command.
 fn unit_of(matches: &ArgMatches<'_>, command: &str, id: &str) -> Option<u8>
     ensures found { IfSome result (HasUnit (subcommand_rows_of matches.now) command.now id.now) }
     ensures none { IfNone result
@@ -407,7 +418,7 @@ fn unit_of(matches: &ArgMatches<'_>, command: &str, id: &str) -> Option<u8>
     }
 }
 
-// The short addresses that these texts are, in their order: none where one of them is none.
+// The short addresses that these texts are, in their order: none if one of them is none.
 fn units_of(alloc: Global, texts: &[&str]) -> Result<Option<Vec<u8>>, AllocError>
     ensures found { IfOk result (λ found. IfSome found (λ units.
         AreUnits (map (λ text. text.now) texts.now) units.items)) }

@@ -1,4 +1,6 @@
 //! Which job a command line asks for (profile).
+//!
+//! A crate of its own: only the command line needs `clap`, and its proof needs nothing else.
 #![tactic(auto)]
 
 mod commands;

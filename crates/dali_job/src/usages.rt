@@ -1,4 +1,4 @@
-// What `--help` tells of the program's commands.
+// The text of `--help` on the program's commands.
 
 // A command: its name, what it does, and its faults.
 pub(crate) struct Usage<'a> {
@@ -135,6 +135,22 @@ pub(crate) static JOURNAL_FILE: Argument<'static> = Argument {
 
 pub(crate) const JOURNAL_UPDATES_HELP: &str =
     "Prints the bytes of each begun order too, as `check` prints them";
+
+pub(crate) static FIELDS: Usage<'static> = Usage {
+    name: "fields",
+    about: "Prints the fields of an order, as JSON",
+    faults: "\
+An array of one object a line, by rising location, each with these keys:
+  bytes        number  how many bytes the field has in memory bank 1
+  first        number  its first location there
+  form         string  gtin, identification, number or text
+  help         string  a few words on it
+  key          string  its key in an order
+  least, most  number  the range of a number, or of the count of a text's characters; else null
+  unit         string  W, V, lm or K; null where there is none
+  unknown      string  the bytes that stand for unknown, in hexadecimal
+Exit status: 0 printed, 2 the memory or the output failed.",
+};
 
 pub(crate) static DRIVE: Usage<'static> = Usage {
     name: "drive",

@@ -1,4 +1,4 @@
--- What stands in front of bytes: updates, a Began, a whole group.
+-- The records at the front of bytes: updates, a Began, a whole group.
 use Rattle.std.proofs.Common.{◌≡◌, ℕ, ◌+◌, ◌*◌, ◌^◌, ◌<◌, ◌≤◌, List, [], ◌∷◌, ◌++◌, length, take, drop, get_or}
 use Rattle.std.proofs.Common.{refl, sym, ap, ◌∙◌, subst, arith, append_assoc, length-append, ◌≢◌, ◌⊎◌, inl, inr}
 use Rattle.std.proofs.Math.Seq.{drop-append_seam}
@@ -54,7 +54,7 @@ one_more low bytes two after t a long above first second has = record {
       | inr above ↦ inr (omega arith)
     ]
 
--- where locations rise, none is above the last
+-- if locations rise, none is above the last
 last_above : (low : ℕ) (updates : List (ℕ × ℕ)) → RisesAbove low updates → low ≤ last_location low updates
 last_above low [] rises = omega arith
 last_above low (update ∷ updates) rises = omega (arith, rises.0, last_above update.0 updates rises.1)
@@ -76,7 +76,7 @@ rises_lower : (low lower : ℕ) (updates : List (ℕ × ℕ)) → lower ≤ low 
 rises_lower low lower [] below rises = tt
 rises_lower low lower (update ∷ updates) below rises = (omega (arith, rises.0), rises.1)
 
--- so many bytes in front that are updates are half as many
+-- this many bytes at the front that are updates hold half as many updates
 pub updates_there : (count most : ℕ) (bytes : List ℕ) → most ≡ 2 * count → most ≤ length bytes
     → AreUpdatesAbove 0x02 (take most bytes) → HasUpdates count 0 bytes
 updates_there count most bytes twice within are = record {
@@ -152,7 +152,7 @@ began_there letter id bytes rest number behind time after_time two after are fro
     (subst (λ k. k < 2 ^ 64) (sym i) first.0) second.0 u some
     ((λ j. sym is_b j ∷ rest_is j) ∙ sym front) has
 
--- the same of version 1, where the moment is 0
+-- the same of version 1, if the moment is 0
 pub old_began_there : (letter id : ℕ) (bytes rest number behind two after : List ℕ) → AreBytes bytes
     → bytes ≡ letter ∷ rest → letter ≡ 0x42
     → number ≡ take 8 rest → behind ≡ drop 8 rest → length behind + 8 ≡ length rest
@@ -171,7 +171,7 @@ old_began_there letter id bytes rest number behind two after are front is_b n b 
     (subst (λ k. k < 2 ^ 64) (sym i) first.0) refl u some
     ((λ j. sym is_b j ∷ rest_is j) ∙ sym front) has
 
--- newer records stand behind older ones
+-- newer records come after older ones
 pub spelled_append : (version : Version) (newer older : List Record)
     → records_spelling version (newer ++ older) ≡ records_spelling version older ++ records_spelling version newer
 spelled_append version [] older = sym (append-nil (records_spelling version older))
@@ -183,7 +183,7 @@ pub spelling_append : (newer older : List Record)
     → records_spelling Two (newer ++ older) ≡ records_spelling Two older ++ records_spelling Two newer
 spelling_append = spelled_append Two
 
--- a group's records behind its Began are spelled alike in both versions
+-- a group's records after its Began are spelled alike in both versions
 pub same_ends : (version : Version) (unit : ℕ) (code : Code)
     → records_spelling Two (end_records unit code) ≡ records_spelling version (end_records unit code)
 same_ends version unit Done = refl

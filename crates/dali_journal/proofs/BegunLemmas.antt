@@ -1,4 +1,4 @@
--- What the index tells of a number is whether an order of it was begun.
+-- The index shows of a number whether an order of it was begun.
 use Rattle.std.proofs.Common.{◌≡◌, ℕ, Bool, true, false, cond, List, [], ◌∷◌, refl, sym, ap, ◌∙◌, ◌==◌, ◌||◌, Option}
 use Rattle.dali_bank.specs.Order.{Contents}
 use Rattle.dali_journal.specs.declared.record.Record.{Record}

@@ -1,4 +1,4 @@
--- Records behind older ones that are at rest.
+-- Records after older ones that are at rest.
 use Rattle.std.proofs.Common.{◌≡◌, ℕ, Bool, true, false, cond, ◌||◌, List, [], ◌∷◌, ◌++◌, length, refl, sym, ap, ◌∙◌}
 use Rattle.std.proofs.Common.{subst, ◌==◌, arith, length-append, true≢false, None, Some}
 use Rattle.std.proofs.lemmas.Bool.{eqb-true}
@@ -26,7 +26,7 @@ pub records_both : (version : Version) (own older : List Record) → AreRecords 
 records_both version [] older o p = p
 records_both version (newest ∷ own) older o p = (o.0, records_both version own older o.1 p)
 
--- ---- the own records stand alone
+-- ---- the own records are a journal alone
 
 pub standing_joined : (own older : List Record) → standing_of older ≡ standings.Idle
     → standing_of (own ++ older) ≡ standing_of own

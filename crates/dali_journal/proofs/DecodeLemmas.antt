@@ -73,7 +73,7 @@ pub none : (bytes : List ℕ) → length bytes ≡ 0 → bytes ≡ []
 none [] e = refl
 none (byte ∷ rest) e = absurd (omega arith)
 
--- where a record's bytes stand, that record is read
+-- if the bytes of a record are there, that record is read
 pub read_is : (version : Version) (bytes : List ℕ) (entry : Record) (piece : Piece) → IsRead version bytes piece
     → BeginsWith version bytes entry
     → piece ≡ Whole entry (length (spelling version entry))

@@ -57,7 +57,7 @@ bad_records version bytes records rest are in_range spelled bad =
     ∙ ap (λ those. records_from version most those rest) (append-nil records)
     ∙ bad_read version most records rest rest_are bad
 
--- a record of a journal is none that may not stand
+-- a record of a journal is none that may not follow
 stands_in : (version : Version) (limit place : ℕ) (whole more records : List Record) (entry : Record)
     (fault : JournalFault)
     → AreKept version limit whole → whole ≡ more ++ entry ∷ records
@@ -81,7 +81,7 @@ places [] (n ∷ ns) a b ones twos e = inr (inr (ns, ap (drop 1) e))
 places (m ∷ ms) [] a b ones twos e = inr (inl (ms, sym (ap (drop 1) e)))
 places (m ∷ ms) (n ∷ ns) a b ones twos e = places ms ns a b ones twos (ap (drop 1) e)
 
--- what may not stand in one place is one fault
+-- a record that may not follow, at one place, is one fault
 same_fault : (f g : JournalFault) (limit place : ℕ) (records : List Record) (entry : Record)
     → MayNotFollow f limit place records entry
     → MayNotFollow g limit place records entry → f ≡ g

@@ -39,7 +39,7 @@ use Rattle.dali_journal.proofs.AheadLemmas.{spelling_append}
 abbrev pub group_of : Contents → ℕ → Code → List Record
 group_of order moment code = end_records order.unit code ++ Began order moment ∷ []
 
--- behind a group nothing is left to be done
+-- after a group nothing is left to be done
 group_idle : (order : Contents) (moment : ℕ) (code : Code) (records : List Record)
     → standing_of records ≡ standings.Idle
     → standing_of (group_of order moment code ++ records) ≡ standings.Idle

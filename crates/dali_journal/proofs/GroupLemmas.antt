@@ -1,4 +1,4 @@
--- What the table allows, record by record, is a list of groups.
+-- The records that the table allows, record by record, are a list of groups.
 use Rattle.std.proofs.Common.{◌≡◌, ℕ, Bool, true, false, List, [], ◌∷◌, ◌++◌, reverse, refl, sym, ap, ◌∙◌, subst, arith}
 use Rattle.std.specs.Prelude.{⊤}
 use Rattle.std.proofs.Common.{◌||◌, ◌==◌}
@@ -20,7 +20,7 @@ abbrev AllowedFrom : Standing → List Record → Type 0
 AllowedFrom standing [] = ⊤
 AllowedFrom standing (entry ∷ rest) = Allows standing entry × AllowedFrom (next_standing standing entry) rest
 
--- what is to be done behind the records
+-- the work that is left after the records
 abbrev standing_after : Standing → List Record → Standing
 standing_after standing [] = standing
 standing_after standing (entry ∷ rest) = standing_after (next_standing standing entry) rest

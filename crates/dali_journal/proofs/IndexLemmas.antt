@@ -59,7 +59,7 @@ drop_append zero xs ys h = refl
 drop_append (suc n) [] ys h = absurd (omega arith)
 drop_append (suc n) (x ∷ xs) ys h = drop_append n xs ys (omega arith)
 
--- what stands in bytes stands in longer ones
+-- a record that is in bytes is in longer ones
 stands_more : (bytes more : List ℕ) (at : ℕ) (entry : Record) → IsRecordAt bytes at entry
     → IsRecordAt (bytes ++ more) at entry
 stands_more bytes more at entry stands = (
@@ -81,7 +81,7 @@ agrees_more bytes more (index_entries.Begun at) kept since a =
 agrees_more bytes more (index_entries.Ended at code) kept since a =
     (a.0, a.1, a.2, a.3, stands_more bytes more at (Began a.0 a.1) a.4)
 
--- an end is noted where the order was begun
+-- an end is noted if the order was begun
 ended_agrees : (bytes : List ℕ) (known : IndexEntry) (code : Code) (order : Contents) (since : Option ℕ)
     → Agrees bytes known (kepts.Unfinished order) since
     → Agrees bytes (ended_index_entry code known) (kepts.Ended order code) since
@@ -135,7 +135,7 @@ opened_same (standings.Began order) unit older id a n =
     ap (kept_among id) n.1 ∙ sym (ap (λ os. kept_among id (come_to reached.Open os)) n.1)
 opened_same _ unit older id a n = absurd a
 
--- the new record stands where the bytes ended
+-- the new record is at the place where the bytes ended
 stands_new : (bytes : List ℕ) (entry : Record) → IsRecord Two entry
     → IsRecordAt (bytes ++ spelling Two entry) (length bytes) entry
 stands_new bytes entry is = (
@@ -192,7 +192,7 @@ order_there bytes at order moment piece reads stands =
     read_is Two (drop at bytes) (Began order moment) piece
     (subst (λ (bs : List ℕ). IsRead Two bs piece) (slice_rest at bytes) reads) stands.1
 
--- what was found at a place is what stands there
+-- the order that was found at a place is the one that is there
 abbrev pub Finds : List ℕ → ℕ → Option (Contents × ℕ) → Type 0
 Finds bytes at found = (o : Contents) (m : ℕ) → IsRecordAt bytes at (Began o m) → found ≡ Some (o, m)
 
@@ -207,7 +207,7 @@ nothing_there : (bytes : List ℕ) (at : ℕ) (o : Contents) (m : ℕ) → Finds
     → IsRecordAt bytes at (Began o m) → ⊥
 nothing_there bytes at o m finds there = let e = finds o m there in cc
 
--- what is told of an order whose entry in the index agrees with what was kept
+-- the answer about an order whose entry in the index agrees with its kept state
 pub told_unfinished : (bytes : List ℕ) (known : IndexEntry) (at : ℕ) (kept : Kept) (since : Option ℕ) (order : Contents)
     (moment : ℕ) → known ≡ index_entries.Begun at
     → Finds bytes at (Some (order, moment))

@@ -1,4 +1,4 @@
--- What is told of each number stays what is kept of it, with one record more.
+-- For each number the answer is still what is kept of it, after one more record.
 use Rattle.std.proofs.Common.{◌≡◌, ℕ, true, false, cond, Bool, nat_eq, List, ◌∷◌, ◌++◌, length, drop, sym}
 use Rattle.std.proofs.Common.{ap, ◌∙◌, subst, arith, refl, ◌==◌, length-append, true≢false, Contains}
 use Rattle.std.specs.Map.{lookup}
@@ -26,7 +26,7 @@ pub settled_begun : (bytes : List ℕ) (records : List Record) (index : List (�
 settled_begun bytes records index one is =
     sym (begun_told one.id bytes (index_entries.Ended one.at one.code) records is.kept)
 
--- a record changes nothing of what is told of an order that was begun, where an end doesn't
+-- a record changes no answer about an order that was begun, unless it ends one
 told_stays : (standing : Standing) (entry : Record) (records : List Record) (at id : ℕ) (known : IndexEntry)
     → IsNew entry records → is_begun id records ≡ true
     → ((code : Code) → ended_index_entry code known ≡ known)
@@ -112,7 +112,7 @@ indexed_same bytes records front settled index new_index indexed same = record {
       (sym (same id)) (indexed.known id none);
 }
 
--- what is told of an order that was found among the settled ones
+-- the answer about an order that was found among the settled ones
 pub told_settled : (bytes : List ℕ) (records : List Record) (front : ℕ) (settled : List Settled)
     (index : List (ℕ × IndexEntry)) (one : Settled) (id : ℕ) → IsIndexed bytes records front settled index
     → Contains settled one → one.id ≡ id

@@ -42,7 +42,7 @@ use Rattle.dali_journal.proofs.IndexLemmas.{agrees_more}
 use Rattle.dali_journal.proofs.IndexedLemmas.{settled_begun}
 use Rattle.dali_journal.proofs.KeptLemmas.{unended, unended_stands}
 
--- ---- what is told of a number
+-- ---- the answer about a number
 
 -- a number is one of those that are settled or not
 pub settled_or_not : (settled : List Settled) (id : ℕ)
@@ -84,7 +84,7 @@ nothing_told bytes records front settled index id indexed none = by (settled_or_
         (begun_told id (drop front bytes) (index_entry (lookup (nat_eq id) index)) records (indexed.known id unsettled)
         ∙ none)
 
--- a place behind a front, from the start
+-- a place after a front, counted from the start
 place_shifted : (bytes : List ℕ) (front at : ℕ) (code : Code) (kept : Kept) (since : Option ℕ) → front ≤ length bytes
     → Agrees (drop front bytes) (index_entries.Ended at code) kept since
     → Agrees bytes (index_entries.Ended (front + at) code) kept since
@@ -137,7 +137,7 @@ ended_among front ((key, index_entries.Ended place end) ∷ index) id at code fo
         (filter_map (settled_at front) index) none (sym (eqb-true id key t))
     by false t rest behind = behind rest
 
--- where that is so of each entry, it is so of the settled orders that are made of them
+-- if that is so of each entry, it is so of the settled orders that are made of them
 ended_all : (P : Settled → Type 0) (Q : ℕ × IndexEntry → Type 0) (front : ℕ) (index : List (ℕ × IndexEntry))
     → ((id at : ℕ) (code : Code) → Q (id, index_entries.Ended at code)
     → P (record { id = id; at = front + at; code = code }))
@@ -193,7 +193,7 @@ sentence_joined (entry ∷ own) older s o idle apart = (
   new_joined entry own older s.2 apart,
 )
 
--- ---- what is told of both
+-- ---- the answers of both
 
 all_front : {X : Type 0} (P : X → Type 0) (xs ys : List X) → All P (xs ++ ys) → All P xs
 all_front P xs ys all =

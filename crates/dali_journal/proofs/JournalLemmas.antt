@@ -28,7 +28,7 @@ use Rattle.dali_journal.proofs.DecodeLemmas.{AreRecords, spelling_read}
 use Rattle.dali_journal.specs.declared.settled.Settled.{Settled}
 use Rattle.dali_journal.proofs.IndexedLemmas.{indexed_more, indexed_same}
 
--- what a standing names is in range
+-- the order or the unit that a standing names is in range
 abbrev IsNamed : Standing → Type 0
 IsNamed standings.Idle = ⊤
 IsNamed (standings.Began order) = (moment : ℕ) × IsRecord Two (Began order moment)
@@ -296,7 +296,7 @@ begins_in_range (Opened unit) tells = tt
 begins_in_range (Ended code) tells = tt
 begins_in_range (Closed unit) tells = tt
 
--- a number is in the index where a look-up finds it
+-- a number is in the index if a look-up finds it
 pub found_in : (id : ℕ) (index : List (ℕ × IndexEntry))
     → is_some (lookup (nat_eq id) index) ≡ list_any (nat_eq id) (keys_of index)
 found_in id index = is_some-lookup (nat_eq id) index

@@ -1,4 +1,4 @@
--- What is kept of a number is what the groups say.
+-- The journal keeps of a number what the groups say.
 use Rattle.std.proofs.Common.{◌≡◌, ◌↔◌, ◌⊎◌, inl, inr, ℕ, Bool, true, false, cond, List, [], ◌∷◌, ◌++◌, refl, sym, ap}
 use Rattle.std.proofs.Common.{◌∙◌, subst, ◌==◌}
 use Rattle.std.specs.Prelude.{⊤}
@@ -19,7 +19,7 @@ use Rattle.dali_journal.specs.Law.{IsUnended, HasEnded}
 use Rattle.dali_journal.proofs.BegunLemmas.{is_kept, kept_where_begun, nothing_kept}
 use Rattle.dali_journal.proofs.IndexLemmas.{IsNewest, newest, opened_same}
 
--- what stands at the end of a sentence, by its standing
+-- the records at the end of a sentence, by its standing
 abbrev Shape : Standing → List Record → Type 0
 Shape (standings.Began order) records =
     (older : List Record) × (moment : ℕ) × (records ≡ Began order moment ∷ older)
@@ -233,7 +233,7 @@ unended_stands order records (moment, older, inr is) = inr (ap standing_of is)
 abbrev pub Unended : List Record → ℕ → Contents → Type 0
 Unended records id order = (order.id ≡ id) × IsUnended order records
 
--- nothing else may be behind such records than what the table allows
+-- after such records only what the table allows may come
 unended_began : (first : Contents) (moment : ℕ) (older : List Record) (id : ℕ) (order : Contents)
     → Allows (standing_of older) (Began first moment)
     → kept_of id (Began first moment ∷ older) ≡ kepts.Unfinished order

@@ -16,7 +16,7 @@ use Rattle.dali_journal.specs.Loading.{HasVersion, MayNotFollow, IsRecordRefused
 use Rattle.dali_journal.specs.Loading.{JournalsLoadAgain}
 use Rattle.dali_journal.proofs.DecodeLemmas.{AreRecords}
 
--- a fault behind records that are kept
+-- a fault after records that are kept
 behind_records : (version : Version) (limit : ℕ) (bytes : List ℕ) (records : List Record) (rest : List ℕ)
     (fault : JournalFault)
     → HasVersion version bytes → bytes ≡ journal_spelling version records ++ rest → AreKept version limit records
@@ -24,7 +24,7 @@ behind_records : (version : Version) (limit : ℕ) (bytes : List ℕ) (records :
 behind_records version limit bytes records rest fault v s k f =
     record { version = version; of_version = v; records = records; rest = rest; spelled = s; kept = k; behind = f }
 
--- a record that may not stand is a fault of the bytes
+-- a record that may not follow is a fault of the bytes
 pub fault_of : (version : Version) (fault : JournalFault) (limit : ℕ) (bytes : List ℕ) (records : List Record)
     (rest : List ℕ) (at : ℕ) (entry : Record)
     → HoldsOrders limit → HasVersion version bytes → bytes ≡ journal_spelling version records ++ rest
@@ -51,7 +51,7 @@ fault_of version (faults.Full place) limit bytes records rest at entry i v s p k
       (entry, b, subst (λ n. MayNotFollow (faults.Full place) limit n records entry) p f),
 )
 
--- one record more is taken of the bytes behind a journal's
+-- one more record is taken from the bytes after a journal's
 pub one_taken : (version : Version) (records new : List Record) (whole rest : List ℕ) (front at len : ℕ)
     (entry : Record)
     → whole ≡ journal_spelling version records ++ drop at rest
@@ -89,7 +89,7 @@ pub journal_kept : (journal : JournalState) (limit : ℕ) → IsJournal journal 
     → AreKept Two limit journal.records
 journal_kept journal limit is same = subst (λ (most : ℕ). AreKept Two most journal.records) same is.kept
 
--- what a journal's bytes were, with a cut behind them, loads again
+-- the bytes of a journal, with a cut record after them, load again
 pub loads_again : JournalsLoadAgain
 loads_again journal last cut is torn = (
   is.limited,

@@ -1,4 +1,4 @@
--- The moment of a number is that of its one Began, and there is one just where something is kept.
+-- The moment of a number is that of its one Began, and there is one exactly when something is kept.
 use Rattle.std.proofs.Common.{◌≡◌, ℕ, Bool, true, false, cond, List, [], ◌∷◌, ◌++◌, refl, sym, ap, ◌∙◌, subst}
 use Rattle.std.proofs.Common.{◌==◌, ◌||◌, Option, Some, None, true≢false}
 use Rattle.std.proofs.lemmas.Bool.{eqb-true, eq-eqb}

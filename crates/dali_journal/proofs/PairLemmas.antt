@@ -1,5 +1,4 @@
--- What is read of pairs is exact: whole where the bytes begin with pairs, cut where they are a proper front of some,
--- else bad.
+-- The reading of pairs is exact: whole if the bytes begin with pairs, cut if they are a proper front of some, else bad.
 use Rattle.std.proofs.Common.{◌≡◌, ◌≢◌, ℕ, zero, suc, ◌+◌, ◌^◌, ◌<◌, ◌≤◌, max, ◌&&◌, ◌||◌, Bool, true, false}
 use Rattle.std.proofs.Common.{cond, List, [], ◌∷◌, ◌++◌, length, get_or, refl, sym, ap, subst, arith, inl, inr}
 use Rattle.std.specs.Prelude.{nat_le, ⊤}
@@ -74,7 +73,7 @@ climbs-order version id moment unit updates i m u some c = (
 abbrev pub AreBytes : List ℕ → Type 0
 AreBytes bytes = AllByRecursion (λ byte. byte < 256) bytes
 
--- so many updates above a location
+-- this many updates above a location
 pub record Updates (count low : ℕ) (pairs : List (ℕ × ℕ)) : Type 0 where
   pub length_is : length pairs ≡ count
   pub rises : Climb low pairs
@@ -111,7 +110,7 @@ fits-holds : (to_come low location : ℕ) → IsWritable location → low < loca
 fits-holds to_come low location (inl w) l p = grind (arith, nat_tests)
 fits-holds to_come low location (inr w) l p = grind (arith, nat_tests)
 
--- Where there is a place above one, the lowest such place takes just one from what is left.
+-- If there is a place above one, the lowest such place takes just one from what is left.
 next-place : (low : ℕ) → 1 ≤ places_above low →
     (place : ℕ) × IsWritable place × (low < place) × (suc (places_above place) ≡ places_above low)
 next-place low h = elim (cases_lt low 16) [
@@ -119,7 +118,7 @@ next-place low h = elim (cases_lt low 16) [
   | inr above ↦ (max low 18 + 1, inr (omega arith, omega arith), omega arith, omega arith)
 ]
 
--- Where there are places enough, there are updates that fill them.
+-- If there are places enough, there are updates that fill them.
 filled : (count low : ℕ) → count ≤ places_above low → (pairs : List (ℕ × ℕ)) × Updates count low pairs
 filled zero low h = ([], record { length_is = refl; rises = tt })
 filled (suc count) low h =
@@ -147,13 +146,13 @@ some-spelling : (count : ℕ) (pairs : List (ℕ × ℕ)) → length pairs ≡ s
 some-spelling count [] h e = omega arith
 some-spelling count (pair ∷ pairs) h e = cc
 
--- where places enough are left, the empty list is a front of some updates
+-- if places enough are left, the empty list is a front of some updates
 cut-empty : (count low : ℕ) → suc count ≤ places_above low → ReadsPairs (suc count) low [] lists.Cut
 cut-empty count low h =
     let some = filled (suc count) low h in
     (some.0, some.1, pairs_spelling some.0, some-spelling count some.0 some.1.length_is, refl)
 
--- the byte behind a location may be any
+-- the byte after a location may be any
 cut-location : (count low location : ℕ) → fits count low location ≡ true
     → ReadsPairs (suc count) low (location ∷ []) lists.Cut
 cut-location count low location e =
@@ -213,7 +212,7 @@ step count low location byte rest l b reads = more (fits count low location) ref
         (reads (fits-true count low location e).2)
     more false e = bad-location count low location (byte ∷ rest) e
 
--- What is read of pairs is exact.
+-- The reading of pairs is exact.
 pub reads-pairs_of : (count low : ℕ) (bytes : List ℕ) → count ≤ places_above low → AreBytes bytes
     → ReadsPairs count low bytes (pairs_of count low bytes)
 reads-pairs_of zero low bytes h fit = (record { length_is = refl; rises = tt }, bytes, refl)

@@ -1,4 +1,4 @@
--- What is read of a record is exact, and no record's bytes begin another's.
+-- The reading of a record is exact, and no record's bytes begin another's.
 use Rattle.std.proofs.Common.{◌≡◌, ◌≢◌, ℕ, zero, suc, ◌+◌, ◌*◌, ◌^◌, ◌-◌, ◌<◌, ◌≤◌, ◌&&◌, Bool, true, false, cond}
 use Rattle.std.proofs.Common.{List, [], ◌∷◌, ◌++◌, length, take, drop, get_or, refl, sym, ap, ◌∙◌, subst}
 use Rattle.std.proofs.Common.{arith, ◌==◌, length-append, inl, true≢false, replicate, append_assoc}
@@ -47,7 +47,7 @@ other-letter : (version : Version) (entry : Record) (rest : List ℕ) (letter : 
     → spelling version entry ++ rest ≡ letter ∷ more → ⊥
 other-letter version entry rest letter more other e = other (letter-first version entry rest letter more e)
 
--- behind each letter of two bytes, a number that is too large
+-- after each letter of a two-byte record, a number that is too large
 no-opened : (version : Version) (unit : ℕ) (after : List ℕ) → 63 < unit → NoRecord version (0x4F ∷ unit ∷ after)
 no-opened version unit after large (Opened other) rest more is e =
     let same : other ≡ unit = ap (λ bytes. get_or bytes 1 0) e in omega arith
@@ -105,11 +105,11 @@ code_number-code_of (suc (suc (suc (suc (suc (suc n)))))) h = absurd (omega arit
 abbrev smallest : ℕ → ℕ → Contents
 smallest id unit = record { id = id; unit = unit; updates = (3, 0) ∷ [] }
 
--- what stands behind the number and the moment
+-- the bytes after the number and the moment
 abbrev behind-head : Contents → List ℕ
 behind-head o = o.unit ∷ length o.updates ∷ pairs_spelling o.updates
 
--- bytes behind the same head are the same
+-- bytes after the same head are the same
 same-behind : (version : Version) (id moment : ℕ) (after : List ℕ) (o : Contents) (at : ℕ) (rest more : List ℕ) →
     spelling version (Began o at) ++ rest ≡ (0x42 ∷ head_spelling version id moment ++ after) ++ more
     → behind-head o ++ rest ≡ after ++ more
@@ -154,7 +154,7 @@ no-order : (version : Version) (bytes : List ℕ)
 no-order version bytes none (Began o at) rest more is e = none o at rest more is e
 no-order version bytes none entry rest more is e = other-letter version entry rest 0x42 (bytes ++ more) (omega arith) e
 
--- behind a count that may be
+-- after a count that may be
 pub reads-began : (version : Version) (id moment unit count : ℕ) (bytes : List ℕ) (piece : Pairs) → id < 2 ^ 64
     → IsMoment version moment → unit ≤ 63 → 1 ≤ count → count ≤ 115 → ReadsPairs count 0 bytes piece
     → IsRead version (0x42 ∷ head_spelling version id moment ++ unit ∷ count ∷ bytes)
@@ -208,7 +208,7 @@ count-fits version o at is =
     let few = is.2.few in
     grind (arith, nat_tests)
 
--- what completes a head that is there, and what is behind it
+-- the bytes that complete a head that is there, and the bytes after it
 cut-behind : (version : Version) (id moment unit : ℕ) (after fill : List ℕ) → id < 2 ^ 64 → IsMoment version moment
     → unit ≤ 63 → fill ≢ [] → after ++ fill ≡ behind-head (smallest id unit)
     → IsRead version (0x42 ∷ head_spelling version id moment ++ after) Cut
@@ -223,7 +223,7 @@ cut-behind version id moment unit after fill i m u some e = (
   ),
 )
 
--- behind a unit
+-- after a unit
 reads-counted : (version : Version) (id moment unit : ℕ) (bytes : List ℕ) → id < 2 ^ 64 → IsMoment version moment
     → unit ≤ 63 → AreBytes bytes
     → IsRead version (0x42 ∷ head_spelling version id moment ++ unit ∷ bytes)
@@ -251,7 +251,7 @@ reads-counted version id moment unit (count ∷ rest) i m u fit = by (nat_le 1 c
         (count-of version id moment unit count rest o at after more same) (count-fits version o at is) in
         true≢false (sym yes ∙ e)))
 
--- behind an order's number and moment
+-- after an order's number and moment
 reads-timed : (version : Version) (id moment : ℕ) (bytes : List ℕ) → id < 2 ^ 64 → IsMoment version moment
     → AreBytes bytes
     → IsRead version (0x42 ∷ head_spelling version id moment ++ bytes) (timed_piece version id moment bytes)
@@ -338,7 +338,7 @@ cut-moment id moment bytes fill i m e = (
   ),
 )
 
--- behind an order's number
+-- after an order's number
 reads-numbered : (version : Version) (id : ℕ) (bytes : List ℕ) → id < 2 ^ 64 → AreBytes bytes
     → IsRead version (0x42 ∷ to_be_bytes w64 id ++ bytes) (numbered_piece version id bytes)
 reads-numbered One id bytes i fit = reads-timed One id 0 bytes i refl fit
@@ -410,7 +410,7 @@ no-letter version letter after b o e c (Ended code) rest more is same =
 no-letter version letter after b o e c (Closed unit) rest more is same =
     eqb-false letter 0x43 c (letter-first version (Closed unit) rest letter (after ++ more) same)
 
--- What is read of a record is exact.
+-- The reading of a record is exact.
 pub reads-piece_of : (version : Version) (bytes : List ℕ) → AreBytes bytes
     → IsRead version bytes (piece_of version bytes)
 reads-piece_of version [] fit = (Opened 0, (omega arith, 0x4F ∷ 0 ∷ [], λ e. cc, refl))

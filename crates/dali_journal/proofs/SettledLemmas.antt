@@ -1,4 +1,4 @@
--- What is found among settled orders, which are those of an index that have ended.
+-- The orders found among settled ones: those of an index that have ended.
 use Rattle.std.proofs.Common.{◌≡◌, ℕ, ◌+◌, ◌<◌, ◌≤◌, All, Contains, List, length, get_or, Ok, Err}
 use Rattle.std.proofs.Common.{sym, ap, arith, ◌∙◌, ◌++◌, ◌∷◌, [], suc, take, take-suc, append_assoc}
 use Rattle.std.proofs.Common.{slice_get, Some, filter_map}
@@ -21,7 +21,7 @@ comparisons_rise : (settled : List Settled) (id : ℕ) → IsNonDecreasingBy (λ
     → IsNonDecreasingBy (λ one. ordering_index (nat_cmp one.id id)) settled
 comparisons_rise settled id sorted i j d below within = grind (arith, nat_tests, sorted i j d below within)
 
--- where a search ends without one, none has the number
+-- if a search ends without one, none has the number
 pub none_found : (settled : List Settled) (id at : ℕ) → IsNonDecreasingBy (λ one. one.id) settled
     → IsSearchInRange (Err at) (length settled)
     → IsBinarySearchResult (λ one. nat_cmp one.id id) settled (Err at) → IsUnsettled id settled
@@ -63,9 +63,9 @@ told_more entries P i entry there before is =
     All-same P (take (i + 1) entries) (take i entries ++ entry ∷ []) (take_more entries i entry there)
     (All-push P (take i entries) entry before is)
 
--- ---- those of a newer journal behind those of an older one
+-- ---- those of a newer journal after those of an older one
 
--- where the first of the others is above the last, all rise
+-- if the first of the others is above the last, all rise
 pub all_rise : (older newer : List Settled) → IsNonDecreasingBy (λ one. one.id) older
     → IsNonDecreasingBy (λ one. one.id) newer
     → ((last first : Settled) → slice_get older (length older - 1) ≡ Some last → slice_get newer 0 ≡ Some first

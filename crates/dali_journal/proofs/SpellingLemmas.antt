@@ -1,4 +1,4 @@
--- Records are told apart by their bytes: two that agree as far as both go are one.
+-- Records are distinguished by their bytes: two that agree up to the end of the shorter one are one.
 use Rattle.std.proofs.Common.{◌≡◌, ℕ, ◌^◌, ◌<◌, List, [], ◌∷◌, ◌++◌, length, take, drop, get_or, refl, sym, ap}
 use Rattle.std.proofs.Common.{◌∙◌, arith, append_assoc}
 use Rattle.std.specs.Int.{w64, to_be_bytes, from_be_bytes}

@@ -65,7 +65,7 @@ cut_read version (suc most) older bytes last cut =
     by Cut reads = refl
     by Bad reads = refl
 
--- bytes behind a header: those of the records, and behind them a proper front of some record's
+-- bytes after a header: those of the records, and after them a proper front of some record's
 pub record Torn (version : Version) (bytes : List ℕ) (records : List Record) : Type 0 where
   pub rest : List ℕ
   pub spelled : bytes ≡ records_spelling version records ++ rest
@@ -113,7 +113,7 @@ pub older_orders : (more records : List Record) → length (orders_of records) �
 older_orders [] records = omega arith
 older_orders (entry ∷ more) records = omega (arith, older_orders more records, orders_more (more ++ records) entry)
 
--- a record that stands in a sentence may stand there
+-- a record of a sentence may follow the ones before it
 pub stands : (fault : JournalFault) (limit place : ℕ) (records : List Record) (entry : Record)
     → IsSentence (entry ∷ records)
     → length (orders_of (entry ∷ records)) ≤ limit → MayNotFollow fault limit place records entry → ⊥
@@ -123,7 +123,7 @@ stands (faults.Full at) limit place records (Began order moment) s few not =
     let full = not.3 in let more = orders_more records (Began order moment) in omega arith
 stands _ limit place records entry s few not = absurd not
 
--- where a record stands behind records, a torn journal of these bytes has it
+-- if a record comes after records, a torn journal of these bytes has it
 pub record_stands : (version : Version) (limit : ℕ) (bytes : List ℕ) (records others : List Record) (rest : List ℕ)
     (entry : Record)
     → records_in version bytes ≡ records → AreBytes bytes
@@ -169,7 +169,7 @@ bad_read version (suc most) older bytes are bad = by (piece_of version bytes) (r
     by Cut reads = refl
     by Bad reads = refl
 
--- where the rest is neither a record nor a cut one, the bytes are no torn journal
+-- if the rest is neither a record nor a cut one, the bytes are no torn journal
 bad_not_torn : (version : Version) (bytes : List ℕ) (records others : List Record) (rest : List ℕ)
     → AreRecords version records
     → Torn version bytes records → AreRecords version others
@@ -232,7 +232,7 @@ no_fault version limit bytes records kept torn (faults.Full at) others rest plac
 
 -- The header
 
--- the bytes behind the header
+-- the bytes after the header
 abbrev pub behind_header : Version → List ℕ → List ℕ
 behind_header version bytes = drop (length (header version)) bytes
 
@@ -270,7 +270,7 @@ letter_apart (Opened unit) e = omega arith
 letter_apart (Ended code) e = omega arith
 letter_apart (Closed unit) e = omega arith
 
--- where there are bytes, they don't begin as the header does
+-- if there are bytes, they don't begin as the header does
 abbrev IsOld : List ℕ → Type 0
 IsOld bytes = (first : ℕ) (behind : List ℕ) → bytes ≡ first ∷ behind → first ≢ 0x44
 

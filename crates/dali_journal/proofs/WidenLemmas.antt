@@ -15,7 +15,7 @@ use Rattle.dali_journal.specs.Decoding.{records_in}
 use Rattle.dali_journal.proofs.DecodeLemmas.{AreRecords, spelling_read}
 use Rattle.dali_journal.proofs.FrontLemmas.{group_of, group_records}
 
--- with eight zeros behind the number a group of version 1 is that of version 2
+-- with eight zeros after the number a group of version 1 is that of version 2
 group_widened : (order : Contents) (moment : ℕ) (code : Code) → moment ≡ 0
     → take 9 (records_spelling One (group_of order moment code))
     ++ (to_be_bytes w64 0 ++ drop 9 (records_spelling One (group_of order moment code)))

@@ -1,4 +1,4 @@
--- A journal of one order behind an older one, and what is near it and is no such journal.
+-- A journal of one order after an older one, and near cases that are no such journal.
 use Rattle.std.proofs.Common.{◌≡◌, refl, List, [], ◌∷◌, ◌++◌, Some, None, inl, true, false, arith}
 use Rattle.dali_bank.specs.Order.{Contents}
 use Rattle.dali_journal.specs.declared.behind.JoinFault.TheVariants.{Repeated, NoMemory}
@@ -28,7 +28,7 @@ at_work = Opened 5 ∷ Began first_order 7 ∷ []
 abbrev older : List Record
 older = Ended Done ∷ at_work
 
--- the records behind them
+-- the records after them
 abbrev own : List Record
 own = Ended Silent ∷ Began second_order 8 ∷ []
 
@@ -71,7 +71,7 @@ both_are_kept = record {
 pub no_more_than_the_limit : AreKept Two 1 (own ++ older) → ⊥
 no_more_than_the_limit kept = let few = kept.whole.1 in omega (arith, few)
 
--- behind one order that is at rest the others have one less, and those alone are within that
+-- after one order that is at rest the others have one less, and those alone are within that
 pub own_are_kept_alone : AreKept Two 1 own
 own_are_kept_alone = (stand_alone Two 1 own older refl both_are_kept).0
 
@@ -100,7 +100,7 @@ older_number_begun_again kept = let new : true ≡ false = kept.whole.0.2 in cc
 
 -- ---- older ones that aren't at rest
 
--- what stands behind them is no journal by itself, and none at all stands as they do
+-- the records after them are no journal by themselves, and an empty list doesn't have their standing
 pub ended_behind_one_at_work : IsSentence (Ended Done ∷ at_work) × (IsSentence (Ended Done ∷ []) → ⊥)
 ended_behind_one_at_work = ((((tt, tt, refl), refl, tt), tt, tt), λ alone. alone.1)
 

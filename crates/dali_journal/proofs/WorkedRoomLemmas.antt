@@ -56,6 +56,6 @@ pub memory_may_be_wanted_within :
     IsLoadFault IsLimit 1 [] faults.NoMemory × IsLoadFault IsLimit 100000 [] faults.NoMemory
 memory_may_be_wanted_within = ((omega arith, omega arith), (omega arith, omega arith))
 
--- behind older journals a journal may hold their orders too, but some order at least
+-- after older journals a journal may hold their orders too, but at least one order
 pub more_behind_older : HoldsOrders 100001 × (HoldsOrders 0 → ⊥)
 more_behind_older = (omega arith, λ none. omega (arith, none))

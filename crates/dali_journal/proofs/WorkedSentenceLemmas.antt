@@ -42,7 +42,7 @@ module _ (order : Contents) (moment : ℕ) where
   pub not_begun_past_a_left_unit : Allows (standings.Left 5) (Began order moment) → ⊥
   not_begun_past_a_left_unit allows = allows
 
--- nothing ends or is closed where nothing is at work
+-- nothing ends or is closed if nothing is at work
 pub not_ended_at_rest : Allows standings.Idle (Ended Silent) → ⊥
 not_ended_at_rest allows = allows
 

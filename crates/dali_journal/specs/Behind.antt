@@ -1,4 +1,4 @@
--- A journal behind older ones that are at rest: its records stand in front of theirs in a list, the newest first.
+-- A journal after older ones that are at rest: its records are in front of theirs in a list, the newest first.
 use Rattle.std.specs.Prelude.{◌≡◌, ℕ, ◌+◌, List, ◌++◌, length, true, false, ⊤}
 use Rattle.dali_journal.specs.declared.behind.JoinFault.{JoinFault}
 use Rattle.dali_journal.specs.declared.behind.JoinFault.TheVariants.{Repeated, NoMemory}
@@ -21,8 +21,8 @@ abbrev pub IsJoinFault : JoinFault → List Record → List Record → Type 0
 IsJoinFault (Repeated id) own older = (is_begun id own ≡ true) × (is_begun id older ≡ true)
 IsJoinFault NoMemory own older = ⊤
 
--- What stands behind older records is a journal by itself, for as many orders as are left to it, and stands as the
--- whole does.
+-- The records after older ones are a journal by themselves, for as many orders as are left to it, and have the standing
+-- of the whole.
 abbrev pub OwnRecordsStandAlone : Type 0
 OwnRecordsStandAlone =
     (version : Version) (limit : ℕ) (own older : List Record) → standing_of older ≡ Idle

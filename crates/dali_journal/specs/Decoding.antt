@@ -19,24 +19,24 @@ use Rattle.dali_journal.specs.declared.read.Pairs.TheVariants as lists
 abbrev pub places_above : ℕ → ℕ
 places_above low = (0x10 - max low 0x02) + (0x77 - max low 0x12)
 
--- whether a location may follow another, with so many to come behind it
+-- whether a location may follow another, with `to_come` more after it
 abbrev pub fits : ℕ → ℕ → ℕ → Bool
 fits to_come low location =
     is_writable location && nat_lt low location && nat_le to_come (places_above location)
 
--- the pairs behind one
+-- the pairs after one
 abbrev pub behind_pair : ℕ × ℕ → Pairs → Pairs
 behind_pair pair (lists.Whole pairs) = lists.Whole (record { items = pair ∷ pairs.items })
 behind_pair pair lists.Cut = lists.Cut
 behind_pair pair lists.Bad = lists.Bad
 
--- the pairs behind others
+-- the pairs after others
 abbrev pub behind_pairs : List (ℕ × ℕ) → Pairs → Pairs
 behind_pairs front (lists.Whole pairs) = lists.Whole (record { items = front ++ pairs.items })
 behind_pairs front lists.Cut = lists.Cut
 behind_pairs front lists.Bad = lists.Bad
 
--- so many pairs above a location
+-- this many pairs above a location
 abbrev pub pairs_of : ℕ → ℕ → List ℕ → Pairs
 pairs_of zero low bytes = lists.Whole (record { items = [] })
 pairs_of (suc count) low [] = lists.Cut
@@ -50,7 +50,7 @@ code_numbered number =
     if number == 0 then Done else if number == 1 then Short else if number == 2 then Format
     else if number == 3 then Silent else if number == 4 then Doubt else DoubtOpen
 
--- a record of two bytes behind its letter: a number of at most so much
+-- a record of two bytes after its letter: a number of at most `most`
 abbrev pub short_piece : (ℕ → Record) → ℕ → List ℕ → Piece
 short_piece make most [] = Cut
 short_piece make most (number ∷ rest) = if nat_le number most then Whole (make number) 2 else Bad
@@ -67,27 +67,27 @@ began_piece version id moment unit count (lists.Whole pairs) =
 began_piece version id moment unit count lists.Cut = Cut
 began_piece version id moment unit count lists.Bad = Bad
 
--- behind a unit: a count, and pairs
+-- after a unit: a count, and pairs
 abbrev pub counted_piece : Version → ℕ → ℕ → ℕ → List ℕ → Piece
 counted_piece version id moment unit [] = Cut
 counted_piece version id moment unit (count ∷ rest) =
     if nat_le 1 count && nat_le count 115 then began_piece version id moment unit count (pairs_of count 0 rest)
     else Bad
 
--- behind an order's number and moment: a unit, a count, and pairs
+-- after an order's number and moment: a unit, a count, and pairs
 abbrev pub timed_piece : Version → ℕ → ℕ → List ℕ → Piece
 timed_piece version id moment [] = Cut
 timed_piece version id moment (unit ∷ rest) =
     if nat_le unit 63 then counted_piece version id moment unit rest else Bad
 
--- behind an order's number: in version 2 its moment
+-- after an order's number: in version 2 its moment
 abbrev pub numbered_piece : Version → ℕ → List ℕ → Piece
 numbered_piece One id bytes = timed_piece One id 0 bytes
 numbered_piece Two id bytes =
     if nat_lt (length bytes) 8 then Cut
     else timed_piece Two id (from_be_bytes w64 (take 8 bytes)) (drop 8 bytes)
 
--- behind the letter of an order
+-- after the letter of an order
 abbrev pub order_piece : Version → List ℕ → Piece
 order_piece version bytes =
     if nat_lt (length bytes) 8 then Cut else numbered_piece version (from_be_bytes w64 (take 8 bytes)) (drop 8 bytes)
@@ -108,7 +108,7 @@ read_further (Whole entry len) older further = further entry len
 read_further Cut older further = older
 read_further Bad older further = older
 
--- these records, and in front of them those that bytes begin with, at most so many: the newest first
+-- these records, and in front of them at most this many that the bytes begin with: the newest first
 abbrev pub records_from : Version → ℕ → List Record → List ℕ → List Record
 records_from version zero older bytes = older
 records_from version (suc most) older bytes =

@@ -1,4 +1,4 @@
--- Why there is no journal, and how a fault is told.
+-- Why there is no journal, and how a fault is reported.
 use Rattle.std.specs.Prelude.{ℕ, List, codes}
 use Rattle.dali_journal.specs.declared.fault.JournalFault.{JournalFault}
 use Rattle.dali_journal.specs.declared.fault.JournalFault.TheVariants.{Limit, NoMemory, Record as NoRecord}
@@ -23,7 +23,7 @@ name_of (Repeated place) = codes "Repeated"
 name_of (Full place) = codes "Full"
 name_of Header = codes "Header"
 
--- why no journal is made for at most so many orders
+-- why no journal is made for at most this many orders
 abbrev pub IsNewFault : ℕ → JournalFault → Type 0
 IsNewFault limit Limit = ¬ IsLimit limit
 IsNewFault limit NoMemory = IsLimit limit

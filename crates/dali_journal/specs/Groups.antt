@@ -20,7 +20,7 @@ AreGroups (Began order moment ∷ Opened unit ∷ Ended DoubtOpen ∷ Closed clo
     (unit ≡ order.unit) × (closed ≡ order.unit) × AreGroups rest
 AreGroups _ = ⊥
 
--- no number stands twice
+-- no number comes twice
 abbrev pub HaveDistinctNumbers : List Record → Type 0
 HaveDistinctNumbers [] = ⊤
 HaveDistinctNumbers (Began order moment ∷ rest) = (is_begun order.id rest ≡ false) × HaveDistinctNumbers rest

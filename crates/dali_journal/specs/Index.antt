@@ -1,4 +1,4 @@
--- What a journal's index tells of each number, and that it agrees with the journal's bytes.
+-- A journal's index entry of each number, and its agreement with the journal's bytes.
 use Rattle.std.specs.Prelude.{◌≡◌, ℕ, ◌≤◌, ◌==◌, nat_eq, IsSome, Bool, true, false, List, length, drop}
 use Rattle.std.specs.Prelude.{Option, None, Some, ⊤, if◌then◌else◌, All}
 use Rattle.std.specs.List.Sorted.{IsNonDecreasingBy}
@@ -35,7 +35,7 @@ is_begun_at index_entries.NotBegun = false
 is_begun_at (index_entries.Begun at) = true
 is_begun_at (index_entries.Ended at code) = true
 
--- a record's bytes stand there
+-- a record's bytes are there
 abbrev pub IsRecordAt : List ℕ → ℕ → Record → Type 0
 IsRecordAt bytes at entry = (at ≤ length bytes) × BeginsWith Two (drop at bytes) entry
 
@@ -62,7 +62,7 @@ works_on (standings.Opened order) id = order.id == id
 works_on standings.Idle id = false
 works_on (standings.Left unit) id = false
 
--- what a record that stands there makes of a number's entry in the index
+-- the entry of a number in the index after a record that is there
 abbrev pub index_entry_after : Standing → Record → ℕ → ℕ → IndexEntry → IndexEntry
 index_entry_after standing (Began order moment) at id known = if order.id == id then index_entries.Begun at else known
 index_entry_after standing (Ended code) at id known =
@@ -80,7 +80,7 @@ abbrev pub order_in : Piece → Option (Contents × ℕ)
 order_in (Whole (Began order moment) len) = Some (order, moment)
 order_in other = None
 
--- where the record begins an order, the order's numbers are in range
+-- if the record begins an order, the order's numbers are in range
 abbrev pub BeginsInRange : Record → Type 0
 BeginsInRange (Began order moment) = IsRecord Two (Began order moment)
 BeginsInRange other = ⊤
@@ -98,8 +98,8 @@ pub record IsSettled (bytes : List ℕ) (records : List Record) (index : List (�
   pub kept : Agrees bytes (index_entries.Ended one.at one.code) (kept_of one.id records) (moment_of one.id records)
   pub apart : index_entry (lookup (nat_eq one.id) index) ≡ index_entries.NotBegun
 
--- what is told of each number is what is kept of it: of the settled orders, which stand in the order of their numbers,
--- by their places in the bytes, and of all others by the index, whose places count from behind so many bytes
+-- the answer about each number is what is kept of it: of the settled orders, which are in the order of their numbers,
+-- by their places in the bytes, and of all others by the index, whose places count from after `front` bytes
 pub record IsIndexed (bytes : List ℕ) (records : List Record) (front : ℕ) (settled : List Settled)
     (index : List (ℕ × IndexEntry)) : Type 0 where
   pub within : front ≤ length bytes

@@ -1,4 +1,4 @@
--- What contracts see of a journal.
+-- The view that contracts have of a journal.
 use Rattle.std.specs.Prelude.{◌≡◌, ℕ, ◌+◌, ◌<◌, ◌≤◌, nat_eq, true, false, List, length, ⊤}
 use Rattle.std.specs.List.{list_any, AllByRecursion}
 use Rattle.dali_bank.specs.Order.{Contents}
@@ -39,8 +39,7 @@ HasRoom journal order =
 abbrev pub order_count : JournalState → ℕ
 order_count journal = length (orders_of journal.records)
 
--- where the record begins an order, there is room for it, fewer orders than the limit were begun, and its number
--- is new
+-- if the record begins an order, there is room for it, fewer orders than the limit were begun, and its number is new
 abbrev pub MayBegin : JournalState → Record → Type 0
 MayBegin journal (Began order moment) =
     HasRoom journal order × (order_count journal < journal.limit) × (is_begun order.id journal.records ≡ false)
@@ -57,11 +56,11 @@ KeepsRoom other old new = (order : Contents) → HasRoom old order → HasRoom n
 abbrev pub HoldsOrders : ℕ → Type 0
 HoldsOrders limit = 1 ≤ limit
 
--- the limits that a journal may have which stands alone; one behind older journals may hold all their orders too
+-- the limits that a journal alone may have; one after older journals may hold all their orders too
 abbrev pub IsLimit : ℕ → Type 0
 IsLimit limit = HoldsOrders limit × (limit ≤ 100000)
 
--- the records of a journal for at most so many orders, as a version may write them
+-- the records of a journal for at most this many orders, as a version may write them
 pub record AreKept (version : Version) (limit : ℕ) (records : List Record) : Type 0 where
   pub in_range : AllByRecursion (IsRecord version) records
   pub whole : IsSentenceWithin limit records

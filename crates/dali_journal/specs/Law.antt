@@ -13,8 +13,8 @@ use Rattle.dali_journal.specs.Spelling.{spelling, IsRecord}
 use Rattle.dali_journal.specs.Reading.{IsRead}
 use Rattle.dali_journal.specs.declared.read.Piece.{Piece}
 
--- What the table allows, record by record, is what a person reads as groups, the oldest first, in which no number
--- stands twice.
+-- The records that the table allows, record by record, are what a person reads as groups, the oldest first, in which no
+-- number comes twice.
 abbrev pub SentencesAreGroups : Type 0
 SentencesAreGroups =
     (records : List Record) → IsSentence records ↔ (AreGroups (reverse records) × HaveDistinctNumbers (reverse records))
@@ -25,15 +25,15 @@ IsUnended order records =
     (moment : ℕ) × (older : List Record)
     × ((records ≡ Began order moment ∷ older) ⊎ (records ≡ Opened order.unit ∷ Began order moment ∷ older))
 
--- somewhere among the records the order's group ends with the code: straight behind its Began, or behind its Opened
+-- somewhere among the records the order's group ends with the code: directly after its Began, or after its Opened
 abbrev pub HasEnded : Contents → Code → List Record → Type 0
 HasEnded order code records =
     (moment : ℕ) × (newer : List Record) × (older : List Record)
     × ((records ≡ newer ++ Ended code ∷ Began order moment ∷ older)
     ⊎ (records ≡ newer ++ Ended code ∷ Opened order.unit ∷ Began order moment ∷ older))
 
--- What is kept of a number is what the groups say: nothing where no order was begun under it, the order whose group
--- hasn't ended, or an order and how its group ended.
+-- The groups say what is kept of a number: nothing if no order was begun under it, the order whose group hasn't ended,
+-- or an order and how its group ended.
 abbrev pub KeptIsInTheGroups : Type 0
 KeptIsInTheGroups = (records : List Record) (id : ℕ) → IsSentence records
     → ((kept_of id records ≡ kepts.Absent) ↔ (is_begun id records ≡ false))
@@ -41,7 +41,7 @@ KeptIsInTheGroups = (records : List Record) (id : ℕ) → IsSentence records
     × ((order : Contents) (code : Code)
     → (kept_of id records ≡ kepts.Ended order code) ↔ ((order.id ≡ id) × HasEnded order code records))
 
--- Where the bytes of one record begin those of another of the same version, the two are one record.
+-- If the bytes of one record begin those of another of the same version, the two are one record.
 abbrev pub NoSpellingBeginsAnother : Type 0
 NoSpellingBeginsAnother =
     (version : Version) (a b : Record) (more : List ℕ) → IsRecord version a → IsRecord version b
@@ -52,7 +52,7 @@ abbrev pub BytesBeginWithOnePiece : Type 0
 BytesBeginWithOnePiece =
     (version : Version) (bytes : List ℕ) (a b : Piece) → IsRead version bytes a → IsRead version bytes b → a ≡ b
 
--- There is a moment just where something is kept: that of the one Began of the number.
+-- There is a moment exactly when something is kept: that of the one Began of the number.
 abbrev pub MomentsAreKept : Type 0
 MomentsAreKept = (records : List Record) (id : ℕ)
     → ((moment_of id records ≡ None) ↔ (kept_of id records ≡ kepts.Absent))

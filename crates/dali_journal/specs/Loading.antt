@@ -18,26 +18,26 @@ abbrev pub HasVersion : Version → List ℕ → Type 0
 HasVersion One bytes = (first : ℕ) × (rest : List ℕ) × (bytes ≡ first ∷ rest) × (first ≢ 0x44)
 HasVersion Two bytes = (rest : List ℕ) × (bytes ≡ header Two ++ rest)
 
--- a torn journal: the bytes are those of the header and the records, this many, and behind them a proper front of
--- some record's
+-- a torn journal: the bytes are those of the header and the records, this many, and after them a proper front of some
+-- record's
 pub record IsTorn (version : Version) (bytes : List ℕ) (records : List Record) (len : ℕ) : Type 0 where
   pub rest : List ℕ
   pub spelled : bytes ≡ journal_spelling version records ++ rest
   pub cut : (last : Record) × IsCutOf version rest last
   pub counts : len ≡ length (journal_spelling version records)
 
--- what a journal is loaded from: a torn journal, of version 1 only where there are bytes; and no bytes at all, which
--- are of version 2
+-- what a journal is loaded from: a torn journal, of version 1 only if there are bytes; and no bytes at all, which are
+-- of version 2
 abbrev pub IsLoadable : Version → List ℕ → List Record → ℕ → Type 0
 IsLoadable version [] records len = (version ≡ Two) × (records ≡ []) × (len ≡ 0)
 IsLoadable version (first ∷ rest) records len = IsTorn version (first ∷ rest) records len
 
--- the journal of these bytes, of which so many count
+-- the journal of these bytes, of which `len` count
 abbrev pub IsLoaded : ℕ → List ℕ → JournalState → ℕ → Version → Type 0
 IsLoaded limit bytes journal len version =
     (journal.limit ≡ limit) × AreKept version limit journal.records × IsLoadable version bytes journal.records len
 
--- a record that may not stand behind the records, at this place: the first of these that is so
+-- a record that may not follow the records, at this place: the first of these cases that holds
 abbrev pub MayNotFollow : JournalFault → ℕ → ℕ → List Record → Record → Type 0
 MayNotFollow (faults.Sequence at) limit place records entry = (at ≡ place) × (¬ Allows (standing_of records) entry)
 MayNotFollow (faults.Repeated at) limit place records (Began order moment) =
@@ -52,14 +52,14 @@ abbrev pub IsRecordRefused : JournalFault → ℕ → ℕ → List Record → Re
 IsRecordRefused faults.NoMemory limit place records entry = ⊤
 IsRecordRefused fault limit place records entry = MayNotFollow fault limit place records entry
 
--- what stands behind the records, at this place, is the fault
+-- the bytes after the records, at this place, are the fault
 abbrev pub IsFault : Version → JournalFault → ℕ → ℕ → List Record → List ℕ → Type 0
 IsFault version (faults.Record at) limit place records rest =
     (at ≡ place) × ((entry : Record) → (¬ BeginsWith version rest entry) × (¬ IsCutOf version rest entry))
 IsFault version fault limit place records rest =
     (entry : Record) × BeginsWith version rest entry × MayNotFollow fault limit place records entry
 
--- the bytes have this fault: what stands before it is a journal
+-- the bytes have this fault: those before it are a journal
 pub record HasFault (limit : ℕ) (bytes : List ℕ) (fault : JournalFault) : Type 0 where
   pub version : Version
   pub of_version : HasVersion version bytes
@@ -73,14 +73,14 @@ pub record HasFault (limit : ℕ) (bytes : List ℕ) (fault : JournalFault) : Ty
 abbrev pub HasBrokenHeader : List ℕ → Type 0
 HasBrokenHeader bytes = ((rest : List ℕ) × (bytes ≡ 0x44 ∷ rest)) × (¬ HasVersion Two bytes)
 
--- why no journal is loaded from the bytes for at most so many orders, where these limits may be
+-- why no journal is loaded from the bytes for at most `limit` orders, if these limits may be
 abbrev pub IsLoadFault : (ℕ → Type 0) → ℕ → List ℕ → JournalFault → Type 0
 IsLoadFault MayBe limit bytes faults.Limit = ¬ MayBe limit
 IsLoadFault MayBe limit bytes faults.NoMemory = MayBe limit
 IsLoadFault MayBe limit bytes faults.Header = MayBe limit × HasBrokenHeader bytes
 IsLoadFault MayBe limit bytes fault = MayBe limit × HasFault limit bytes fault
 
--- a journal for at most so many orders may be loaded from the bytes
+-- a journal for at most `limit` orders may be loaded from the bytes
 abbrev pub IsLoadableWithin : (ℕ → Type 0) → ℕ → List ℕ → Type 0
 IsLoadableWithin MayBe limit bytes =
     MayBe limit × (version : Version) × (records : List Record) × (len : ℕ) × AreKept version limit records
@@ -97,14 +97,14 @@ TornHasNoFault =
     → AreKept other limit others → IsLoadable other bytes others count
     → (other ≡ version) × (others ≡ records) × (count ≡ len))
 
--- Bytes have one fault at most; where their header is broken they have no other.
+-- Bytes have one fault at most; if their header is broken they have no other.
 abbrev pub BytesHaveOneFault : Type 0
 BytesHaveOneFault =
     (limit : ℕ) (bytes : List ℕ) (fault : JournalFault) → AllByRecursion (λ byte. byte < 256) bytes
     → HasFault limit bytes fault
     → ((other : JournalFault) → HasFault limit bytes other → fault ≡ other) × (¬ HasBrokenHeader bytes)
 
--- The bytes of a journal in version 2, and behind them a proper front of any record's, are a torn journal of its
+-- The bytes of a journal in version 2, and after them a proper front of any record's, are a torn journal of its
 -- records.
 abbrev pub JournalsLoadAgain : Type 0
 JournalsLoadAgain =

@@ -1,4 +1,4 @@
--- What a journal says of each order. The newest comes first.
+-- The content of a journal on each order. The newest comes first.
 use Rattle.std.specs.Prelude.{ℕ, ◌==◌, List, [], ◌∷◌, Option, None, Some, if◌then◌else◌}
 use Rattle.dali_bank.specs.Order.{Contents}
 use Rattle.dali_journal.specs.declared.record.Record.{Record}
@@ -13,7 +13,7 @@ abbrev pub come_to : Progress → List (Contents × Progress) → List (Contents
 come_to progress [] = []
 come_to progress (newest ∷ older) = (newest.0, progress) ∷ older
 
--- the orders that were begun, each with how far it has come
+-- the orders that were begun, each with its progress
 abbrev pub orders_of : List Record → List (Contents × Progress)
 orders_of [] = []
 orders_of (Began order moment ∷ older) = (order, reached.Begun) ∷ orders_of older

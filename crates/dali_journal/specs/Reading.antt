@@ -1,4 +1,4 @@
--- What bytes begin with, by a version: a record, a proper front of one, or neither.
+-- The front of bytes, by a version: a record, a proper front of one, or neither.
 use Rattle.std.specs.Prelude.{◌≡◌, ◌≢◌, ℕ, List, [], ◌++◌, length}
 use Rattle.dali_journal.specs.declared.record.Record.{Record}
 use Rattle.dali_journal.specs.declared.version.Version.{Version}

@@ -61,6 +61,6 @@ abbrev pub IsSentence : List Record → Type 0
 IsSentence [] = ⊤
 IsSentence (newest ∷ older) = IsSentence older × Allows (standing_of older) newest × IsNew newest older
 
--- a sentence of at most so many orders
+-- a sentence of at most this many orders
 abbrev pub IsSentenceWithin : ℕ → List Record → Type 0
 IsSentenceWithin limit records = IsSentence records × (length (orders_of records) ≤ limit)

@@ -8,7 +8,7 @@ use Rattle.dali_journal.specs.declared.settled.Settled.{Settled}
 abbrev pub IsUnsettled : ℕ → List Settled → Type 0
 IsUnsettled id settled = All (λ one. one.id ≢ id) settled
 
--- the same order, so many bytes further on
+-- the same order, this many bytes further on
 abbrev pub moved : ℕ → Settled → Settled
 moved front one = record { id = one.id; at = front + one.at; code = one.code }
 
@@ -18,8 +18,8 @@ settled_at front (id, index_entries.NotBegun) = None
 settled_at front (id, index_entries.Begun at) = None
 settled_at front (id, index_entries.Ended at code) = Some (record { id = id; at = front + at; code = code })
 
--- the settled orders of two journals: of the older one with those that its index tells as ended, whose places count
--- from there, and those of the newer one, whose bytes stand behind so many
+-- the settled orders of two journals: of the older one with those that its index has as ended, whose places count from
+-- `front` on, and those of the newer one, whose bytes come after `len` bytes
 abbrev pub settled_both : ℕ → List Settled → List (ℕ × IndexEntry) → ℕ → List Settled → List Settled
 settled_both front settled index len own =
     (settled ++ filter_map (settled_at front) index) ++ map (moved len) own

@@ -28,16 +28,16 @@ code_name Silent = codes "Silent"
 code_name Doubt = codes "Doubt"
 code_name DoubtOpen = codes "DoubtOpen"
 
--- each location, and behind it its byte
+-- each location, and after it its byte
 abbrev pub pairs_spelling : List (ℕ × ℕ) → List ℕ
 pairs_spelling pairs = flat_map (λ pair. pair.0 ∷ pair.1 ∷ []) pairs
 
--- an order's number in eight bytes, the most significant first, and in version 2 behind it the moment likewise
+-- an order's number in eight bytes, the most significant first, and in version 2 after it the moment likewise
 abbrev pub head_spelling : Version → ℕ → ℕ → List ℕ
 head_spelling One id moment = to_be_bytes w64 id
 head_spelling Two id moment = to_be_bytes w64 id ++ to_be_bytes w64 moment
 
--- an order behind its letter: its number and moment, its unit, how many updates it has, and these
+-- an order after its letter: its number and moment, its unit, how many updates it has, and these
 abbrev pub order_spelling : Version → Contents → ℕ → List ℕ
 order_spelling version order moment =
     head_spelling version order.id moment ++ order.unit ∷ length order.updates ∷ pairs_spelling order.updates
@@ -54,7 +54,7 @@ abbrev pub records_spelling : Version → List Record → List ℕ
 records_spelling version [] = []
 records_spelling version (newest ∷ older) = records_spelling version older ++ spelling version newest
 
--- what stands in front of the records: in version 2 "DB1" and the version
+-- the bytes in front of the records: in version 2 "DB1" and the version
 abbrev pub header : Version → List ℕ
 header One = []
 header Two = 0x44 ∷ 0x42 ∷ 0x31 ∷ 0x02 ∷ []

@@ -1,4 +1,4 @@
-// A journal behind older ones, as one journal.
+// A journal after older ones, as one journal.
 ghost use Rattle.std.specs.Prelude.{◌≡◌, ◌+◌, ◌++◌, ℕ, true, slice_get, All, Some, IsTrue, IsFalse, IfOk, IfErr, IfSome, IsNone};
 ghost use Rattle.dali_journal.specs.declared.standing.Standing.TheVariants.{Idle};
 ghost use Rattle.dali_journal.specs.Sentence.{standing_of, is_begun};
@@ -19,11 +19,11 @@ pub enum JoinFault {
 }
 
 impl Journal {
-    /// This journal behind an older one, as one journal: it has the orders of both, and may hold as many more as this
+    /// This journal after an older one, as one journal: it has the orders of both, and may hold as many more as this
     /// one. The older one grows by these records alone, however many it has.
     ///
-    /// The older one has to be at rest: it stands `Idle`. `Repeated` where both have begun an order of one number,
-    /// `NoMemory` where there is no memory.
+    /// The older one has to be at rest: its standing is `Idle`. `Repeated` if both have begun an order of one number,
+    /// `NoMemory` if there is no memory.
     pub fn behind(self, older: Journal) -> Result<Journal, JoinFault>
         requires rests { standing_of older.records ≡ Idle }
         ensures records { IfOk result (λ joined. joined.records ≡ self.records ++ older.records) }
@@ -57,7 +57,7 @@ fn common_number(newer: &Journal, older: &Journal) -> Option<u64>
     None
 }
 
-// The number of one of these orders, where both have begun one of it.
+// The number of one of these orders, if both have begun one of it.
 fn common_among(settled: &[Settled], newer: &Journal, older: &Journal) -> Option<u64>
     ensures some { IfSome result (λ id.
         (is_begun id newer.now.records ≡ true) × (is_begun id older.now.records ≡ true)) }
@@ -71,7 +71,7 @@ fn common_among(settled: &[Settled], newer: &Journal, older: &Journal) -> Option
     None
 }
 
-// The number at this place of the newer one's index, where both have begun an order of it.
+// The number at this place of the newer one's index, if both have begun an order of it.
 fn common_at(newer: &Journal, older: &Journal, place: usize) -> Option<u64>
     ensures some { IfSome result (λ id.
         (is_begun id newer.now.records ≡ true) × (is_begun id older.now.records ≡ true)) }

@@ -4,9 +4,8 @@ use std::alloc::{AllocError, AllocFailed};
 use std::error::Error;
 use std::fmt;
 
-/// Why there is no journal (profile). A place is that of a record's first byte. Of several faults the
-/// first record's is told, and of these the one with the lowest number; `Limit` comes before all, and
-/// then `Header`.
+/// Why there is no journal (profile). A place is that of a record's first byte. Of several faults the first record's is
+/// reported, and of these the one with the lowest number; `Limit` comes before all, and then `Header`.
 #[derive(Clone, Copy, Debug, PartialEq, Eq)]
 pub enum JournalFault {
     /// The limit is 0 or over 100000.

@@ -16,8 +16,8 @@ use std::alloc::Global;
 // The least bytes of a group: a Began with one update, and an Ended.
 const LEAST_BYTES: usize = 23;
 
-// What the whole groups in front of a journal's bytes tell: how many bytes they take, how many orders they are, and
-// the index of these.
+// The whole groups in front of a journal's bytes: how many bytes they take, how many orders they are, and the index of
+// these.
 #[derive(Drop)]
 pub(crate) struct Groups {
     pub(crate) len: usize,
@@ -41,9 +41,9 @@ struct Head {
     len: usize,
 }
 
-// The whole groups in front of the bytes behind a header, up to the limit.
+// The whole groups in front of the bytes after a header, up to the limit.
 //
-// Repeated where a number stands twice; NoMemory.
+// Repeated if a number comes twice; NoMemory.
 pub(crate) fn groups_ahead(alloc: Global, limit: u32, bytes: &[u8]) -> Result<Groups, JournalFault>
     requires { HoldsOrders limit }
     ensures ok { IfOk result (λ groups. IsFront limit bytes.now groups.len groups.orders groups.index.entries) }
@@ -74,7 +74,7 @@ pub(crate) fn groups_ahead(alloc: Global, limit: u32, bytes: &[u8]) -> Result<Gr
     })
 }
 
-// The whole group in front of the bytes. None where none stands there.
+// The whole group in front of the bytes. None if there is none.
 fn group_ahead(bytes: &[u8]) -> Option<Group>
     ensures { IfSome result (λ group. HasGroup Two group.id group.code group.len bytes.now) }
 {
@@ -163,7 +163,7 @@ fn old_head_ahead(bytes: &[u8]) -> Option<Head>
     })
 }
 
-// Whether so many updates of an order stand in front of the bytes.
+// Whether this many updates of an order are in front of the bytes.
 fn has_updates(bytes: &[u8], count: u8) -> bool
     ensures { IsTrue result → HasUpdates count 0 bytes.now }
 {
@@ -189,7 +189,7 @@ fn are_updates(bytes: &[u8]) -> bool
     low <= 0x77
 }
 
-// How the order of a unit ends whose other records stand in front of the bytes, and how many bytes they take.
+// How the order of a unit ends whose other records are in front of the bytes, and how many bytes they take.
 fn end_ahead(unit: u8, bytes: &[u8]) -> Option<(Code, usize)>
     ensures { IfSome result (λ end. HasEnd unit end.0 end.1 bytes.now) }
 {

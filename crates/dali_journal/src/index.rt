@@ -14,7 +14,7 @@ use dali_bank::Order;
 use indexmap::IndexMap;
 use std::alloc::AllocFailed;
 
-/// What the index tells of an order's number: where its `Began` stands, and how it ended.
+/// An entry of the index for an order's number: the place of its `Began`, and how it ended.
 #[derive(Clone, Copy, PartialEq, Eq)]
 pub enum IndexEntry {
     /// No order of this number was begun.
@@ -65,7 +65,7 @@ pub(crate) fn enter(
     Ok(())
 }
 
-// What the index tells of a number.
+// The entry of a number in the index.
 pub(crate) fn index_entry(index: &IndexMap<u64, IndexEntry>, id: u64) -> IndexEntry
     ensures { result ≡ index_entry (get nat_eq index.now id) }
 {
@@ -75,7 +75,7 @@ pub(crate) fn index_entry(index: &IndexMap<u64, IndexEntry>, id: u64) -> IndexEn
     }
 }
 
-// Writes what a record that stands there makes of its order's entry in the index. It takes no memory.
+// Writes the entry of its order in the index that results from a record that is there. It takes no memory.
 pub(crate) fn note(
     index: &mut IndexMap<u64, IndexEntry>,
     standing: &Standing,
@@ -125,7 +125,7 @@ fn end_index_entry(index: &mut IndexMap<u64, IndexEntry>, id: u64, code: Code)
     }
 }
 
-// What is kept of the order that this is known of.
+// The kept state of the order with this entry.
 pub(crate) fn kept_at(bytes: &[u8], known: IndexEntry) -> Kept
     ensures { (kept : KeptValue) (since : Option ℕ) → Agrees bytes.now known kept since → result ≡ kept }
 {

@@ -38,17 +38,16 @@ const BYTES_BEHIND_BEGAN: usize = 6;
 
 /// The journal of a writer (profile): its records, and the most orders that it may hold.
 ///
-/// Its records are a list of groups, one for each order, of which the last may end early; their
-/// orders' numbers are distinct, and there are no more than the limit: 1 to 100000, and behind an
-/// older journal the orders of that one besides. There is always room for the records that end what
-/// the journal has begun.
+/// Its records are a list of groups, one for each order, of which the last may end early; their orders' numbers are
+/// distinct, and there are no more than the limit: 1 to 100000, and after an older journal the orders of that one
+/// besides. There is always room for the records that end what the journal has begun.
 pub struct Journal {
     pub(crate) limit: u32,
     pub(crate) orders: u32,
     pub(crate) standing: Standing,
     // the records' bytes in version 2, the oldest first, without the header
     pub(crate) bytes: Vec<u8>,
-    // of so many bytes in front, those of older journals, the orders are settled
+    // of the first `front` bytes, those of older journals, the orders are settled
     pub(crate) front: usize,
     pub(crate) settled: Vec<Settled>,
     // where the order of each other number began, from there on, and how it ended; a number is here before its order
@@ -96,10 +95,9 @@ impl Model for Journal {
 }
 
 impl Journal {
-    /// An empty journal for at most so many orders.
+    /// An empty journal for at most this many orders.
     ///
-    /// Fault 1 Limit where the limit is 0 or over 100000. It takes no memory, so that fault 2 NoMemory
-    /// doesn't come.
+    /// Fault 1 Limit if the limit is 0 or over 100000. It takes no memory, so that fault 2 NoMemory doesn't come.
     pub fn new(alloc: Global, limit: u32) -> Result<Journal, JournalFault>
         ensures accepted { OnOk result (IsLimit limit) }
         ensures succeeds { IsLimit limit → IsOk result }
@@ -113,7 +111,7 @@ impl Journal {
         Ok(Journal::empty(alloc, limit))
     }
 
-    // An empty journal for at most so many orders.
+    // An empty journal for at most this many orders.
     pub(crate) fn empty(alloc: Global, limit: u32) -> Journal
         requires { HoldsOrders limit }
         ensures records { result.records ≡ [] }
@@ -139,7 +137,7 @@ impl Journal {
         known.is_begun()
     }
 
-    // What is told of the order of this number, and the bytes that hold it.
+    // The index entry of the order of this number, and the bytes that hold it.
     fn told(&self, id: u64) -> (&[u8], IndexEntry)
         ensures { Agrees result.0.now result.1 (kept_of id self.now.records) (moment_of id self.now.records) }
     {
@@ -149,7 +147,7 @@ impl Journal {
         }
     }
 
-    /// The most orders that the journal may hold: 1 to 100000, and behind an older journal the orders of that one
+    /// The most orders that the journal may hold: 1 to 100000, and after an older journal the orders of that one
     /// besides.
     pub fn limit(&self) -> u32
         ensures value { result ≡ self.now.limit }
@@ -172,7 +170,7 @@ impl Journal {
         self.orders >= self.limit
     }
 
-    /// What the last records leave to be done. A unit that was left is a short address, 0 to 63.
+    /// The work that the last records leave to be done. A unit that was left is a short address, 0 to 63.
     pub fn standing(&self) -> Standing
         ensures value { result ≡ standing_of self.now.records }
         ensures short { HasShortUnit result }
@@ -181,7 +179,7 @@ impl Journal {
         self.standing.copy()
     }
 
-    /// What the journal has kept of the order of this number.
+    /// The journal's kept state of the order of this number.
     pub fn kept(&self, id: u64) -> Kept
         ensures { result ≡ kept_of id self.now.records }
     {
@@ -189,7 +187,7 @@ impl Journal {
         kept_at(bytes, known)
     }
 
-    /// The moment at which the order of this number was submitted, where it was begun.
+    /// The moment at which the order of this number was submitted, if it was begun.
     pub fn moment(&self, id: u64) -> Option<u64>
         ensures { result ≡ moment_of id self.now.records }
     {
@@ -209,7 +207,7 @@ impl Journal {
     /// Makes room for a `Closed` of the unit that is left, for what else is due, and for all records
     /// of the order.
     ///
-    /// `NoMemory` where there is no memory. The journal says the same before and after.
+    /// `NoMemory` if there is no memory. The journal says the same before and after.
     pub fn reserve(&mut self, order: &Order) -> Result<(), NoMemory>
         ensures records { self.new.records ≡ self.old.records }
         ensures limit { self.new.limit ≡ self.old.limit }
@@ -244,7 +242,7 @@ impl Journal {
         put_in_room(&mut self.bytes, &bytes);
     }
 
-    // This journal behind an older one that has no number of it.
+    // This journal after an older one that has no number of it.
     pub(crate) fn joined(self, older: Journal) -> Result<Journal, NoMemory>
         requires rests { standing_of older.records ≡ Idle }
         requires apart { AreApart self.records older.records }
@@ -297,7 +295,7 @@ impl Journal {
     /// A copy of the journal's bytes (profile), always in version 2: the header, and those of its records, the
     /// oldest first.
     ///
-    /// `NoMemory` where there is no memory.
+    /// `NoMemory` if there is no memory.
     pub fn to_bytes(&self, alloc: Global) -> Result<Vec<u8>, NoMemory>
         ensures { IfOk result (λ bytes. bytes.items ≡ journal_spelling Two self.now.records) }
     {
@@ -326,7 +324,7 @@ fn orders_begun(entry: &Record) -> u32
     }
 }
 
-// Puts bytes at the end, where there is room for them.
+// Puts bytes at the end, if there is room for them.
 fn put_in_room(bytes: &mut Vec<u8>, more: &[u8])
     requires { vec_len bytes.old + length more.now ≤ vec_capacity bytes.old }
     ensures items { bytes.new.items ≡ bytes.old.items ++ more.now }

@@ -1,7 +1,7 @@
 use crate::record::Code;
 use dali_bank::Order;
 
-/// What a journal has kept of the order of a number (profile).
+/// The state that a journal has kept of the order of a number (profile).
 #[derive(Drop)]
 pub enum Kept {
     /// No order of this number was begun.

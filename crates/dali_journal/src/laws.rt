@@ -5,19 +5,18 @@ ghost use Rattle.dali_journal.specs.Law.{BytesBeginWithOnePiece, MomentsAreKept}
 ghost use Rattle.dali_journal.specs.Behind.{OwnRecordsStandAlone, OlderOrdersAreKept};
 ghost use Rattle.dali_journal.specs.Loading.{TornHasNoFault, BytesHaveOneFault, JournalsLoadAgain};
 
-/// What the table of standings allows, record by record, is a list of groups, one for each order.
+/// The records that the table of standings allows, record by record, are a list of groups, one for each order.
 pub fn sentences_are_groups()
     ensures { SentencesAreGroups }
 {}
 
-/// What a journal has kept of a number is what its groups say of it, and nothing just where no order was begun under
-/// it:
-/// so a new order may be appended just where nothing is kept of its number.
+/// A journal has kept of a number what its groups say of it, and nothing exactly when no order was begun under it: so a
+/// new order may be appended if and only if nothing is kept of its number.
 pub fn kept_is_in_the_groups()
     ensures { KeptIsInTheGroups }
 {}
 
-/// There is a moment just where something is kept of a number, and it is that of the one `Began` of the number.
+/// There is a moment exactly when something is kept of a number, and it is that of the one `Began` of the number.
 pub fn moments_are_kept()
     ensures { MomentsAreKept }
 {}
@@ -47,7 +46,7 @@ pub fn bytes_have_one_fault()
     ensures { BytesHaveOneFault }
 {}
 
-/// A journal behind older ones that are at rest is a journal by itself.
+/// A journal after older ones that are at rest is a journal by itself.
 pub fn own_records_stand_alone()
     ensures { OwnRecordsStandAlone }
 {}

@@ -1,8 +1,10 @@
-//! The journal of a writer (profile): which orders it began, and how far each has come.
+//! The journal of a writer (profile): which orders it began, and the progress of each.
 //!
-//! A journal is a list of records, held as their bytes. What it has begun it can always end without
-//! taking memory. Only `Journal::load`, `load_vec`, `behind`, `reserve` and `to_bytes` take memory. It is written in
-//! version 2 alone, and read in both.
+//! A journal is a list of records, held as their bytes. It can always end an order that it has begun, without taking
+//! memory. Only `Journal::load`, `load_vec`, `behind`, `reserve` and `to_bytes` take memory. It is written in version 2
+//! alone, and read in both.
+//!
+//! A crate of its own: records and their bytes depend on orders alone, and not on what is sent.
 #![tactic(auto)]
 
 mod behind;

@@ -20,13 +20,12 @@ impl Journal {
     /// The journal of these bytes, how many of them count, those of the header and the whole records, and their
     /// version (profile). No bytes at all are a journal of version 2 without records, of which 0 count.
     ///
-    /// The bytes may end in a proper prefix of some record's, which doesn't count. Fault 1 Limit where
-    /// the limit is 0 or over 100000, before all else; then 7 Header, where the bytes begin with 44h and not with
-    /// the whole header. Then the records are tested in their order, each
-    /// for 3 Record, where neither a record stands nor, at the end, a proper prefix of one; 4 Sequence,
-    /// where the standing doesn't allow it; 5 Repeated, where it begins an order whose number was there;
-    /// 6 Full, where it begins one past the limit. Each of these four has the place of the record's
-    /// first byte. 2 NoMemory, where there is no memory, may come in place of these five and of success.
+    /// The bytes may end in a proper prefix of some record's, which doesn't count. Fault 1 Limit if the limit is 0 or
+    /// over 100000, before all else; then 7 Header, if the bytes begin with 44h and not with the whole header. Then the
+    /// records are tested in their order, each for 3 Record, if neither a record is there nor, at the end, a proper
+    /// prefix of one; 4 Sequence, if the standing doesn't allow it; 5 Repeated, if it begins an order whose number was
+    /// there; 6 Full, if it begins one past the limit. Each of these four has the place of the record's first byte. 2
+    /// NoMemory, if there is no memory, may come in place of these five and of success.
     pub fn load(
         alloc: Global,
         limit: u32,
@@ -47,9 +46,9 @@ impl Journal {
         }
     }
 
-    /// The same as `load`, of bytes that become the journal's own where they are of version 2, so that there is no
-    /// second copy of them. The limit may be larger than 100000, for the orders of older journals that stand in front:
-    /// fault 1 Limit comes where it is 0 alone.
+    /// The same as `load`, of bytes that become the journal's own if they are of version 2, so that there is no second
+    /// copy of them. The limit may be larger than 100000, for the orders of older journals in front: fault 1 Limit
+    /// comes only if it is 0.
     pub fn load_vec(
         alloc: Global,
         limit: u32,
@@ -77,8 +76,8 @@ impl Journal {
 
     // The journal of these bytes of version 1 in place of this one, for as many orders, and how many of them count.
     //
-    // The groups in front become those of version 2 all at once. Where they aren't a journal together, as where a
-    // number stands twice, the records tell what is wrong, one by one.
+    // The groups in front become those of version 2 all at once. If they aren't a journal together, for example because
+    // a number comes twice, the records show what is wrong, one by one.
     fn upgraded(
         mut self,
         alloc: Global,
@@ -100,7 +99,7 @@ impl Journal {
         }
     }
 
-    // The same where so many of the bytes are those of its own records.
+    // The same if `len` of the bytes are those of its own records.
     fn upgraded_behind(
         mut self,
         len: usize,
@@ -122,7 +121,7 @@ impl Journal {
         }
     }
 
-    // The journal of these bytes behind the header in place of this one, for as many orders, and how many count.
+    // The journal of these bytes after the header in place of this one, for as many orders, and how many count.
     fn filled(
         mut self,
         alloc: Global,
@@ -146,7 +145,7 @@ impl Journal {
         }
     }
 
-    // Makes it the journal of the whole groups in front of the bytes, up to its limit. The bytes behind them.
+    // Makes it the journal of the whole groups in front of the bytes, up to its limit. Returns the bytes after them.
     fn take_groups(&mut self, alloc: Global, mut bytes: Vec<u8>) -> Result<Vec<u8>, JournalFault>
         ensures journal { OnOk result (IsJournal self.new) }
         ensures limit { OnOk result (self.new.limit ≡ self.old.limit) }
@@ -172,8 +171,8 @@ impl Journal {
         Ok(rest)
     }
 
-    // Adds the records of a version that the bytes behind its own, this many, begin with, up to a cut one. How many
-    // bytes count then.
+    // Adds the records of a version that the bytes after its own, this many, begin with, up to a cut one. Returns how
+    // many bytes count then.
     fn take_rest(
         &mut self,
         version: Version,
@@ -207,7 +206,7 @@ impl Journal {
         }
     }
 
-    // Adds a record that was read at this place, where it may stand.
+    // Adds a record that was read at this place, if it may follow.
     fn take(&mut self, entry: Record, at: usize) -> Result<(), JournalFault>
         ensures records { OnOk result (self.new.records ≡ entry ∷ self.old.records) }
         ensures limit { self.new.limit ≡ self.old.limit }
@@ -235,7 +234,7 @@ impl Journal {
     }
 }
 
-// The version of bytes that aren't none. None where they begin as the header does, and go on otherwise or end.
+// The version of bytes that aren't none. None if they begin as the header does, and go on otherwise or end.
 fn version_of(bytes: &[u8]) -> Option<Version>
     requires { bytes.now ≢ [] }
     ensures some { IfSome result (λ version. HasVersion version bytes.now) }

@@ -9,7 +9,7 @@ use crate::version::Version;
 use arrayvec::ArrayVec;
 use dali_bank::{MOST_UPDATES, Order, is_writable};
 
-/// What some bytes begin with (profile).
+/// The piece that some bytes begin with (profile).
 #[derive(Drop)]
 pub enum Piece {
     /// A record, with its length.
@@ -20,7 +20,7 @@ pub enum Piece {
     Bad,
 }
 
-// What the bytes behind a count begin with.
+// The pairs that the bytes after a count begin with.
 #[derive(Drop)]
 pub(crate) enum Pairs {
     Whole(ArrayVec<(u8, u8), MOST_UPDATES>),
@@ -29,7 +29,7 @@ pub(crate) enum Pairs {
 }
 
 impl Record {
-    /// What the bytes begin with in version 2 (profile): a whole record with its length, 2 to 249, or a cut
+    /// The piece that the bytes begin with in version 2 (profile): a whole record with its length, 2 to 249, or a cut
     /// one, or neither.
     ///
     /// A cut record is all of the bytes, and can be filled up to a whole one: each location of a cut
@@ -47,7 +47,7 @@ impl Record {
         Record::read_in(Version::One, bytes)
     }
 
-    // What the bytes begin with in a version.
+    // The piece that the bytes begin with in a version.
     pub(crate) fn read_in(version: Version, bytes: &[u8]) -> Piece
         ensures { IsRead version bytes.now result }
     {
@@ -55,7 +55,7 @@ impl Record {
     }
 }
 
-// What the bytes begin with, byte by byte.
+// The piece that the bytes begin with, byte by byte.
 fn piece_of(version: Version, bytes: &[u8]) -> Piece
     ensures { result ≡ piece_of version bytes.now }
 {
@@ -86,7 +86,7 @@ fn code_numbered(number: u8) -> Code
     }
 }
 
-// What a `Began` is whose bytes behind the letter begin so.
+// The piece of a `Began` from its bytes after the letter.
 fn read_order(version: Version, bytes: &[u8]) -> Piece
     ensures { result ≡ order_piece version bytes.now }
 {
@@ -96,7 +96,7 @@ fn read_order(version: Version, bytes: &[u8]) -> Piece
     }
 }
 
-// What a `Began` is whose bytes behind the order's number begin so.
+// The piece of a `Began` from its bytes after the order's number.
 fn read_numbered(version: Version, id: u64, bytes: &[u8]) -> Piece
     ensures { result ≡ numbered_piece version id bytes.now }
 {
@@ -109,7 +109,7 @@ fn read_numbered(version: Version, id: u64, bytes: &[u8]) -> Piece
     }
 }
 
-// What a `Began` is whose bytes behind the order's number and moment begin so.
+// The piece of a `Began` from its bytes after the order's number and moment.
 fn read_timed(version: Version, id: u64, moment: u64, bytes: &[u8]) -> Piece
     ensures { result ≡ timed_piece version id moment bytes.now }
 {
@@ -120,7 +120,7 @@ fn read_timed(version: Version, id: u64, moment: u64, bytes: &[u8]) -> Piece
     }
 }
 
-// What a `Began` is whose bytes behind the unit begin so.
+// The piece of a `Began` from its bytes after the unit.
 fn read_counted(version: Version, id: u64, moment: u64, unit: u8, bytes: &[u8]) -> Piece
     requires { unit ≤ 63 }
     ensures { result ≡ counted_piece version id moment unit bytes.now }
@@ -145,7 +145,7 @@ fn read_counted(version: Version, id: u64, moment: u64, unit: u8, bytes: &[u8]) 
     }
 }
 
-// The pairs that the bytes behind the count begin with.
+// The pairs that the bytes after the count begin with.
 fn read_pairs(bytes: &[u8], count: u8) -> Pairs
     requires { count ≤ 115 }
     ensures { result ≡ pairs_of count 0 bytes.now }
@@ -172,7 +172,7 @@ fn read_pairs(bytes: &[u8], count: u8) -> Pairs
     Pairs::Whole(pairs)
 }
 
-// Whether a location may follow another, with so many to come behind it.
+// Whether a location may follow another, with this many more after it.
 fn fits(to_come: u8, low: u8, location: u8) -> bool
     ensures { result ≡ fits to_come low location }
 {

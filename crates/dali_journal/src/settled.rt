@@ -9,7 +9,7 @@ use crate::index::IndexEntry;
 use crate::record::Code;
 use indexmap::IndexMap;
 
-/// An order that has ended: its number, where its `Began` stands, and how it ended.
+/// An order that has ended: its number, the place of its `Began`, and how it ended.
 #[derive(Clone, Copy, PartialEq, Eq)]
 pub struct Settled {
     pub id: u64,
@@ -17,7 +17,7 @@ pub struct Settled {
     pub code: Code,
 }
 
-// The order of this number, where it is among them.
+// The order of this number, if it is among them.
 pub(crate) fn find(settled: &[Settled], id: u64) -> Option<Settled>
     requires { IsNonDecreasingBy (λ one. one.id) settled.now }
     ensures some { IfSome result (λ found. Contains settled.now found × (found.id ≡ id)) }
@@ -29,8 +29,8 @@ pub(crate) fn find(settled: &[Settled], id: u64) -> Option<Settled>
     }
 }
 
-// Those of an older journal and of a newer one, whose bytes stand behind so many, in the order of their numbers: of the
-// older one also those that its index tells as ended, whose places count from there.
+// Those of an older journal and of a newer one, whose bytes come after this many, in the order of their numbers: of the
+// older one also those that its index has as ended, whose places count from there.
 pub(crate) fn settled_both(
     older: Vec<Settled>,
     index: &IndexMap<u64, IndexEntry>,
@@ -52,8 +52,8 @@ pub(crate) fn settled_both(
     Ok(settled)
 }
 
-// Both in the order of numbers, in which each of them is. Where the newer ones are all higher, as where numbers rise
-// from journal to journal, the older ones stay where they are.
+// Both in the order of numbers, in which each of them is. If the newer ones are all higher, as where numbers rise from
+// journal to journal, the older ones stay where they are.
 fn put_behind(older: Vec<Settled>, newer: &[Settled]) -> Result<Vec<Settled>, NoMemory>
     requires older { IsNonDecreasingBy (λ one. one.id) older.items }
     requires newer { IsNonDecreasingBy (λ one. one.id) newer.now }
@@ -70,7 +70,7 @@ fn put_behind(older: Vec<Settled>, newer: &[Settled]) -> Result<Vec<Settled>, No
     Ok(settled)
 }
 
-// Whether the first of the newer ones is above the last of the older ones, where there are both.
+// Whether the first of the newer ones is above the last of the older ones, if there are both.
 fn is_above(older: &[Settled], newer: &[Settled]) -> bool
     ensures { IsTrue result → (last first : Settled) → slice_get older.now (length older.now - 1) ≡ Some last
         → slice_get newer.now 0 ≡ Some first → last.id ≤ first.id }
@@ -81,7 +81,7 @@ fn is_above(older: &[Settled], newer: &[Settled]) -> bool
     }
 }
 
-// Puts the orders that an index tells as ended behind the others. The places of the index count from there.
+// Puts the orders that an index has as ended after the others. The places of the index count from there.
 fn push_ended(
     settled: &mut Vec<Settled>,
     index: &IndexMap<u64, IndexEntry>,
@@ -100,7 +100,7 @@ fn push_ended(
     Ok(())
 }
 
-// Puts the order of this entry behind the others, where it has ended.
+// Puts the order of this entry after the others, if it has ended.
 fn push_entry(
     settled: &mut Vec<Settled>,
     id: u64,
@@ -119,7 +119,7 @@ fn push_entry(
     Ok(())
 }
 
-// Puts these behind the others, so many bytes further on.
+// Puts these after the others, this many bytes further on.
 fn push_moved(settled: &mut Vec<Settled>, more: &[Settled], front: usize) -> Result<(), NoMemory>
     ensures { OnOk result (settled.new.items ≡ settled.old.items ++ map (moved front) more.now) }
 {

@@ -5,7 +5,7 @@ ghost use Rattle.dali_journal.specs.JournalState.{bytes_due};
 use crate::record::{Code, Record};
 use dali_bank::Order;
 
-/// What a journal's last records leave to be done (profile).
+/// The work that a journal's last records leave to be done (profile).
 #[derive(Drop)]
 pub enum Standing {
     /// Nothing: the next order may begin.
@@ -31,7 +31,7 @@ impl Standing {
         }
     }
 
-    /// Whether the record may come by this standing, as `Journal::append` requires.
+    /// Whether the standing allows the record next, as `Journal::append` requires.
     pub fn allows(&self, entry: &Record) -> bool
         ensures { IsTrue result ↔ Allows self.now entry.now }
     {

@@ -11,7 +11,7 @@ pub enum Version {
     Two,
 }
 
-// What a journal of version 2 begins with: "DB1", and the version.
+// The first bytes of a journal of version 2: "DB1", and the version.
 pub(crate) const HEADER: [u8; 4] = [0x44, 0x42, 0x31, 0x02];
 
 impl Version {

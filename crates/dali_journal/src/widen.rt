@@ -7,7 +7,7 @@ use crate::fault::NoMemory;
 use crate::group::old_group_ahead;
 use std::alloc::Global;
 
-// Where the moment of a Began stands: behind its letter and the order's number.
+// The place of a Began's moment: after its letter and the order's number.
 const MOMENT_AT: usize = 9;
 
 // The moment of an order that has none.
@@ -26,7 +26,7 @@ pub(crate) fn widened(alloc: Global, bytes: &[u8]) -> Result<(Vec<u8>, usize), N
     Ok((wide, at))
 }
 
-// Puts the bytes of a group behind others, with a moment of 0.
+// Puts the bytes of a group after others, with a moment of 0.
 fn push_widened(wide: &mut Vec<u8>, group: &[u8]) -> Result<(), NoMemory>
     requires { 9 ≤ length group.now }
     ensures { OnOk result (wide.new.items

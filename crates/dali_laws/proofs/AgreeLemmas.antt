@@ -30,7 +30,7 @@ pub record Agree (start next : Start) (whole more : List Happening) : Type 0 whe
   pub since : sent_since_taken whole ≡ sent_since_taken more
   pub outstanding : outstanding_of whole ≡ outstanding_of more
 
--- What may follow the one may follow the other
+-- A happening that may follow the one may follow the other
 
 serves_too : (whole more : List Happening) (stands : Standing) (unit : ℕ) → waiting whole ≡ waiting more
     → Serves more stands unit → Serves whole stands unit
@@ -113,7 +113,7 @@ planned_too start next whole more (Answered id (replies.Blocked unit)) pace reco
     rw (pace, records, told) planned
 planned_too start next whole more other pace records told planned = tt
 
--- An order that gets another reply than Taken changes nothing, wherever it stands
+-- An order that gets another reply than Taken changes nothing, wherever it is in the trace
 
 passed_over : (start : Start) (past : List Happening) (order : Contents) (moment : ℕ) (reply : Reply)
     → reply ≢ replies.Taken
@@ -136,7 +136,7 @@ turned agree = record {
   outstanding = sym agree.outstanding;
 }
 
--- where no reply is due, what may follow is what may happen
+-- if no reply is due, what may follow is what may happen
 pub may_happen : (start : Start) (past : List Happening) (next : Happening) → IsFinished past
     → MayFollow start past next → MayHappen start past next
 may_happen start (Asked order moment ∷ past) next finished may = absurd finished
@@ -154,7 +154,7 @@ pub said_quiet : (id : ℕ) (reply : Reply) (past : List Happening) → IsFinish
 said_quiet id reply (Asked order moment ∷ past) finished = absurd finished
 said_quiet id reply _ finished = refl
 
--- two traces behind which the same comes
+-- two traces after which the same comes
 outstanding_on : (more whole past : List Happening) → IsFinished whole → IsFinished past
     → outstanding_of whole ≡ outstanding_of past → outstanding_of (more ++ whole) ≡ outstanding_of (more ++ past)
 outstanding_on [] whole past ends finished same = same

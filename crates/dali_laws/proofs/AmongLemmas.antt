@@ -1,5 +1,5 @@
--- What happens to the whole bus happens to the units that stay, whoever comes and goes at other addresses: nobody there
--- is enabled, no frame is to them, and so none of them answers.
+-- The happenings of the whole bus happen to the units that stay, whichever units come and go at other addresses: no
+-- unit there is enabled, no frame is to them, and so none of them answers.
 use Rattle.std.proofs.Common.{◌≡◌, ◌≢◌, ◌⊎◌, inl, inr, refl, ap, sym, subst, ◌∙◌, ℕ, Bool, true, false, true≢false}
 use Rattle.std.proofs.Common.{List, [], ◌∷◌, map, Option, Some, None, if◌then◌else◌}
 use Rattle.std.specs.Prelude.{⊤, IfSome}
@@ -38,7 +38,7 @@ IsElsewhere at (AskDtr1 to) = to ≢ at
 IsElsewhere at (Read to) = to ≢ at
 IsElsewhere at other = ⊥
 
--- where it isn't enabled, it gives no answer
+-- if it isn't enabled, it gives no answer
 silent : (at : ℕ) (old : Gear) (frame : Frame) (answer : Option ℕ) (new : Gear) → old.enabled ≡ false
     → IsElsewhere at frame → Obeys at old frame answer new → answer ≡ None
 silent at old (Dtr0 byte) answer new off free (same, none) = none
@@ -93,7 +93,7 @@ untouched old _ answer new at free off carry = absurd free
 abbrev pub OthersOff : (ℕ → Bool) → World → Type 0
 OthersOff staying world = (address : ℕ) → staying address ≡ false → is_enabled world address ≡ false
 
--- the unit at work stays, where the records stand so
+-- the unit at work stays, with this standing of the records
 abbrev pub WorkStaysAt : (ℕ → Bool) → Standing → Type 0
 WorkStaysAt staying stands = IfSome (unit_at_work stands) (λ unit. staying unit ≡ true)
 
@@ -209,7 +209,7 @@ moves_among staying start past (Powered address) old new stays safe off loses =
 moves_among staying start past _ old new stays safe off same =
     (ap (among staying) same, subst (OthersOff staying) (sym same) off)
 
--- What happens one after another
+-- Happenings one after another
 
 -- what is so at each moment is so at the last
 pub at_the_last : (holds : List Happening → World → Type 0) (past : List Happening) (last : World)

@@ -29,7 +29,7 @@ is_applied first address bank location byte (newest ∷ older) is possible =
     (IsCertain address bank location older) byte (applied first address bank location older) is
     (λ sole may. is_applied first address bank location byte older sole may) possible
 
--- there is a byte where there is some
+-- there is a byte if there is some
 byte_there : (found : Option ℕ) → is_some found ≡ true → (byte : ℕ) × (found ≡ Some byte)
 byte_there None some = cc
 byte_there (Some byte) some = (byte, refl)

@@ -1,4 +1,4 @@
--- Records whose orders have no bytes: where nothing is at work, what is safe after the records themselves is safe after
+-- Records whose orders have no bytes: if nothing is at work, what is safe after the records themselves is safe after
 -- these, and they leave each place as it was.
 use Rattle.std.proofs.Common.{◌≡◌, refl, sym, ap, subst, ◌∙◌, inl, inr, ℕ, Bool, true, false, ◌||◌, ◌==◌, ◌&&◌}
 use Rattle.std.proofs.Common.{List, [], ◌∷◌, ◌++◌, Option, Some, None, if◌then◌else◌}
@@ -23,7 +23,7 @@ use Rattle.dali_trace.specs.Possible.{Mark, Applied, Untouched, InDoubt, mark_of
 use Rattle.dali_laws.specs.Stays.{bare}
 use Rattle.dali_laws.proofs.SafeLemmas.{IsSafeFrame, IsSafe, AllSafe}
 
--- Records that stand alike, and have the same numbers
+-- Records with the same standing and the same numbers
 
 pub record AreAlike (one other : List Record) : Type 0 where
   pub stand : standing_of other ≡ standing_of one
@@ -160,7 +160,7 @@ bare_sentence (entry ∷ older) sentence =
       bare_new entry older sentence.2,
     )
 
--- where nothing is at work they stand as the records themselves
+-- if nothing is at work, their standing is that of the records themselves
 pub bare_alike : (records : List Record) → is_at_work (standing_of records) ≡ false → AreAlike records (bare records)
 bare_alike records rests =
     record { stand = bare_stands records ∙ by (standing_of records) rests; numbers = λ id. bare_numbers id records }

@@ -47,7 +47,7 @@ module _ (staying : ℕ → Bool) (start : Start) (address : ℕ) (gone : stayin
   keeps_by past _ old new of_these works safe off same =
       subst (λ (now : World). KeepsAt loses old now address) (sym same) (unchanged old)
 
-  -- it stands there all the time
+  -- it is there all the time
   stands_there : (old new : World) → Exchanged (just address) old new → new address ≡ old address
   stands_there old new comes = elim (comes address) [
     | inl same ↦ same

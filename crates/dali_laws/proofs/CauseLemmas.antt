@@ -1,4 +1,4 @@
--- What the cause of the order at hand says of its frames.
+-- The frames of the order at hand, as its cause describes them.
 use Rattle.std.proofs.Common.{◌≡◌, ◌⊎◌, inl, inr, subst, List, Some}
 use Rattle.dali_bank.specs.Order.{Contents, AreUpdates}
 use Rattle.dali_journal.specs.declared.standing.Standing.{Standing}

@@ -21,8 +21,8 @@ use Rattle.dali_trace.specs.ByPlan.{told_in}
 use Rattle.dali_trace.specs.Work.{stood_at, kept_since}
 use Rattle.dali_write.specs.declared.pace.Pace.{Pace}
 
--- these frames closed the unit that was left at the start; where none was left, there are none, and there was no need
--- of any where an order was opened
+-- these frames closed the unit that was left at the start; if none was left, there are none, and there was no need of
+-- any if an order was opened
 abbrev pub ClosedBy : Standing → List Exchange → Type 0
 ClosedBy standings.Idle sent = sent ≡ []
 ClosedBy (standings.Began order) sent = sent ≡ []
@@ -37,7 +37,7 @@ CheckedBy pace first order sent =
     (told : List Exchange) × (older : List Exchange) × (sent ≡ told ++ older)
     × Wants order.unit (read_length pace order.updates) told (asks.Ended verdicts.MayOpen) × ClosedBy first older
 
--- these frames came before the order was opened: none where it was opened at the start
+-- these frames came before the order was opened: none if it was opened at the start
 abbrev pub OpenedBy : Pace → Standing → Contents → List Exchange → Type 0
 OpenedBy pace standings.Idle order sent = CheckedBy pace standings.Idle order sent
 OpenedBy pace (standings.Began begun) order sent = CheckedBy pace (standings.Began begun) order sent
@@ -58,8 +58,8 @@ abbrev pub NewestEndedBy : Pace → Standing → List (Contents × Progress) →
 NewestEndedBy pace stands ((order, reached.Ended code) ∷ older) sent = EndedBy pace stands order code sent
 NewestEndedBy pace stands other sent = ⊥
 
--- How an order has come along since its start, where the records stood so at the start and stand so now: what was
--- sent since then, of it what the session at hand was told, and how many records were kept.
+-- The progress of an order since its start, by the standing of the records at the start and now: the frames sent since
+-- then, those of them that the session at hand has seen, and how many records were kept.
 abbrev pub HasCome : Pace → Standing → Standing → Option Contents → Bool → List (Contents × Progress) → List Exchange
     → List Exchange → ℕ → Type 0
 HasCome pace first (standings.Began order) waits ended orders sent told kept =

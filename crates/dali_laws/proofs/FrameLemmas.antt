@@ -47,7 +47,7 @@ not_both : (gear : Option Gear) → IsOff gear → is_open gear ≡ true → ⊥
 not_both None off on = cc
 not_both (Some gear) off on = cc
 
--- where nothing is newly enabled, what is enabled was
+-- if nothing is newly enabled, what is enabled was
 was_open : (old new : Option Gear) → (IsOff old → IsOff new) → is_open new ≡ true → is_open old ≡ true
 was_open old new keeps on = by (is_open old) refl where
   by : (was : Bool) → is_open old ≡ was → is_open old ≡ true
@@ -134,7 +134,7 @@ changed writes unit old new touches address bank location = by (address == unit)
       inl
       (same_byte (old address) (new address) (touches.others address (eqb-false address unit e)).memory bank location)
 
--- what may be put is possible, where it isn't a lock byte
+-- a byte that may be put is possible, if it isn't that of a lock byte
 is_possible : (first unit location byte : ℕ) (records : List Record) (stands : Standing) → standing_of records ≡ stands
     → named_unit stands ≡ Some unit
     → MayPut stands location byte → (IsApart 1 location → ⊥)

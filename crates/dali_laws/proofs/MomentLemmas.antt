@@ -25,7 +25,7 @@ use Rattle.dali_laws.proofs.PromiseLemmas.{tells_truth}
 use Rattle.dali_write.proofs.RunLemmas.{Leads, Stays}
 use Rattle.dali_bus.specs.Carry.{WorldStep}
 
--- what is known of the world behind a legal trace: the frames since the last stop lead to it
+-- the world after a legal trace: the frames since the last stop lead to it
 pub record IsTold (start : Start) (past : List Happening) (now : World) : Type 0 where
   pub sentence : IsSentence (records_of start past)
   pub since : World
@@ -105,7 +105,7 @@ among_all lost (Powered at ∷ past) address (inl is) = inl is
 among_all lost (Powered at ∷ past) address (inr before) = inr (among_all lost past address before)
 among_all lost (_ ∷ past) address among = among_all lost past address among
 
--- the world is fine where these units have lost their power by now
+-- the world is fine if these units have lost their power by now
 abbrev FineAt : World → List ℕ → Start → List Happening → World → Type 0
 FineAt zero lost start past now = IsFine zero (records_of start past) (powered_of lost past) now
 

@@ -38,7 +38,7 @@ use Rattle.dali_laws.proofs.OnPlanLemmas.{waits_on, closed_verdict}
 use Rattle.dali_laws.proofs.WorkLemmas.{ended_idle}
 use Rattle.dali_write.specs.declared.pace.Pace.{Pace}
 
--- What the plan asks for
+-- The next happening by the plan
 
 -- a session is at hand: that of the order at work, or one that closes the left unit while an order waits
 abbrev IsAtHand : Standing → Option Contents → Type 0
@@ -124,9 +124,9 @@ does_one (standings.Left unit) waits (asks.Ended verdict) one other first second
     kept_one (standings.Left unit) verdict one other first second
 does_one stands waits (asks.Ended verdict) one other first second = kept_one stands verdict one other first second
 
--- What is next
+-- The next happening
 
--- where no reply is due: an end is said, the waiting order begun, or the session goes on
+-- if no reply is due: an end is said, the waiting order begun, or the session goes on
 data Due (start : Start) (past : List Happening) (next : Happening) : Type 0 where
   Says : (id : ℕ) (code : Code) → has_ended past ≡ true → EndsAs id code (orders_of (records_of start past))
       → next ≡ Answered id (replies.Kept code)

@@ -63,7 +63,7 @@ left_spares made loses start past unit first last planned at only run =
     let session = session_at start past (standings.Left unit) planned at in
     closing_touches made loses (told_in past) first last unit session.0 only run session.1
 
--- where a record is kept, the session has ended with its verdict
+-- if a record is kept, the session has ended with its verdict
 ended_at : (pace : Pace) (now stands : Standing) (told : List Exchange) (entry : Record) (verdict : Verdict)
     → ((one : Verdict) → EndsIn stands one entry → one ≡ verdict) → now ≡ stands
     → (one : Verdict) × Asks pace now told (asks.Ended one) × EndsIn now one entry

@@ -1,4 +1,4 @@
--- What the orders of a legal trace by plan have come to.
+-- The progress of the orders of a legal trace by plan.
 use Rattle.std.proofs.Common.{◌≡◌, inl, inr, refl, sym, ap, subst, ℕ, suc, ◌≤◌, Bool, true, false, List, [], ◌∷◌}
 use Rattle.std.proofs.Common.{Option, Some, None, IsSome, arith}
 use Rattle.dali_frame.specs.declared.forward.Frame.{Frame}
@@ -36,7 +36,7 @@ use Rattle.dali_laws.proofs.SafeLemmas.{may_keep, may_send}
 use Rattle.dali_laws.proofs.StandingLemmas.{begun_order, open_order}
 use Rattle.dali_write.specs.declared.pace.Pace.{Pace}
 
--- a start: an order is taken where none is at work, a trace begins or was stopped
+-- a start: an order is taken when none is at work, a trace begins or was stopped
 begins_taken : (pace : Pace) (stands : Standing) (order : Contents) (ended : Bool) (orders : List (Contents × Progress))
     → is_at_work stands ≡ false → HasCome pace stands stands (Some order) ended orders [] [] 0
 begins_taken pace standings.Idle order ended orders idle = (refl, refl, omega arith)
@@ -112,7 +112,7 @@ newest_ended : (pace : Pace) (first : Standing) (order : Contents) (code : Code)
     → NewestEndedBy pace first (come_to (reached.Ended code) orders) sent
 newest_ended pace first order code progress orders sent newest ended = rw newest.1 ended
 
--- where no order waits, and the newest one has ended
+-- when no order waits, and the newest one has ended
 now_ended : (pace : Pace) (first now : Standing) (orders : List (Contents × Progress)) (sent told : List Exchange)
     (kept : ℕ)
     → is_at_work now ≡ false

@@ -1,4 +1,4 @@
--- What is so of the simulated bus where an order starts.
+-- The simulated bus when an order starts.
 use Rattle.std.proofs.Common.{◌≡◌, ◌≢◌, inl, inr, refl, sym, ap, ◌∙◌, subst, ℕ, Bool, true, false, ◌==◌, if◌then◌else◌}
 use Rattle.std.proofs.Common.{List, [], ◌∷◌, ◌++◌, Option, Some, None, is_some, arith}
 use Rattle.std.proofs.lemmas.Bool.{eqb-true}
@@ -193,7 +193,7 @@ held_length lost now (standings.Began order) other kept =
     rw (kept.allowed, held) refl
 held_length lost now _ other kept = absurd kept.allowed
 
--- opened at some moment, where it had its first byte
+-- opened at some moment, when it had its first byte
 opened_was : (limit : Start) (zero : World) (past : List Happening) (last : SimState) (states : List SimState)
     (unit : ℕ)
     → Legal limit past

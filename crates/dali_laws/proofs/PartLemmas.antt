@@ -44,7 +44,7 @@ IsUnasked start past =
     (standing_at start past ≡ standings.Idle)
     ⊎ ((left : ℕ) × (standing_at start past ≡ standings.Left left) × (waiting past ≡ None))
 
--- what the part tells of it, where something is asked for
+-- the exchanges of the session are those of the part, if the plan asks for anything
 abbrev IsOfPart : Start → List Happening → List Happening → Type 0
 IsOfPart start before part = (told_in (part ++ before) ≡ told_in part) ⊎ IsUnasked start (part ++ before)
 
@@ -53,14 +53,14 @@ told_next : (before : List Happening) (next : Happening) (part : List Happening)
 told_next before next part same =
     frames_next (is_turn next) next (since is_turn (part ++ before)) (since is_turn part) same
 
--- an answer that takes no order leaves nothing to be said where nothing was
+-- an answer that takes no order leaves nothing to be said if nothing was
 answered : (id : ℕ) (reply : Reply) (past : List Happening) → is_turn (Answered id reply) ≡ false
     → outstanding_of past ≡ Quiet → outstanding_of (Answered id reply ∷ past) ≡ Quiet
 answered id replies.Taken past other quiet = let never : true ≡ false = other in cc
 answered id reply (Asked order moment ∷ past) other quiet = quiet
 answered id reply _ other quiet = refl
 
--- behind a record, or from where nothing is said or waits and no order was taken since
+-- after a record, or from a moment at which nothing is to be said or waits and no order was taken since
 told_part : (before part : List Happening)
     → (told_in (part ++ before) ≡ told_in part)
     ⊎ ((kept_in part ≡ []) × (outstanding_of before ≡ Quiet → outstanding_of (part ++ before) ≡ Quiet))
@@ -92,7 +92,8 @@ told_newest past =
 no_ask : (byte to : ℕ) → Dtr0 byte ≡ AskDtr1 to → ⊥
 no_ask byte to e = cc
 
--- a place that was made sure to be selected by the newest of these exchanges, where some place was by the front of them
+-- a place is made sure to be selected by the front of these exchanges, if all of them do so and the front does so for
+-- some place
 selects_front : (unit location other place : ℕ) (front back : List Exchange) → Selects unit location (front ++ back)
     → Selects other place front → Selects unit location front
 selects_front unit location other place front back (newer, older, is, inl try) (first, behind, front_is, inl asks) =
@@ -155,7 +156,7 @@ planned_selects pace (standings.Opened order) told byte unit named asked =
 planned_selects pace (standings.Left left) told byte unit named asked =
     let guarded = closing_guarded told left (Write byte) asked in (left, guarded.0, guarded.2)
 
--- so a frame of the plan is safe behind those of the session at hand
+-- so a frame of the plan is safe after those of the session at hand
 planned_frame : (pace : Pace) (stands : Standing) (told back more : List Exchange) (frame : Frame)
     → IsSafeFrame (told ++ back) stands frame → Asks pace stands told (asks.Send frame)
     → IsSafeFrame (told ++ more) stands frame
@@ -240,7 +241,7 @@ record_grounds start past (Began order moment) planned =
 record_grounds start past other planned =
     planned_grounds (pace_at start past) (standing_at start past) (told_in past) planned.0 other planned.1 planned.2
 
--- where nothing is asked for, only an order is begun
+-- if nothing is asked for, only an order is begun
 unasked_grounds : (shows : ℕ → ℕ → ℕ → Type 0) (start : Start) (past : List Happening) (entry : Record)
     → IsUnasked start past → Allows (standing_at start past) entry → IsDue past entry
     → Grounds shows (standing_at start past) entry

@@ -75,7 +75,7 @@ follows start (Powered address ∷ past) next apart may =
 follows start (last ∷ past) next apart may =
     happens_too start start (last ∷ past) (last ∷ unpowered past) next (agrees start (last ∷ past) apart) may
 
--- a loss of power may follow where no reply is due
+-- a loss of power may follow when no reply is due
 may_lose : (start : Start) (address : ℕ) (past : List Happening) → IsPowerApart (Powered address ∷ past)
     → MayFollow start past (Powered address)
 may_lose start address (Asked order moment ∷ past) apart = absurd apart

@@ -1,4 +1,4 @@
--- Where all is said nothing is done until an order is taken.
+-- If all is said nothing is done until an order is taken.
 use Rattle.std.proofs.Common.{◌≡◌, refl, true, false, ℕ, List, [], ◌∷◌, ◌++◌, None}
 use Rattle.dali_frame.specs.declared.forward.Frame.{Frame}
 use Rattle.dali_frame.specs.declared.forward.Frame.TheVariants.{Dtr0, Dtr1, Write, Enable, AskDtr0, AskDtr1, Read}
@@ -16,7 +16,7 @@ use Rattle.dali_trace.specs.Quiet.{NoneTaken, NoneSent}
 use Rattle.dali_laws.proofs.SafeLemmas.{may_keep, may_send}
 use Rattle.dali_laws.proofs.TakenLemmas.{neither, ended_unsaid, none_waits, no_opened, no_ended}
 
--- where no order is at work and none waits
+-- if no order is at work and none waits
 
 serves_none : {A : Type 0} (past : List Happening) (stands : Standing) (unit : ℕ) → is_at_work stands ≡ false
     → waiting past ≡ None
@@ -38,7 +38,7 @@ sends_none past stands (Enable unit) idle none may = serves_none past stands uni
 sends_none past stands (Write byte) idle none may = serves_none past stands may.unit idle none may.serves
 sends_none past stands frame idle none may = absurd may
 
--- what is so where nothing is to be done
+-- what is so if nothing is to be done
 pub record IsStill (start : Start) (past : List Happening) : Type 0 where
   pub idle : is_at_work (standing_at start past) ≡ false
   pub said : is_unsaid past ≡ false

@@ -37,7 +37,7 @@ pub shown_off : (lost : List ℕ) (now : World) (unit location byte : ℕ)
     → Shows (IsAmong lost) now unit location byte → is_enabled now unit ≡ false
 shown_off lost now unit location byte shows = ap is_open shows.is ∙ shows.off
 
--- where it isn't the lock byte
+-- if it isn't the lock byte
 pub not_lock : (lost : Type 0) (location : ℕ) (old new : Option ℕ) → (location ≡ 2 → ⊥)
     → MayRelock lost 1 location old new → new ≡ old
 not_lock lost location old new other (inl same) = same
@@ -82,7 +82,7 @@ doubted : (found : Option ℕ) (before : ℕ → Type 0) (byte : ℕ) → MayHol
 doubted None before byte may = may
 doubted (Some update) before byte may = inl may
 
--- from in doubt to done, where the byte is there
+-- from in doubt to done, if the byte is there
 written : (found : Option ℕ) (before : ℕ → Type 0) (byte : ℕ) → ((update : ℕ) → found ≡ Some update → byte ≡ update)
     → MayHold InDoubt found before byte
     → MayHold Applied found before byte
@@ -212,7 +212,7 @@ keeps_only lost now (standings.Left unit) (Closed closed) allowed grounds only a
     not_both now unit address (shown_off lost now unit grounds.0 grounds.1 grounds.2) (only address on) on
 keeps_only lost now _ _ allowed grounds only address on = absurd allowed
 
--- what a record rests on is so of one way of showing where it is so of another that shows no less
+-- if the grounds of a record hold by one way of showing, they hold by another that shows no less
 told_too : (P Q : ℕ → ℕ → Type 0) (updates : List (ℕ × ℕ)) (told : Option Verdict) → Shown P Q
     → RestsIfAny P updates told
     → RestsIfAny Q updates told

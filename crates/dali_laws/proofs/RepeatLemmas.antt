@@ -109,7 +109,7 @@ repeat_answered start past order moment code next among legal =
     answered start past order code next
     (ended_kept (records_of start past) order code (legal_sentence start past legal.0.0).0 among) legal.1
 
--- what stands before a part of a legal trace is legal
+-- the trace before a part of a legal trace is legal
 legal_before : (start : Start) (past more : List Happening) → Legal start (more ++ past) → Legal start past
 legal_before start past [] legal = legal
 legal_before start past (next ∷ more) legal = legal_before start past more legal.0

@@ -1,4 +1,4 @@
--- The run of the simulated bus behind a trace, what of it is lost, and its halves.
+-- The run of the simulated bus after a trace, its losses, and its halves.
 use Rattle.std.proofs.Common.{◌≡◌, ◌≢◌, refl, sym, ap, subst, ℕ, ◌+◌, ◌≤◌, Bool, true, false, ◌||◌, ◌∙◌, length}
 use Rattle.std.specs.Prelude.{⊤}
 use Rattle.std.proofs.Common.{if◌then◌else◌, List, [], ◌∷◌, ◌++◌, Option, Some, None, arith}
@@ -23,14 +23,14 @@ IsAnother unit left address = (address ≢ unit) × (left ≢ Some address)
 abbrev pub RunBeside : ℕ → Option ℕ → List Exchange → SimState → SimState → Type 0
 RunBeside unit left told first last = Leads SimStep (IsAnother unit left) told first last
 
--- so many of the exchanges are: one that is lost to both counts once
+-- how many of the exchanges are: one that is lost to both counts once
 abbrev pub losses_to : (unit : ℕ) (left : Option ℕ) (told : List Exchange) (first last : SimState)
     → RunBeside unit left told first last → ℕ
 losses_to unit left [] first last run = 0
 losses_to unit left (x ∷ told) first last run =
     (if is_lost_to unit left run.0 x.frame then 1 else 0) + losses_to unit left told first run.0 run.2
 
--- exchanges as a run of the simulated bus, with so many losses, and unrefused where it is so
+-- exchanges as a run of the simulated bus, with this many losses, and unrefused if `Kind` holds
 pub record RunSo (unit : ℕ) (left : Option ℕ) (told : List Exchange) (first last : SimState) (count : ℕ)
     (Kind : Type 0) : Type 0 where
   pub run : RunBeside unit left told first last

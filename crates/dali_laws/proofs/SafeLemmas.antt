@@ -1,5 +1,5 @@
--- What worlds hang on in a trace: its frames are safe, and each record is of a sentence and rests on reads. A legal
--- trace is so; and so it is of the newest records alone, back to where the journal stood idle.
+-- The facts of a trace on which worlds depend: its frames are safe, and each record is of a sentence and rests on
+-- reads. A legal trace is so; and so it is of the newest records alone, back to where the journal was idle.
 use Rattle.std.proofs.Common.{◌≡◌, refl, sym, ap, subst, ℕ, Bool, true, false, ◌||◌, List, [], ◌∷◌, ◌++◌}
 use Rattle.std.proofs.Common.{append_assoc, ◌∙◌, Option, Some, ◌==◌, true≢false}
 use Rattle.std.specs.Prelude.{⊤}
@@ -22,8 +22,9 @@ use Rattle.dali_trace.specs.Legal.{Legal, MayFollow, MayKeep, MaySend, MayPut, S
 use Rattle.dali_trace.specs.Grounds.{Grounds}
 use Rattle.dali_laws.specs.Stays.{unit_at_work}
 
--- What a frame may do after these exchanges, where the records stand so: enable the named unit; put a byte there that
--- may be put, at a place that was made sure to be selected; set DTR0 or DTR1; or ask or read the unit at work.
+-- The frames that are safe after these exchanges, with this standing of the records: one that enables the named unit;
+-- puts a byte there that may be put, at a place that was made sure to be selected; sets DTR0 or DTR1; or asks or reads
+-- the unit at work.
 pub record IsSafeWrite (sent : List Exchange) (stands : Standing) (byte : ℕ) : Type 0 where
   pub unit : ℕ
   pub location : ℕ
@@ -53,7 +54,7 @@ AllSafe start (next ∷ past) = AllSafe start past × IsSafe start past next
 
 -- A legal trace
 
--- a record is kept, and a frame sent, only where one may be
+-- a record is kept, and a frame sent, only if one may be
 pub may_keep : (start : Start) (past : List Happening) (entry : Record) → MayFollow start past (Kept entry)
     → MayKeep start past entry
 may_keep start (Asked order moment ∷ past) entry may = absurd may
@@ -105,7 +106,7 @@ pub legal_safe : (start : Start) (past : List Happening) → Legal start past �
 legal_safe start [] legal = legal.0
 legal_safe start (next ∷ past) legal = (legal_safe start past legal.0, safe_next start past next legal.1)
 
--- Behind records at rest, the own ones stand by themselves
+-- After records at rest, the own ones have their standing by themselves
 
 pub standing_joined : (own older : List Record) → standing_of older ≡ standings.Idle
     → standing_of (own ++ older) ≡ standing_of own
@@ -135,7 +136,7 @@ sentence_own (newest ∷ own) older rests sentence = (
   new_own newest own older sentence.2,
 )
 
--- what is safe behind all records is safe behind the own ones
+-- a frame that is safe after all records is safe after the own ones
 pub safe_own : (sent : List Exchange) (own older : List Record) (frame : Frame) → standing_of older ≡ standings.Idle
     → IsSafeFrame sent (standing_of (own ++ older)) frame → IsSafeFrame sent (standing_of own) frame
 safe_own sent own older frame rests safe =
@@ -149,7 +150,7 @@ kept_own sent own older entry rests sentence grounds = (
   subst (λ (stands : Standing). Grounds (StillRead sent) stands entry) (standing_joined own older rests) grounds,
 )
 
--- the records so far are those behind the older ones, where they were at the start
+-- the records so far are those after the older ones, if they were so at the start
 pub records_own : (start own : Start) (past : List Happening) (older : List Record)
     → start.records ≡ own.records ++ older → records_of start past ≡ records_of own past ++ older
 records_own start own past older newest =

@@ -68,7 +68,7 @@ earlier holds (next ∷ more) moment last (state ∷ states) each =
       so = rest.so;
     }
 
--- what is said where no reply is due
+-- what is said when no reply is due
 said_due : (start : Start) (id : ℕ) (reply : Reply) (past : List Happening) (last state : SimState)
     (states : List SimState)
     → IsFinished past → IsSpared start (Answered id reply ∷ past) last (state ∷ states)

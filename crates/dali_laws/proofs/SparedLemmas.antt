@@ -55,7 +55,7 @@ use Rattle.dali_write.proofs.RunLemmas.{Leads, losses_along, UnrefusedAlong, Spa
 use Rattle.dali_gear.specs.SimState.{SimStep}
 use Rattle.dali_write.specs.declared.pace.Pace.{Pace}
 
--- Where an order starts, and this unit or none was left: the units are apart, none is enabled but the left one, the
+-- When an order starts, and this unit or none was left: the units are apart, none is enabled but the left one, the
 -- order's unit has this bank 1, and the left one has some.
 pub record Onset (left : Option ℕ) (unit : ℕ) (bank : BankState) (state : SimState) : Type 0 where
   pub apart : AreApart state.units
@@ -236,7 +236,7 @@ short_code : (order : Contents) (code : Code) (bytes : List ℕ) (updates : List
 short_code order code bytes updates e =
     told_code order code (found_verdict bytes updates) e ∙ sym (due_told bytes updates)
 
--- where the order may be opened, it is to be done
+-- if the order may be opened, it is to be done
 open_due : (bytes : List ℕ) (updates : List (ℕ × ℕ)) → verdicts.MayOpen ≡ found_verdict bytes updates
     → due_code bytes updates ≡ codes.Done
 open_due bytes updates e = due_told bytes updates ∙ ap code_told (sym e)

@@ -1,4 +1,4 @@
--- What a standing says of the records.
+-- The meaning of a standing for the records.
 use Rattle.std.proofs.Common.{◌≡◌, ◌⊎◌, inl, inr, refl, sym, ap, subst, ℕ, Bool, true, false, List, [], ◌∷◌, Option}
 use Rattle.std.proofs.Common.{Some, None, ◌==◌}
 use Rattle.std.proofs.lemmas.Bool.{eqb-true, eq-eqb}
@@ -36,7 +36,7 @@ opened_by (standings.Began p) (Opened u) o e =
 opened_by (standings.Opened p) (Ended DoubtOpen) o e = cc
 opened_by _ _ o e = cc
 
--- the newest order of records that stand so, and how far it has come
+-- the newest order of records of this standing, and its progress
 pub begun_order : (records : List Record) (o : Contents) → standing_of records ≡ standings.Began o
     → (older : List (Contents × Progress)) × orders_of records ≡ (o, reached.Begun) ∷ older
 begun_order [] o e = cc

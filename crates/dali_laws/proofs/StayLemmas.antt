@@ -1,4 +1,4 @@
--- Each stay is right by itself, and where it comes to rest the units are ready for the next one.
+-- Each stay is right by itself, and when it comes to rest the units are ready for the next one.
 use Rattle.std.proofs.Common.{◌≡◌, ◌⊎◌, inl, inr, refl, sym, ap, subst, ◌∙◌, ℕ, Bool, true, false, true≢false}
 use Rattle.std.proofs.Common.{◌||◌, ◌==◌, List, [], ◌∷◌, ◌++◌, map, append-nil, Some, None, if◌then◌else◌}
 use Rattle.std.proofs.lemmas.Bool.{eqb-true, eqb-false}
@@ -32,7 +32,7 @@ use Rattle.dali_laws.proofs.PartLemmas.{part_safe}
 use Rattle.dali_laws.proofs.PoweredLemmas.{same_records, same_frames}
 use Rattle.dali_laws.proofs.MomentLemmas.{safe_right, part_of}
 
--- Losses of power, wherever they stand, take no safety away
+-- Losses of power, wherever they are, take no safety away
 
 powered_next : (start : Start) (past : List Happening) (next : Happening) → IsSafe start (unpowered past) next
     → IsSafe start past next
@@ -63,8 +63,8 @@ older_planned : (start : Start) (later past : List Happening) → ByPlan start (
 older_planned start [] past planned = planned
 older_planned start (next ∷ later) past planned = older_planned start later past planned.0
 
--- A stay is told by the newest records, or at rest by those without bytes, and what is safe after the ones is so after
--- the others
+-- A stay is described by the newest records, or at rest by those without bytes, and what is safe after the former is so
+-- after the latter
 
 -- the start by the newest records themselves
 abbrev by_newest : (stay : Stay) (newest : List Record) → Start
@@ -74,7 +74,7 @@ safe_sentence : (start : Start) (past : List Happening) → AllSafe start past �
 safe_sentence start [] safe = safe
 safe_sentence start (next ∷ past) safe = safe_sentence start past safe.0
 
--- nothing is at work by the newest records where nothing is by all
+-- nothing is at work by the newest records if nothing is by all
 rests_newest : (start : Start) (before : List Happening) (newest older : List Record)
     → records_of start before ≡ newest ++ older → standing_of older ≡ standings.Idle → IsAtRest start before
     → is_at_work (standing_of newest) ≡ false
@@ -258,7 +258,7 @@ ready_at_rest stay right =
     (λ moment now is rests. is_ready (records_of stay.start moment) now (standing_at stay.start moment) refl is.0 rests)
     stay.past stay.last stay.states right
 
--- so a stay may begin with such units: what those hold that stay is what it is told against
+-- so a stay may begin with such units: the world that it starts from is what the units that stay hold
 rests_when_ready : (stands : Standing) (now : World) → IsReady stands now → is_at_work stands ≡ false
 rests_when_ready standings.Idle now ready = refl
 rests_when_ready (standings.Left unit) now ready = refl

@@ -386,7 +386,7 @@ cut_parts start newer middle older trace parts =
       newer_parts = behind.2;
     }
 
--- what newer events added stands in front of the trace before them
+-- the happenings that newer events added are in front of the trace before them
 part_adds : (start : Start) (event : Event) (before after : List Happening) → Part start event before after
     → (more : List Happening) × (after ≡ more ++ before)
 part_adds start (Submit order moment) before after (reply, same) =
@@ -432,7 +432,7 @@ pub cut_of : (start : Start) (events newer middle older : List Event) (trace : L
 cut_of start events newer middle older trace parts same =
     cut_parts start newer middle older trace (subst (λ (es : List Event). AreParts start es trace) same parts)
 
--- the trace behind the middle ones is legal and by plan, as the whole is
+-- the trace after the middle ones is legal and by plan, as the whole is
 pub older_rules : (start : Start) (more past : List Happening) → Legal start (more ++ past)
     → ByPlan start (more ++ past)
     → Legal start past × ByPlan start past

@@ -24,7 +24,7 @@ pub neither : (a b : Bool) → (a || b) ≡ false → (a ≡ false) × (b ≡ fa
 neither true b e = cc
 neither false b e = (refl, e)
 
--- where an order has ended, that is unsaid
+-- if an order has ended, that is unsaid
 pub ended_unsaid : (outstanding : Outstanding) → ended_in outstanding ≡ true → unsaid_in outstanding ≡ true
 ended_unsaid Quiet e = cc
 ended_unsaid (Waiting order moment) e = refl
@@ -38,14 +38,14 @@ waits_unsaid (Waiting other moment) order e = refl
 waits_unsaid Working order e = cc
 waits_unsaid JustEnded order e = cc
 
--- where all is said, no order waits
+-- if all is said, no order waits
 pub none_waits : (outstanding : Outstanding) → unsaid_in outstanding ≡ false → waits_in outstanding ≡ None
 none_waits Quiet e = refl
 none_waits (Waiting order moment) e = cc
 none_waits Working e = cc
 none_waits JustEnded e = cc
 
--- nor where an order has ended
+-- nor if an order has ended
 pub none_waits_ended : (outstanding : Outstanding) → ended_in outstanding ≡ true → waits_in outstanding ≡ None
 none_waits_ended Quiet e = cc
 none_waits_ended (Waiting order moment) e = cc
@@ -67,7 +67,7 @@ newly start past id order moment e =
       idle = both.0;
     }
 
--- where no order is at work, none is opened and none ends
+-- if no order is at work, none is opened and none ends
 pub no_opened : {A : Type 0} (stands : Standing) (unit : ℕ) → is_at_work stands ≡ false → Allows stands (Opened unit)
     → A
 no_opened standings.Idle unit idle allowed = absurd allowed
@@ -102,7 +102,7 @@ waits start (Stopped pace ∷ past) order legal e = cc
 waits start (_ ∷ past) order legal e =
     let w = waits start past order legal.0 e in record { older = w.older; taken = w.taken; idle = w.idle }
 
--- nor where one ends
+-- nor if one ends
 pub none_waits_at_work : (start : Start) (past : List Happening) (code : Code) → Legal start past
     → Allows (standing_at start past) (Ended code)
     → waiting past ≡ None

@@ -25,7 +25,7 @@ use Rattle.dali_laws.proofs.AppliedLemmas.{fits_applied}
 use Rattle.dali_laws.proofs.SafeLemmas.{sentence_own, standing_joined}
 use Rattle.dali_laws.proofs.BareLemmas.{hold_too, without_bare, bare_alike, bare_sentence, sentence_of, sentence_too}
 
--- What is at the address alone
+-- The unit at the address alone
 
 -- of those who stay each is as it is in the whole world
 whole_there : (staying : ℕ → Bool) (now : World) (address : ℕ) → staying address ≡ true
@@ -90,7 +90,7 @@ come_joined : (progress : Progress) (own older : List (Contents × Progress)) (n
     → come_to progress (own ++ older) ≡ come_to progress own ++ older
 come_joined progress own older newest rest is = rw is refl
 
--- an order is at work where one is opened or ends
+-- an order is at work when one is opened or ends
 opens_at_work : (stands : Standing) (unit : ℕ) → Allows stands (Opened unit) → is_at_work stands ≡ true
 opens_at_work (standings.Began order) unit allowed = refl
 opens_at_work standings.Idle unit allowed = absurd allowed
@@ -235,7 +235,7 @@ module _ (zero middle first now : World) (oldest newest own : List Record) (befo
   all_rest : is_at_work (standing_of older) ≡ false
   all_rest = ap is_at_work (standing_joined newest oldest idle) ∙ rests
 
-  -- the orders told of there are the own ones: the others have no bytes
+  -- the orders for that address are the own ones: the others have no bytes
   own_possible : (address bank location first byte : ℕ)
       → IsPossible first address bank location (orders_of (own ++ bare newest)) byte
       → IsPossible first address bank location (orders_of own) byte

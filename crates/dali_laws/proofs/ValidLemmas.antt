@@ -106,7 +106,7 @@ hand_valid start past order none legal asks hand =
     hand_by (records_of start past) (standing_at start past) (waiting past) (has_ended past) order refl
     (orders_valid start past none legal asks) (λ o waits. waiting_valid past o asks waits) hand
 
--- where an order is to be done, its locations are there
+-- if an order is to be done, its locations are there
 
 rest_below : (bytes : List ℕ) (bank : BankState) (updates : List (ℕ × ℕ))
     → AllByRecursion (λ (update : ℕ × ℕ). IsWritable update.0) updates → greatest updates < length bank.bytes

@@ -1,4 +1,4 @@
--- What a trace that keeps to the plans costs.
+-- The cost of a trace that keeps to the plans.
 use Rattle.std.proofs.Common.{◌≡◌, ◌⊎◌, inl, inr, refl, sym, ap, ◌∙◌, subst, ℕ, ◌+◌, ◌≤◌, Bool, true, false}
 use Rattle.std.specs.Prelude.{⊤}
 use Rattle.std.proofs.Common.{nat_lt, if◌then◌else◌, List, [], ◌∷◌, ◌++◌, length, length-append, append-nil, Option}
@@ -327,7 +327,7 @@ ended_earned pace first order code sent (verdict, told, older, parts, inl (ends,
 ended_earned pace first order code sent (verdict, told, older, parts, inr (ends, wants, opened)) =
     opened_earned pace first order code sent told older verdict parts ends wants opened
 
--- where an order has just ended, none is at work
+-- if an order has just ended, none is at work
 pub ended_idle : (start : Start) (past : List Happening) → Legal start past → has_ended past ≡ true
     → is_at_work (standing_at start past) ≡ false
 ended_idle start [] legal e = cc

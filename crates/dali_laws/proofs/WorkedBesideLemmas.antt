@@ -66,7 +66,7 @@ abbrev or_none : Option ℕ → ℕ
 or_none None = 0x100
 or_none (Some number) = number
 
--- not where all stay, nor by one that is enabled, nor at the address that is at work
+-- not if all stay, nor by one that is enabled, nor at the address that is at work
 pub none_comes_where_all_stay : Exchanged (λ address. true) (beside_one blank_unit (Some blank_unit))
     (beside_one blank_unit (Some written)) → ⊥
 none_comes_where_all_stay comes = by (comes 6) where
@@ -91,7 +91,7 @@ pub not_right_with_one_enabled_beside : IsRightThrough
     }) → ⊥
 not_right_with_one_enabled_beside right = omega (arith, ap (λ (named : Option ℕ). or_none named) (right.0 6 refl))
 
--- In the place of a left one: the left order's bytes are in no unit that stands there since
+-- In the place of a left one: the left order's bytes are in no unit that is there since
 
 pub not_with_the_left_orders_byte : Fits (alone blank_unit) (bare left_once.records) [] (alone written) → ⊥
 not_with_the_left_orders_byte fits = omega (arith, fits.bytes 5 1 3 0xFF 0x03 (past_apart (omega arith)) refl refl)

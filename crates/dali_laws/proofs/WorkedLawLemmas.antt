@@ -14,7 +14,7 @@ use Rattle.dali_laws.specs.Powered.{unpowered, IsPowerApart}
 use Rattle.dali_laws.specs.Law.{NothingIsDone, RefusedOrdersChangeNothing}
 use Rattle.dali_write.specs.declared.pace.Pace.TheVariants.{Checked}
 
--- What is something that is done, and what is nothing
+-- Happenings that do something, and happenings that do nothing
 
 -- an order that is refused, one that is taken and not begun, and a stop
 pub nothing_by_a_refused_order : NothingIsDone empty (Answered 1 replies.Busy ∷ Asked first_order 7 ∷ []) begun
@@ -32,7 +32,7 @@ not_nothing_by_a_record (none, same) = omega (arith, ap length same)
 pub not_nothing_by_a_frame : NothingIsDone empty (Sent (Dtr0 3) None ∷ []) [] → ⊥
 not_nothing_by_a_frame (none, same) = cc
 
--- Losses of power: they may stand before an order, behind its reply and one behind another, but not between the two
+-- Losses of power: they may be before an order, after its reply and one after another, but not between the two
 
 pub apart_elsewhere : (order : Contents) (moment : ℕ)
     → IsPowerApart (Powered 6 ∷ Powered 5 ∷ Answered order.id replies.Busy ∷ Asked order moment ∷ Powered 5 ∷ [])
@@ -47,7 +47,7 @@ pub none_are_left : (order : Contents) (moment : ℕ)
     ≡ Stopped Checked ∷ Asked order moment ∷ []
 none_are_left order moment = refl
 
--- A frame behind a refused order leaves what may come behind the frame without it
+-- A frame after a refused order leaves what may come after the frame without it
 pub behind_a_refused_order : RefusedOrdersChangeNothing → (next : Happening)
     → (MayFollow empty (Sent (Dtr1 1) None ∷ busy_while_at_work) next ↔ MayFollow empty first_frame next)
     × (IsPlanned empty (Sent (Dtr1 1) None ∷ busy_while_at_work) next ↔ IsPlanned empty first_frame next)

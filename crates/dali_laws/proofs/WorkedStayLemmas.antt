@@ -1,4 +1,4 @@
--- What stays let through and what they don't, near the edges.
+-- Stays near the edges: traces that they let through, and traces that they don't.
 use Rattle.std.proofs.Common.{◌≡◌, ◌⊎◌, inl, inr, refl, ap, sym, append-nil, true, false, ℕ, Bool}
 use Rattle.std.proofs.Common.{List, [], ◌∷◌, ◌++◌, Option, Some}
 use Rattle.std.proofs.Common.{None, arith, ◌==◌, ◌≢◌, ◌∙◌, if◌then◌else◌}
@@ -74,7 +74,7 @@ pub not_at_rest_with_another_enabled : IsReadyAtRest
     (record (at_rest (alone blank_unit) [] (alone enabled_unit) []) { start = left_at_6 }) → ⊥
 not_at_rest_with_another_enabled ready = not_ready_with_another_enabled (ready refl)
 
--- a lock byte of a bank from 2 up may stand open
+-- a lock byte of a bank from 2 up may be open
 abbrev open_above : Gear
 open_above = record blank_unit { memory = stored blank 2 2 0x55 }
 
@@ -100,7 +100,7 @@ blank_powers_up = record {
   others = λ other elsewhere. refl;
 }
 
--- where all stay, nobody comes, and whoever is at work stays
+-- if all stay, nobody comes, and whoever is at work stays
 pub nobody_comes : (staying : ℕ → Bool) (first : World) (past : List Happening) (last : World) (states : List World)
     → IsChain Moves first past last states → IsChain (MovesAmid staying) first past last states
 nobody_comes staying first [] last [] same = same
@@ -231,7 +231,7 @@ none_begins_amid_an_order_by_no_records stay none begins = by begins.told where
   by (inr (same, inl idle)) = cc
   by (inr (same, inr free)) = let never : true ≡ false = free in cc
 
--- where a unit is left, one begins while no order waits, and none amid the frames that close it
+-- if a unit is left, one begins while no order waits, and none amid the frames that close it
 abbrev left_stay : Stay
 left_stay =
     record (at_rest (alone blank_unit) [] (alone blank_unit) []) {
@@ -290,7 +290,7 @@ not_right_amid_an_order right =
       by (inl same) = omega (arith, ap (λ (held : Option ℕ). or_none held) same)
       by (inr relocks) = absurd relocks.0
 
--- Exchanged behind a read that a later order rests on: legal, but not by plan, and not right
+-- Exchanged after a read that a later order rests on: legal, but not by plan, and not right
 
 read_before_legal : Legal empty read_before
 read_before_legal = (

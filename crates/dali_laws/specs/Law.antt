@@ -53,14 +53,14 @@ RepeatsAreAnswered =
 abbrev pub NothingIsDone : Start → List Happening → List Happening → Type 0
 NothingIsDone start more past = NoneSent more × (records_of start (more ++ past) ≡ records_of start past)
 
--- where a trace isn't busy, nothing is done until an order is taken
+-- if a trace isn't busy, nothing is done until an order is taken
 abbrev pub QuietUntilTaken : Type 0
 QuietUntilTaken = (start : Start) (past more : List Happening)
     → Legal start (more ++ past) → is_busy start past ≡ false → NoneTaken more → NothingIsDone start more past
 
--- An order that gets another reply than Taken, as each repeat does, changes nothing, wherever it stands in a trace and
--- whatever is at work: just that may come next, behind whatever came after it, which might without it, and the plan
--- asks for just that.
+-- An order that gets another reply than Taken, as each repeat does, changes nothing, wherever it is in a trace and
+-- whatever is at work: with it or without it, exactly the same may come next, after whatever came after it, and the
+-- plan asks for exactly the same.
 abbrev pub RefusedOrdersChangeNothing : Type 0
 RefusedOrdersChangeNothing =
     (start : Start) (past more : List Happening) (order : Contents) (moment : ℕ) (reply : Reply) (next : Happening)
@@ -70,8 +70,8 @@ RefusedOrdersChangeNothing =
     × (IsPlanned start (more ++ Answered order.id reply ∷ Asked order moment ∷ past) next
     ↔ IsPlanned start (more ++ past) next)
 
--- where a trace isn't busy, nothing is done by the repeat of an order that has ended, nor from there until an order
--- is taken
+-- if a trace isn't busy, nothing is done by the repeat of an order that has ended, nor from there until an order is
+-- taken
 abbrev pub RepeatsAreQuiet : Type 0
 RepeatsAreQuiet =
     (start : Start) (past more : List Happening) (order : Contents) (moment : ℕ) (code : Code) (next : Happening)

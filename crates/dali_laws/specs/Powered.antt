@@ -9,7 +9,7 @@ unpowered [] = []
 unpowered (Powered address ∷ past) = unpowered past
 unpowered (other ∷ past) = other ∷ unpowered past
 
--- none of them stands straight after an order, before its reply
+-- none of them is directly after an order, before its reply
 abbrev pub IsPowerApart : List Happening → Type 0
 IsPowerApart [] = ⊤
 IsPowerApart (Powered address ∷ Asked order moment ∷ past) = ⊥

@@ -1,6 +1,6 @@
--- Stays: luminaires come and go while the journal stands idle, and where none is at work or left at any time; and units
--- are read, verified and used by other masters while it stands idle. A stay is a part of what happened, told of the
--- luminaires that stand on the bus from its first moment to its last.
+-- Stays: luminaires come and go while the journal is idle, and, if none is at work or left, at any time; and units are
+-- read, verified and used by other masters while it is idle. A stay is a part of what happened, for the luminaires that
+-- are on the bus from its first moment to its last.
 use Rattle.std.specs.Prelude.{◌≡◌, ◌⊎◌, ◌++◌, ◌==◌, ℕ, Bool, true, false, List, [], ◌∷◌, Option, Some, None, IfSome}
 use Rattle.std.specs.Prelude.{if◌then◌else◌}
 use Rattle.dali_bus.specs.World.{World, is_enabled}
@@ -19,9 +19,9 @@ use Rattle.dali_trace.specs.Fits.{Fits, OnlyNamed, IsApplied}
 use Rattle.dali_trace.specs.Moments.{OnlyNamedAt, IsRight}
 use Rattle.dali_laws.specs.Powered.{unpowered}
 
--- What happened in a stay, the newest first, and the worlds of the whole bus; the short addresses at which the same
--- luminaire stands, or none, from the first moment to the last; and what these luminaires are told against: a start
--- world, the units that had lost their power, and a start.
+-- The happenings of a stay, the newest first, and the worlds of the whole bus; the short addresses that have the same
+-- luminaire, or none, from the first moment to the last; and the reference for these luminaires: a start world, the
+-- units that had lost their power, and a start.
 pub record Stay : Type 0 where
   pub staying : ℕ → Bool
   pub zero : World
@@ -32,7 +32,7 @@ pub record Stay : Type 0 where
   pub last : World
   pub states : List World
 
--- Who stays, and who comes and goes
+-- The units that stay, and those that come and go
 
 -- the world with the units at these addresses alone
 abbrev pub among : (ℕ → Bool) → World → World
@@ -60,8 +60,8 @@ WorkStays stay =
     AtEachMoment (λ moment now. IfSome (unit_at_work (standing_at stay.start moment))
     (λ unit. stay.staying unit ≡ true)) stay.past stay.last stay.states
 
--- It goes along a chain of worlds of the whole bus: at first the units that stay fit what they are told against, and no
--- unit at all is enabled but the one that the records name; and the unit at work stays.
+-- It goes along a chain of worlds of the whole bus: at first the units that stay fit the reference, and no unit at all
+-- is enabled except for the one that the records name; and the unit at work stays.
 pub record IsAlong (stay : Stay) : Type 0 where
   pub fits : Fits stay.zero stay.start.records stay.lost (among stay.staying stay.first)
   pub only : OnlyNamed stay.start.records stay.first
@@ -86,8 +86,8 @@ bare (other ∷ older) = other ∷ bare older
 abbrev pub IsAtRest : Start → List Happening → Type 0
 IsAtRest start past = (standing_at start past ≡ standings.Idle) ⊎ (is_busy start past ≡ false)
 
--- A stay begins with all that happened, or at rest, whatever happened before: where the journal stands idle, or nothing
--- is to be done or said. It is told by the newest records of the journal, back to where that stood idle once. At rest
+-- A stay begins with all that happened, or at rest, whatever happened before: when the journal is idle, or nothing is
+-- to be done or said. It is described by the newest records of the journal, back to where that was idle once. At rest
 -- its luminaires may be others than those that the records speak of: then the orders of these have no bytes in them.
 pub record Begins (start : Start) (before : List Happening) (stay : Stay) : Type 0 where
   pub newest : List Record
@@ -106,7 +106,7 @@ pub record IsStay (start : Start) (happened : List Happening) (stay : Stay) : Ty
   pub begins : Begins start before stay
   pub along : IsAlong stay
 
--- What the units have to be like where a stay begins at rest: none is write-enabled, or none but the left one.
+-- The units when a stay begins at rest: none is write-enabled, or none except for the left one.
 abbrev pub IsReady : Standing → World → Type 0
 IsReady standings.Idle world = NoneEnabled world
 IsReady (standings.Left unit) world = OnlyEnabled unit world
@@ -128,7 +128,7 @@ just address other = other == address
 abbrev pub only_at : ℕ → World → World
 only_at address = among (just address)
 
--- what stands at an address fits what stood there in the start world, with these records, as a world does
+-- the unit at an address fits the one that was there in the start world, with these records, as a world does
 abbrev pub UnitFits : ℕ → World → List Record → List ℕ → World → Type 0
 UnitFits address zero records lost now =
     Fits (only_at address zero) records lost (only_at address now)

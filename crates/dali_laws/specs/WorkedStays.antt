@@ -35,7 +35,7 @@ done_once = record { records = Ended Done ∷ Opened 5 ∷ Began first_order 7 �
 abbrev pub next_order : Contents
 next_order = record { id = 2; unit = 5; updates = first_order.updates }
 
--- A blank unit stands there now. It loses its power between the order and its reply, and hears the first frame.
+-- A blank unit is there now. It loses its power between the order and its reply, and hears the first frame.
 abbrev pub exchanged : Stay
 exchanged =
     let w = alone blank_unit in

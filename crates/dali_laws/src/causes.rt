@@ -1,4 +1,4 @@
-//! What the cause of an order that came to no good end says of its frames.
+//! Laws of causes: the frames of an order that came to no good end, as its cause describes them.
 
 ghost use Rattle.std.specs.Prelude.{◌≡◌, ◌⊎◌, List, Some};
 ghost use Rattle.dali_bank.specs.Order.{Contents, AreUpdates};

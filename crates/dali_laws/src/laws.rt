@@ -65,21 +65,21 @@ pub fn one_reply_is_due()
     ensures { OneReplyIsDue }
 {}
 
-/// A repeat of an order that has ended gets its kept reply at once. Where nothing else is at work, no frame is sent and
-/// no record kept until another order is taken.
+/// A repeat of an order that has ended gets its kept reply at once. If nothing else is at work, no frame is sent and no
+/// record kept until another order is taken.
 pub fn repeats_are_answered_by_what_is_kept()
     ensures answered { RepeatsAreAnswered }
     ensures quiet { RepeatsAreQuiet }
 {}
 
 /// An order that gets another reply than Taken, as each repeat of one that has ended does, changes nothing, wherever it
-/// stands in a trace and whatever is at work: just the frames, records, replies and sayings that might come without it
+/// is in a trace and whatever is at work: exactly the frames, records, replies and sayings that might come without it
 /// may come with it, and the plan asks for the same.
 pub fn refused_orders_change_nothing()
     ensures { RefusedOrdersChangeNothing }
 {}
 
-/// Where nothing is at work, no frame is sent and no record kept until an order is taken, stops included.
+/// If nothing is at work, no frame is sent and no record kept until an order is taken, stops included.
 pub fn nothing_is_done_until_an_order_is_taken()
     ensures { QuietUntilTaken }
 {}
@@ -90,21 +90,22 @@ pub fn planned_work_is_limited()
     ensures { (start : Start) (past : List Happening) → Legal start past → ByPlan start past → IsWorked start past }
 {}
 
-/// With the same premises: wherever an order is at hand, it is said in what so many steps add, with no stop among them.
+/// With the same premises: wherever an order is at hand, it is said in the part that enough steps add, with no stop
+/// among them.
 pub fn orders_are_said_in_time()
     ensures { (start : Start) (before past : List Happening) → Legal start past → ByPlan start past → IsFinished before
         → IsSaidInTime start before past }
 {}
 
-/// The limit, and the frames of an order that is done: where it starts anew, with or without a left unit, and where
-/// it was opened.
+/// The limit, and the frames of an order that is done: when it starts anew, with or without a left unit, and when it
+/// was opened.
 pub fn limits_are_these()
     ensures limit { (updates : ℕ) → work_limit updates ≡ 112 * updates + 560 }
     ensures low { (updates : List (ℕ × ℕ)) → greatest updates < 0x13
         → frames_from Pace.Checked standings.Idle updates ≡ 14 * length updates + 28 }
     ensures high { (updates : List (ℕ × ℕ)) → 0x13 ≤ greatest updates
         → frames_from Pace.Checked standings.Idle updates ≡ 14 * length updates + 42 }
-    // By the short plan, with a frame more for each write that isn't just behind the one before, and a row for each
+    // By the short plan, with one more frame for each write that isn't just after the one before, and a row for each
     // sixteen neighbours that are read back:
     ensures low_short { (updates : List (ℕ × ℕ)) → greatest updates < 0x13
         → frames_from Pace.Short standings.Idle updates
@@ -117,7 +118,7 @@ pub fn limits_are_these()
 {}
 
 /// Losses of power, anywhere but between an order and its reply, change nothing of what is legal and by plan: a trace
-/// is both with them where it is without them.
+/// that is both without them is both with them.
 pub fn losses_of_power_change_nothing()
     ensures legal { (start : Start) (past : List Happening) → IsPowerApart past → Legal start (unpowered past)
         → Legal start past }
@@ -130,14 +131,14 @@ pub fn sittings_are_one_trace()
     ensures { (start : Start) (sittings : List Sitting) → FollowOn start sittings → IsOneTrace start sittings }
 {}
 
-/// A stay is a part of what happened, told of the luminaires that stand on the bus from its first moment to its last;
-/// before it and after it the units may be any others, or used by anyone. At the other short addresses luminaires may
-/// come and go in it at any moment, though not at that of the order at work or of a left unit, and who comes isn't
-/// write-enabled. Units may lose their power in it at any moment. It begins with the trace, or at rest: where the
-/// journal stands idle, or nothing is to be done or said. From the start on it is told by all records, as the laws
-/// above; from a moment at rest on it may be told against the world of that moment, as if the orders of before had no
-/// bytes. Either way each moment fits, no unit but the named one is enabled, every place that is in no doubt is as the
-/// journal says, and when a record is kept, what it says is so.
+/// A stay is a part of what happened, for the luminaires that are on the bus from its first moment to its last; before
+/// it and after it the units may be any others, or used by anyone. At the other short addresses luminaires may come and
+/// go in it at any moment, though not at that of the order at work or of a left unit, and one that comes isn't
+/// write-enabled. Units may lose their power in it at any moment. It begins with the trace, or at rest: when the
+/// journal is idle, or nothing is to be done or said. From the start on it is described by all records, as the laws
+/// above; from a moment at rest on it may be compared with the world of that moment, as if the orders of before had no
+/// bytes. Either way each moment fits, no unit except for the named one is enabled, every place that is in no doubt is
+/// as the journal says, and when a record is kept, what it says is so.
 pub fn every_moment_of_a_stay_is_right()
     // a legal trace from its start on, whether it keeps to the plans or not;
     ensures trace { (start : Start) (stay : Stay) → Legal start stay.past → Begins start [] stay → IsAlong stay
@@ -150,26 +151,25 @@ pub fn every_moment_of_a_stay_is_right()
         → IsStay start (joined sittings) stay → IsRightThrough stay }
 {}
 
-/// Where nothing is at work in a stay, no unit is write-enabled but a left one: the units are as the next stay wants
-/// them.
+/// If nothing is at work in a stay, no unit is write-enabled but a left one: the units are as the next stay wants them.
 pub fn each_rest_suits_the_next_stay()
     ensures ready { (stay : Stay) → IsRightThrough stay → IsReadyAtRest stay }
-    // A stay that begins at rest wants no more of the units that it begins with. It is told against what those hold
-    // that stay, by records of orders that have no bytes.
+    // A stay that begins at rest needs no more of the units that it begins with. It is compared with what the units
+    // hold that stay, by records of orders that have no bytes.
     ensures begins { (stay : Stay) (records : List Record) → stay.zero ≡ among stay.staying stay.first
         → stay.start.records ≡ bare records → IsReady (standing_of records) stay.first → WorkStays stay
         → IsChain (MovesAmid stay.staying) stay.first stay.past stay.last stay.states → IsAlong stay }
 {}
 
 /// A luminaire that was only read between two stays, or lost its power, fits over both: its memory is what it was when
-/// the first began, with the orders done in both applied once each in journal order. So it may be told of by one stay,
+/// the first began, with the orders done in both applied once each in journal order. So one stay may describe it,
 /// whatever came and went at other short addresses.
 pub fn a_unit_left_standing_fits_over_both()
     // a world that fits, fits at each address of those who stay;
     ensures each { (staying : ℕ → Bool) (address : ℕ) (zero now : World) (records : List Record) (lost : List ℕ)
         → staying address ≡ true → Fits zero records lost (among staying now)
         → UnitFits address zero records lost now }
-    // after records at rest what fitted fits on: after those that stand idle, and after those of an order that left
+    // after records at rest each fit still holds: after those that are idle, and after those of an order that left
     // another unit.
     ensures both { (address : ℕ) (zero middle first now : World) (oldest newest own : List Record)
         (before gone lost : List ℕ)

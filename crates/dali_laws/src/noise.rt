@@ -1,4 +1,4 @@
-//! What orders keep of their promises over a bus that alters answers.
+//! The promises that orders keep over a bus that alters answers.
 
 ghost use Rattle.std.specs.Prelude.{◌≡◌, ◌∷◌, ℕ, Bool, true, false, List, []};
 ghost use Rattle.dali_bank.specs.Order.{Contents, AreUpdates};
@@ -17,10 +17,10 @@ ghost use Rattle.dali_trace.specs.declared.happening.Happening.TheVariants as ha
 ghost use Rattle.dali_trace.specs.Trace.{Start, pace_at, standing_at};
 ghost use Rattle.dali_trace.specs.ByPlan.{ByPlan, told_in};
 
-/// At each moment of a trace that keeps to the plans, where the frames of the session at hand were carried by a bus
-/// that alters answers as `NoisyStep` says: an opened order has changed only its own places, each to a byte that it
-/// writes there, and enabled no other unit; one that is begun has changed nothing; a left unit only its lock byte.
-/// What holds where the next record is kept needs a bus that makes up no byte where a read or a write wasn't answered:
+/// At each moment of a trace that keeps to the plans, if the frames of the session at hand were carried by a bus that
+/// alters answers as `NoisyStep` says: an opened order has changed only its own places, each to a byte that it writes
+/// there, and enabled no other unit; one that is begun has changed nothing; a left unit only its lock byte. The facts
+/// when the next record is kept need a bus that makes up no byte for a read or a write that wasn't answered:
 /// `Ended(Done)` is true, and after `Ended(Doubt)` and `Closed` the unit isn't enabled.
 pub fn altered_answers_spare_orders()
     ensures opened { (made : Bool) (loses : List ℕ) (start : Start) (past : List Happening) (order : Contents)

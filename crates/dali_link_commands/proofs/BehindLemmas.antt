@@ -1,4 +1,4 @@
--- Lemmas on how a drive behind older journals ended.
+-- Lemmas on how a drive with older journals ended.
 use Rattle.std.proofs.Common.{◌≡◌, ◌≢◌, Bool, ℕ, List, [], ◌∷◌, ◌++◌, Option, ap, inl, inr, refl}
 use Rattle.std.specs.Borrow.{Bor}
 use Rattle.dali_journal.specs.declared.record.Record.{Record}
@@ -19,7 +19,7 @@ use Rattle.dali_link_commands.specs.Older.{held_under}
 use Rattle.dali_faults.specs.JournalInput.{journal_limit, order_limit}
 use Rattle.dali_write.specs.declared.pace.Pace.{Pace}
 
--- what broke a drive off was told, and the lines alone were written for that
+-- the cause that broke a drive off was reported, and only its lines were written for that
 pub break_told : {G N : Type 0} (gave : G → G → List Given → Type 0) (contents : N → Option (List ℕ))
     (older : Option JournalState) (pace : Pace) (before after : Report N) (orders left : G) (first last : Look)
     (replies : Option (List ℕ)) (lost : Bool) (status : Status) (fault : BehindFault)
@@ -34,13 +34,13 @@ break_told gave contents older pace before after orders left first last replies 
 break_told gave contents older pace before after orders left first last replies lost status (behind.Drive why) ends
     shows told = inr (inr (search))
 
--- records behind others that are at rest stand as they do by themselves
+-- records after others that are at rest have the standing that they have by themselves
 pub standing_behind : (own older : List Record) → standing_of older ≡ Idle
     → standing_of (own ++ older) ≡ standing_of own
 standing_behind [] older rests = rests
 standing_behind (newest ∷ own) older rests = ap (λ st. next_standing st newest) (standing_behind own older rests)
 
--- something is known of some files where some are named
+-- something is known of some files if some are named
 pub some_held : (has : List ℕ → Option (List ℕ)) (names : List (Bor (List ℕ))) → names ≢ []
     → held_under has names ≢ []
 some_held has [] some none = some refl

@@ -42,7 +42,7 @@ worded (Ok status) fault words before mid after line told is =
     (is, appends_both before mid after (error_line words) (told_line fault) line told)
 worded (Err error) fault words before mid after line told is = tt
 
--- one refused item more is told; any default serves
+-- one more refused item is printed; any default will do
 pub refused_more : (refused : List (ℕ × ItemFault)) (i : ℕ) (default : ℕ × ItemFault) (before mid now : Option (List ℕ))
     → i < length refused → Appends before mid (refused_lines (take i refused))
     → Appends mid now (item_line (get_or refused i default).0 (get_or refused i default).1)
@@ -58,7 +58,7 @@ pub worded_is : (fault : DriveFault) (words text : List ℕ) → ((fault ≡ dri
 worded_is fault words text (inl journal) plain is = rw journal (words, plain, rw journal at is)
 worded_is fault words text (inr link) plain is = rw link (words, plain, rw link at is)
 
--- a fault other than that of the replies is told by its text, or by a first part of it
+-- a fault other than that of the replies is reported by its text, or by a first part of it
 pub told_so : (fault : DriveFault) (status : Status) (before after : Option (List ℕ)) (text : List ℕ)
     → is_out fault ≡ false → IsFaultText fault text
     → (((status ≡ status_of (Drive fault)) × Appends before after text)
@@ -73,7 +73,7 @@ pub puts_all : (before mid after : Option (List ℕ)) (bytes : List ℕ) → App
 puts_all before mid after bytes whole kept =
     (length bytes, omega arith, rw take-length (appends_kept before mid after bytes whole kept))
 
--- its status is that of a fault that was told
+-- its status is that of a fault that was reported
 pub not_unwritten : {A : Type 0} (fault : DriveFault) (status : Status) → is_out fault ≡ false
     → status ≡ status_of (Drive fault) → status ≡ Unwritten → A
 not_unwritten drives.Out status other is unwritten = cc

@@ -1,4 +1,4 @@
--- Lemmas on stores that are read one after the other, each as a journal behind those before it.
+-- Lemmas on stores that are read one after the other, each as a journal after those before it.
 use Rattle.std.proofs.Common.{◌≡◌, refl, ℕ, Bool, ◌+◌, ◌<◌, List, [], ◌∷◌, ◌++◌, Option, Some, None, IfSome, length, map}
 use Rattle.std.proofs.Common.{take, get_or, set, ap, sym, ◌∙◌, arith, append-nil, append_assoc, length-append}
 use Rattle.std.proofs.Math.Seq.{get_or-append_seam, set-append_seam}
@@ -28,7 +28,7 @@ one_rests knowns (Some journal) joined = rests joined.owns joined.are_one where
   rests [] one = cc
   rests (oldest ∷ newer) one = one.1
 
--- one more is named behind the others
+-- one more is named after the others
 at_rest_more : (knowns : List (Option (List ℕ))) (owns : List JournalState) (known : Option (List ℕ))
     (own : JournalState) → AreReadAtRest knowns owns → IsReadAtRest known own
     → AreReadAtRest (knowns ++ (known ∷ [])) (owns ++ (own ∷ []))
@@ -81,7 +81,7 @@ module _ {S : Type 0} (seen : S → Option (List ℕ)) (failed : S → Bool) (ma
   abbrev pub AreSettled : List S → Type 0
   AreSettled stores = AllByRecursion (λ store. IsDurable (seen store) (may_leave store)) stores
 
-  -- so many of the stores have been read, are durable, and are one; the others are left alone
+  -- the first `count` stores have been read, are durable, and are one; the others are left alone
   pub record HaveJoined (first now : List S) (count : ℕ) (whole : Option JournalState) : Type 0 where
     pub earlier : List S
     pub read : List S
@@ -108,7 +108,7 @@ module _ {S : Type 0} (seen : S → Option (List ℕ)) (failed : S → Bool) (ma
     settled = tt;
   }
 
-  -- the store whose turn it is stands behind those that are read
+  -- the store whose turn it is comes right after those that are read
   at_turn : (first now earlier read later : List S) (count : ℕ) (item new : S) → first ≡ earlier ++ later
       → now ≡ read ++ later → count ≡ length read → count < length now → item ≡ get_or now count item
       → (rest : List S) × (first ≡ earlier ++ (item ∷ rest)) × (set now count new ≡ read ++ (new ∷ rest))

@@ -8,13 +8,13 @@ use Rattle.dali_drive.specs.Desks.{Look}
 use Rattle.dali_link_commands.specs.Benches.{with_lines}
 use Rattle.dali_link_commands.specs.LinkCommands.{EndsReported, IsReported, is_lost}
 
--- a report that was wanted was opened where it has an output
+-- a report that was wanted was opened if it has an output
 lost_by_output : {N : Type 0} (wanted opened : Bool) (before after : Report N)
     → has_output before ≡ (wanted && opened) → is_lost wanted opened after ≡ is_lost wanted (has_output before) after
 lost_by_output true opened before after is = rw is
 lost_by_output false opened before after is = refl
 
--- a command with a report that was opened so, and told of so
+-- a command whose report was opened like this, and whose end was reported accordingly
 pub reported : (wanted opened : Bool)
     (answers : Report ReportOutput → Report ReportOutput → Look → Status → Look → Type 0) (first last : Look)
     (before after : Report ReportOutput) (ended status : Status) (lines : Option (List ℕ)) (failed : Bool)

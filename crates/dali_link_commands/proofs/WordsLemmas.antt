@@ -1,4 +1,4 @@
--- Lemmas on words that stand on one line.
+-- Lemmas on words on one line.
 use Rattle.std.proofs.Common.{◌≡◌, ℕ, zero, suc, ◌/◌, ◌%◌, List, [], ◌∷◌, ◌++◌, codes, arith, Option, Result, IfOk}
 use Rattle.std.proofs.Common.{OnOk, ◌==◌, false, true}
 use Rattle.std.proofs.lemmas.Bool.{cond_both}
@@ -43,7 +43,7 @@ pub plain_shown : (letters : List ℕ) → IsPlain (flat_map shown_letter letter
 plain_shown [] = tt
 plain_shown (x ∷ xs) = plain_append (shown_letter x) (flat_map shown_letter xs) (plain_one x) (plain_shown xs)
 
--- plain words were told, and then the fault
+-- plain words were written, and then the fault
 pub told_worded : (result : Result Status OutputFailed) (fault : Fault) (words : List ℕ)
     (before after : Option (List ℕ)) → IsPlain words
     → IfOk result (λ status. (status ≡ status_of fault) × Appends before after (error_line words ++ told_line fault))
@@ -51,7 +51,7 @@ pub told_worded : (result : Result Status OutputFailed) (fault : Fault) (words :
 told_worded result fault words before after plain told =
     IfOk-weaker result _ _ (λ status it. (it.0, (words, plain, it.1))) told
 
--- or nothing behind them
+-- or nothing after them
 pub told_plain : {A E : Type 0} → (result : Result A E) (words : List ℕ) (before after : Option (List ℕ))
     → IsPlain words → OnOk result (Appends before after (error_line words))
     → OnOk result ((words : List ℕ) × IsPlain words × Appends before after (error_line words))

@@ -1,4 +1,4 @@
--- How runs of `address` end and are told, by hand, on both sides of each rule.
+-- How runs of `address` end and are reported, by hand, on both sides of each rule.
 use Rattle.std.proofs.Common.{◌≡◌, refl, inl, inr, true, false, ℕ, List, [], ◌∷◌, Option, Some, None, arith, codes}
 use Rattle.std.specs.Borrow.{Bor}
 use Rattle.dali_address.specs.declared.task.Summary.{Summary}

@@ -1,4 +1,4 @@
--- What is required at the end of a drive, and how it is told that nothing was done, on both sides of each rule.
+-- The requirements at the end of a drive, and how it is reported that nothing was done, on both sides of each rule.
 use Rattle.std.proofs.Common.{◌≡◌, refl, inl, inr, [], ◌∷◌, ℕ, Some, true, false}
 use Rattle.dali_report.specs.declared.outcome.Outcome.TheVariants as outcomes
 use Rattle.dali_faults.specs.declared.fault.Status.TheVariants.{Good, Refused}
@@ -22,7 +22,7 @@ pub not_done_is_refused_where_it_is_asked :
     × (ended_status Nothing outcomes.NotDone ≡ Good)
 not_done_is_refused_where_it_is_asked = (refl, refl, refl)
 
--- nothing done is told where something is required
+-- that nothing was done is reported if something is required
 pub nothing_is_told : TellsEnded DoneNow outcomes.Nothing Refused (Some []) (Some nothing_line)
 nothing_is_told = inl (refl, refl)
 
@@ -37,7 +37,7 @@ nothing_is_told_by_no_silence (inr told) = cc
 pub nothing_is_good_where_nothing_is_asked : TellsEnded Nothing outcomes.Nothing Good (Some []) (Some [])
 nothing_is_good_where_nothing_is_asked = (refl, refl)
 
--- where something was done nothing is told of that
+-- if something was done, it isn't reported that nothing was
 pub one_that_is_not_done_is_no_nothing : TellsEnded Done outcomes.NotDone Refused (Some []) (Some nothing_line) → ⊥
 one_that_is_not_done_is_no_nothing told = cc
 

@@ -1,4 +1,4 @@
--- What is answered behind older journals, on both sides of each rule.
+-- The answers with older journals, on both sides of each rule.
 use Rattle.std.proofs.Common.{◌≡◌, refl, ℕ, List, [], ◌∷◌, Option, None, codes, inl, inr}
 use Rattle.std.specs.Prelude.{⊤}
 use Rattle.dali_journal.specs.declared.behind.JoinFault.TheVariants as joins
@@ -12,7 +12,7 @@ use Rattle.dali_link_commands.specs.BehindAnswers.{IsBehindNamed, fault_unjoined
 use Rattle.dali_faults.specs.Faults.{status_of, told_line}
 use Rattle.dali_link_commands.specs.Older.{AreOne, AreReadAtRest, fault_older}
 
--- what is no journal, isn't at rest, or has a number of another one, is told as 15 Older
+-- a file that is no journal, isn't at rest, or shares a number with another one, is reported as 15 Older
 pub told_as_older :
     (fault_older AtWork ≡ Older) × (fault_older (Join (joins.Repeated 1)) ≡ Older)
     × (fault_older (Unloaded (Journal journals.Header)) ≡ Older) × (fault_older (Unloaded (Input TooBig)) ≡ Older)
@@ -32,7 +32,7 @@ told_as_memory = (refl, refl, refl, refl)
 pub older_is_refused : (status_of Older ≡ Refused) × (told_line Older ≡ codes "fault 15 Older\n")
 older_is_refused = (refl, refl)
 
--- without names it is answered as behind none; behind names never, and there it may be refused
+-- without names the answer is that without older journals; with names never, and then it may be refused
 pub behind_none : IsBehindNamed [] (λ older. older ≡ None) ⊥
 behind_none = inl (None, record { owns = []; at_rest = tt; are_one = refl }, refl)
 

@@ -1,4 +1,4 @@
--- What there is of a desk, by hand: its lines, what was left alone, and how it ends where its lines have failed.
+-- The parts of a desk, by hand: its lines, what was left alone, and how it ends if its lines have failed.
 use Rattle.std.proofs.Common.{◌≡◌, refl, ap, true, false, ℕ, List, [], ◌∷◌, Option, Some, codes}
 use Rattle.std.specs.Prelude.{⊤}
 use Rattle.dali_faults.specs.declared.fault.Status.TheVariants.{Good, Unwritten}
@@ -7,7 +7,7 @@ use Rattle.dali_drive.specs.Transcript.{shown}
 use Rattle.dali_store.specs.Stores.{IsDurable}
 use Rattle.dali_link_commands.specs.Benches.{IsUndriven, TellsUnwritten, with_lines}
 
--- a desk whose journal shows one byte, of which a stop leaves just that; a line of the link's answers is unread
+-- a desk whose journal shows one byte, of which a stop leaves exactly that; a line of the link's answers is unread
 abbrev pub desk_of : List ℕ → List ℕ → List ℕ → List ℕ → Failures → (List ℕ → Type 0) → Look
 desk_of journal link answers out failed may_leave =
     look_of (shown (Some journal) (Some link) (Some answers) (Some out)) failed may_leave
@@ -37,7 +37,7 @@ the_rest_is_as_it_was = (refl, refl, refl, refl, refl, refl, refl)
 
 -- ---- what was left alone
 
--- lines were told, and they failed
+-- lines were written, and they failed
 pub just_told : IsUndriven before told
 just_told = assumption
 

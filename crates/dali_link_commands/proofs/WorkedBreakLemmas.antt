@@ -1,4 +1,4 @@
--- What is left where a drive isn't begun or breaks off, and where it comes to its end; and what is near that.
+-- The state after a drive that isn't begun, breaks off, or comes to its end; and near misses of each.
 use Rattle.std.proofs.Common.{◌≡◌, sym, ap, Bool, true, false, ℕ, List, [], ◌∷◌, Option, Some, codes}
 use Rattle.dali_bank.specs.Order.{Contents}
 use Rattle.dali_journal.specs.JournalState.{JournalState}
@@ -72,7 +72,7 @@ module _ {G N : Type 0} (gave : G → G → List Given → Type 0) (contents : N
       → b.fault ≡ faults.Journal → last.failed.journal ≡ false → ⊥
   broken_where_none_failed b is unfailed = let failed = (rw is at b.failed).0 in cc
 
--- ---- what came to its end
+-- ---- drives that completed
 
 pub ended_and_unsettled : {G N : Type 0} (gave : G → G → List Given → Type 0) (over : G → Type 0)
     (contents : N → Option (List ℕ)) (older : Option JournalState) (pace : Pace) (before after : Report N)

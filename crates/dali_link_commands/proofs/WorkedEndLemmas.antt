@@ -1,4 +1,4 @@
--- How a drive's fault is told: one of the replies' stream by its status alone, with nothing written behind them.
+-- How a drive's fault is reported: one of the replies' stream by its status alone, with nothing written after them.
 use Rattle.std.proofs.Common.{◌≡◌, refl, inl, inr, ap, ℕ, zero, suc, List, [], ◌++◌, Option, Some, codes, get_or, arith}
 use Rattle.dali_trace.specs.declared.fault.DriveFault.TheVariants as faults
 use Rattle.dali_faults.specs.declared.fault.Status.TheVariants.{Good, Refused, Failed, Unwritten}
@@ -16,11 +16,11 @@ nothing_behind_the_replies told = cc
 pub not_failed : (before after : Option (List ℕ)) → IsFaultTold faults.Out Failed before after → ⊥
 not_failed before after told = cc
 
--- another fault is told, and is no good end
+-- another fault is reported, and is no good end
 pub not_good_where_the_link_ends : IsFaultTold faults.End Good (Some []) (Some []) → ⊥
 not_good_where_the_link_ends told = grind arith
 
--- where the output fails then, a first part of its line stands behind the replies, and nothing else
+-- if the output fails then, a first part of its line follows the replies, and nothing else
 pub told_in_part : IsFaultTold faults.End Unwritten (Some (codes "{}")) (Some (codes "{}drive fault "))
 told_in_part = (told_line (Drive faults.End), refl, inr (refl, (12, omega arith, refl)))
 

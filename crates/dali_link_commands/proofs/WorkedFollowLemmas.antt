@@ -9,7 +9,7 @@ use Rattle.dali_link_commands.specs.declared.required.Required.TheVariants.{Noth
 use Rattle.dali_link_commands.specs.FollowAnswers.{TellsFollowed}
 use Rattle.dali_link_commands.specs.Told.{error_line}
 
--- a refused line shows in the status, whatever was done, and nothing more is told
+-- a refused line shows in the status, whatever was done, and nothing more is reported
 pub refused_line_refuses : TellsFollowed false true Nothing outcomes.DoneNow Refused (Some []) (Some [])
 refused_line_refuses = (refl, refl)
 
@@ -19,7 +19,7 @@ refused_line_is_no_good_end told = cc
 pub refused_lines_are_no_empty_stream : TellsFollowed false true Done outcomes.Nothing Refused (Some []) (Some [])
 refused_lines_are_no_empty_stream = (refl, refl)
 
--- an order that isn't done only where that is asked for
+-- an order that isn't done shows only if that is asked for
 pub undone_refuses_where_it_is_asked :
     TellsFollowed false false Done outcomes.NotDone Refused (Some []) (Some [])
     × TellsFollowed false false Nothing outcomes.NotDone Good (Some []) (Some [])
@@ -28,7 +28,7 @@ undone_refuses_where_it_is_asked = ((refl, refl), (refl, refl))
 pub all_well : TellsFollowed false false Done outcomes.Done Good (Some []) (Some [])
 all_well = (refl, refl)
 
--- a source that has failed is told, and no good end, whatever came before
+-- a source that has failed is reported, and is no good end, whatever came before
 pub failed_source_told :
     TellsFollowed true false Done outcomes.Done Failed (Some [])
     (Some (error_line (codes "x") ++ told_line (Input File)))
@@ -37,7 +37,7 @@ failed_source_told = λ written. (refl, (codes "x", omega arith, refl))
 pub failed_source_is_no_good_end : TellsFollowed true false Nothing outcomes.Done Good (Some []) (Some []) → ⊥
 failed_source_is_no_good_end told = cc ((told (λ is. cc)).0)
 
--- and of one that hasn't, nothing is told
+-- and of one that hasn't failed, nothing is reported
 pub nothing_told_of_a_good_source :
     TellsFollowed false false Done outcomes.Done Good (Some []) (Some (codes "fault 21 File\n")) → ⊥
 nothing_told_of_a_good_source told = cc

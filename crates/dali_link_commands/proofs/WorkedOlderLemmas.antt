@@ -1,4 +1,4 @@
--- Two journals that are one, in the order in which they are named, and what is near that and is not so.
+-- Two journals that are one, in the order in which they are named, and near misses.
 use Rattle.std.proofs.Common.{◌≡◌, ◌+◌, refl, ℕ, Bool, length, Option, List, [], ◌∷◌, ◌++◌, Some, None, inl, inr, true, false}
 use Rattle.std.proofs.Common.{arith}
 use Rattle.std.specs.Borrow.{Bor}
@@ -46,7 +46,7 @@ not_the_last_alone one = let same = one.0 in cc
 pub not_the_first_alone : AreOne (first ∷ second ∷ []) (Some first) → ⊥
 not_the_first_alone one = let same = one.0 in cc
 
--- none just where there are none
+-- none if and only if there are none
 pub none_of_no_journals : AreOne [] None
 none_of_no_journals = refl
 
@@ -66,7 +66,8 @@ no_file_without_a_journal known never = never
 pub no_journal_without_a_file : (own : JournalState) → AreReadAtRest [] (own ∷ []) → ⊥
 no_journal_without_a_file own never = never
 
--- What is known of two files is that of their journals, in the order of their names: the first named is the oldest.
+-- The known contents of two files are those of their journals, in the order of their names: the first named is the
+-- oldest.
 module _ (one other : List ℕ) (version : Version) (loaded : IsJournalIn one first (length one) version)
     (other_loaded : IsJournalIn other second (length other) version) where
   of_first : IsReadAtRest (Some one) first
@@ -82,8 +83,8 @@ module _ (one other : List ℕ) (version : Version) (loaded : IsJournalIn one fi
 pub other_bytes_arent_read : (own : JournalState) (read : IsReadAtRest (Some (0x44 ∷ [])) own) → read.bytes ≡ [] → ⊥
 other_bytes_arent_read own read none = let shown = read.shown in cc
 
--- Where each of two files has at most the journal of these bytes, it is no one else's: the last alone, the first twice
--- and the first alone are no journal of both.
+-- If each of two files has at most the journal of these bytes, it is no one else's: the last alone, the first twice and
+-- the first alone are no journal of both.
 module _ (one other : List ℕ)
     (is_first : (own : JournalState) → IsReadAtRest (Some one) own → own.records ≡ first.records)
     (is_second : (own : JournalState) → IsReadAtRest (Some other) own → own.records ≡ second.records) where
@@ -111,11 +112,11 @@ module _ (one other : List ℕ)
       (Some (journal_of (first.records ++ second.records))) → ⊥
   turned_round_isnt_both joined = let same = records_of_both (journal_of (first.records ++ second.records)) joined in cc
 
--- what is known goes by the names, in their order
+-- what is known follows the order of the names
 pub known_by_name : (one other : Bor (List ℕ)) → held_under Some (one ∷ other ∷ []) ≡ Some one.now ∷ Some other.now ∷ []
 known_by_name one other = refl
 
--- A second journal that has the number of the first can't be used, whatever stands behind it, which isn't read.
+-- If the second journal has the number of the first, it can't be used, whatever follows it; that isn't read.
 pub number_of_the_first : (one other later : List ℕ) (counted : ℕ) (version : Version)
     → IsReadAtRest (Some one) first → IsJournalIn other first counted version
     → IsOneUnusable (Some one ∷ Some other ∷ Some later ∷ []) (Join (Repeated 1))
@@ -139,7 +140,7 @@ pub no_number_that_the_first_lacks : (known : Option (List ℕ)) (failed failed_
     → IsUnusable (Some first) known failed failed_now (Join (Repeated 2)) → ⊥
 no_number_that_the_first_lacks known failed failed_now unusable = grind arith
 
--- a call that has failed is told as that, where the store knows that it has
+-- a call that has failed is reported as that, if the store knows that it has
 pub failed_to_read : (known : Option (List ℕ)) → IsUnusable (Some first) known false true (Unloaded (Input File))
 failed_to_read known = inl (File, refl, refl)
 
@@ -148,7 +149,7 @@ not_failed_to_read known (inl (File, is, failed)) = cc
 not_failed_to_read known (inl (_, is, failed)) = cc
 not_failed_to_read known (inr (bytes, shown, never)) = never
 
--- more than a journal may have is told of what has more
+-- too big is reported of a store that has more than a journal may have
 pub too_big_to_read : IsUnusable None None false false (Unloaded (Input TooBig))
 too_big_to_read = inl (TooBig, refl, (tt, refl))
 
@@ -170,7 +171,7 @@ json_is_no_older_fault knowns (inr one) = so one.unusable where
   so (inl (_, is, never)) = cc
   so (inr (bytes, shown, never)) = never
 
--- a journal whose end is cut can't be used, and a whole one isn't told as cut
+-- a journal whose end is cut can't be used, and a whole one isn't reported as cut
 pub cut_is_unusable : (older : Option JournalState) (bytes : List ℕ) (has : HasJournal bytes)
     → has.counted + 1 ≡ length bytes → IsOlderFault older bytes Cut
 cut_is_unusable older bytes has cut = (has, λ same. omega (arith, same, cut))
@@ -182,7 +183,7 @@ whole_is_not_cut older bytes whole (has, cut) = cut (whole has)
 pub cut_is_told_as_older : fault_older Cut ≡ Older
 cut_is_told_as_older = refl
 
--- how two journals that are none together are told
+-- how it is reported that two journals can't be joined
 pub common_number_is_told_as_older : (id : ℕ) → fault_unjoined (Repeated id) ≡ Older
 common_number_is_told_as_older id = refl
 

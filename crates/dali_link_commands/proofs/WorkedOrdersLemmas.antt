@@ -1,4 +1,4 @@
--- Orders that aren't driven, by hand: refused items, and inputs that are none; and what is near that and is not so.
+-- Orders that aren't driven, by hand: refused items, and inputs that are none; and near misses.
 use Rattle.std.proofs.Common.{◌≡◌, refl, subst, inl, inr, ℕ, List, [], ◌∷◌, Some, false, arith}
 use Rattle.dali_input.specs.declared.fault.InputFault.{InputFault}
 use Rattle.dali_input.specs.declared.fault.InputFault.TheVariants.{Memory, File, TooBig, Json}
@@ -21,7 +21,7 @@ use Rattle.dali_link_commands.proofs.WorkedBenchLemmas.{kept_is_driven, sent_is_
 abbrev two_refused : List (ℕ × ItemFault)
 two_refused = (1, Shape) ∷ (3, Key) ∷ []
 
--- the lines of all of them are told
+-- the lines of all of them are printed
 pub both_told : (input : List ℕ) → AreRefusedIn input two_refused
     → EndsRefused input before Refused (with_lines before (Some (refused_lines two_refused)) false)
 both_told input are =

@@ -1,4 +1,4 @@
--- What is left where a unit was read into a file, and what is near that.
+-- The state after a unit was read into a file, and near misses of that.
 use Rattle.std.proofs.Common.{◌≡◌, ◌≢◌, ◌∙◌, inl, inr, true, false, ℕ, List, [], ◌∷◌, Some}
 use Rattle.dali_input.specs.BankText.{rows_text}
 use Rattle.dali_drive.specs.Desks.{Look}
@@ -21,7 +21,7 @@ module _ (unit : ℕ) (first : Look) (status : Status) (last : Look) (other : Li
       → other ≢ rows_text e.bytes → ⊥
   read_and_another_left e never differs = elim e.leaves [ inl left ↦ never left | inr is ↦ differs is ]
 
-  -- and then just that
+  -- and then exactly that
   pub read_and_unsettled : EndsRead unit Leaves first status last → last.streams.journal ≡ Some (1 ∷ [])
       → last.may_leave [] → ⊥
   read_and_unsettled e shows less = emptied_unsettled _ _ shows less e.settled
@@ -37,7 +37,7 @@ module _ (unit : ℕ) (first : Look) (status : Status) (last : Look) (other : Li
   pub silent_and_left : EndsSilent unit Leaves first status last → (first.may_leave other → ⊥) → ⊥
   silent_and_left e never = never e.leaves
 
-  -- 21 File comes only where the store has failed; it holds what it held, or the text
+  -- 21 File comes only if the store has failed; it holds what it held, or the text
   pub unkept_where_no_store_failed : EndsUnkept unit Leaves first status last → last.failed.journal ≡ false → ⊥
   unkept_where_no_store_failed e unfailed = cc
 

@@ -8,7 +8,7 @@ use Rattle.dali_faults.specs.declared.fault.Status.{Status}
 use Rattle.dali_faults.specs.declared.fault.Status.TheVariants.{Good, Failed}
 use Rattle.dali_link_commands.specs.LinkCommands.{EndsReported, IsReported}
 
--- no end is good where a report is lost
+-- no end is good if a report is lost
 no_good_end : (lost : Bool) (ended : Status) (before after : Option (List ℕ)) → lost ≡ true
     → EndsReported lost ended Good before after → ⊥
 no_good_end lost ended before after is ends = let told = rw is at ends in grind arith

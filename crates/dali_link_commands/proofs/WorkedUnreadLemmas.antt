@@ -1,5 +1,5 @@
--- What is left where a drive isn't begun, since its journal isn't opened or an older one can't be used, and what is
--- near that.
+-- The state if a drive isn't begun, since its journal isn't opened or an older one can't be used, and near misses of
+-- that.
 use Rattle.std.proofs.Common.{◌≡◌, ℕ, List, [], ◌∷◌, Option, Some, codes}
 use Rattle.dali_journal.specs.JournalState.{JournalState}
 use Rattle.dali_drive.specs.declared.following.Given.{Given}
@@ -26,7 +26,7 @@ module _ {N : Type 0} (knowns : List (Option (List ℕ))) (before after : Report
       → last.streams.journal ≡ Some (1 ∷ []) → ⊥
   unread_and_kept (fault, may, undriven, told, same) none kept = let same = undriven.journal in cc
 
-  -- and the report was told nothing
+  -- and nothing was added to the report
   pub unread_and_reported : EndsUnread knowns before after first status last → (after ≡ before → ⊥) → ⊥
   unread_and_reported (fault, may, undriven, told, same) reported = reported same
 
@@ -35,7 +35,7 @@ module _ {G N : Type 0} (gave : G → G → List Given → Type 0) (contents : N
     (status : Status) (last : Look) where
   -- ---- the journal isn't opened
 
-  -- no order was taken, and the report was told nothing
+  -- no order was taken, and nothing was added to the report
   pub unopened_and_given : UnopenedBehind gave contents older pace before after orders left first status last
       → (left ≡ orders → ⊥) → ⊥
   unopened_and_given u given = given u.unread

@@ -14,7 +14,7 @@ use Rattle.dali_link_commands.specs.Told.{IsPlain, TellsWorded, error_line}
 pub ends_are_plain : IsPlain (codes " ~\\")
 ends_are_plain = omega arith
 
--- a line feed isn't plain, and neither is what stands beside the ends
+-- a line feed isn't plain, and neither are the characters next to the ends
 pub line_feed_is_not : IsPlain (codes "x\n{}") → ⊥
 line_feed_is_not (x, (feed, rest)) = omega (arith, feed.0)
 
@@ -24,7 +24,7 @@ below_is_not (one, none) = omega (arith, one.0)
 pub above_is_not : IsPlain (0x7F ∷ []) → ⊥
 above_is_not (one, none) = omega (arith, one.1)
 
--- no reply stands behind a line feed in the words
+-- no reply follows a line feed in the words
 forged : (words : List ℕ) → error_line (codes "x\n{}") ≡ error_line words → IsPlain words → ⊥
 forged words is plain =
     let same = append_cancel_right (codes "x\n{}") words (codes "\n") cc in line_feed_is_not (rw (← same) at plain)
@@ -34,7 +34,7 @@ pub no_reply_in_words :
 no_reply_in_words (words, plain, told) =
     forged words (append_cancel_right (error_line (codes "x\n{}")) (error_line words) _ told) plain
 
--- a report is lost where it was wanted and not opened, or has failed, and not where none was wanted
+-- a report is lost if it was wanted and not opened, or has failed, and not if none was wanted
 pub unopened_is_lost : {N : Type 0} (report : Report N) → is_lost true false report ≡ true
 unopened_is_lost report = refl
 
@@ -47,7 +47,7 @@ good_is_not_lost report unfailed = unfailed
 pub none_is_not_lost : {N : Type 0} (report : Report N) → is_lost false false report ≡ false
 none_is_not_lost report = refl
 
--- a lost one is told and no good end
+-- a lost one is reported and is no good end
 pub lost_is_told : EndsReported true Good Failed (Some []) (Some (error_line (codes "x")))
 lost_is_told = inr (refl, (codes "x", omega arith, refl))
 
@@ -58,7 +58,7 @@ pub lost_is_told_on_one_line : EndsReported true Good Failed (Some []) (Some (er
 lost_is_told_on_one_line (inl unwritten) = cc
 lost_is_told_on_one_line (inr (is, (words, plain, told))) = forged words told plain
 
--- with a good one, or none, the command ends as it did, and nothing is told
+-- with a good one, or none, the command ends as it did, and nothing is reported
 pub good_ends_as_it_did : EndsReported false Good Good (Some []) (Some [])
 good_ends_as_it_did = (refl, refl)
 

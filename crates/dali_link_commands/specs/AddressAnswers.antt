@@ -1,4 +1,4 @@
--- What `address` answers and writes.
+-- The answers of `address`, and what it writes.
 use Rattle.std.specs.Prelude.{◌≡◌, ◌⊎◌, ◌+◌, ◌&&◌, not, ℕ, Bool, true, false, List, [], ◌∷◌, Option, Some, None, ⊤}
 use Rattle.std.specs.Prelude.{length, nat_eq, if◌then◌else◌}
 use Rattle.std.specs.Borrow.{Bor}
@@ -42,8 +42,8 @@ use Rattle.dali_link_commands.specs.Told.{IsFaultTold, IsFileFaultTold, TellsLin
 abbrev pub asked_of : Bool → Bool → Bool → Asked
 asked_of all list count = if count then Count else Run (if list then tasks.List else if all then All else Give)
 
--- of what a person watches how far it is: how many units there are is known only where short addresses are named and
--- none is taken away before
+-- the kind of progress that is shown: the number of units is known only if short addresses are named and none is taken
+-- away before
 abbrev pub watched_asked : Asked → ℕ → Watched
 watched_asked (Run tasks.List) named = Watched.List
 watched_asked (Run tasks.Give) named = Watched.Address named
@@ -62,13 +62,13 @@ abbrev pub status_at_end : Bool → End → Status
 status_at_end may_be_good (Done summary) = if may_be_good && is_well summary then Good else Refused
 status_at_end may_be_good (Taken short) = Refused
 
--- units may be in the initialisation state where a fault broke a run off, and that can be told: a list brings none in
+-- units may be in the initialisation state if a fault broke a run off and that can be reported: a list brings none in
 abbrev pub is_left_open : Task → DriveFault → Bool
 is_left_open tasks.List fault = false
 is_left_open task Out = false
 is_left_open task fault = true
 
--- how it is told that a fault broke a run off: where units may be left open, that first
+-- how it is reported that a fault broke a run off: if units may be left open, that first
 abbrev pub TellsBreak : Bool → DriveFault → Status → Option (List ℕ) → Option (List ℕ) → Type 0
 TellsBreak true fault status before after =
     ((status ≡ Unwritten) × PutsFirst before after open_line)
@@ -104,7 +104,7 @@ may_be_good (Some census) = is_apart census
 -- A run that began where these streams were, of a command that began at the first look, after this census or none.
 module _ (task : Task) (counted : Option CensusEnd) (begun : Streams)
     (first : Look) (status : Status) (last : Look) where
-  -- the run came to its end, which was told
+  -- the run completed, which was reported
   pub record EndsRun : Type 0 where
     pub end : End
     pub lines : Option (List ℕ)
@@ -115,7 +115,7 @@ module _ (task : Task) (counted : Option CensusEnd) (begun : Streams)
     pub told : TellsLine (end_text (end_after counted end))
         (status_at_end (may_be_good counted) (end_after counted end)) status lines last.streams.out
 
-  -- the link or the output broke it off, which is told
+  -- the link or the output broke it off, which is reported
   pub record BreaksRun : Type 0 where
     pub fault : DriveFault
     pub lines : Option (List ℕ)
@@ -130,12 +130,12 @@ module _ (task : Task) (counted : Option CensusEnd) (begun : Streams)
 
 -- A census, and then a run that ends the initialisation state, in which it leaves the units.
 
--- so many silent asks are taken for the answer that no unit is left
+-- this many silent asks are taken to mean that no unit is left
 abbrev pub census_care : ℕ
 census_care = 4
 
 module _ (first : Look) (status : Status) (last : Look) where
-  -- the census came to its end, which was told, and then such a run was made
+  -- the census completed, which was reported, and then such a run was made
   pub record EndsCount : Type 0 where
     pub end : CensusEnd
     pub middle : Streams
@@ -143,7 +143,7 @@ module _ (first : Look) (status : Status) (last : Look) where
     pub told : Appends first.streams.out middle.out (count_text end)
     pub closed : IsRunAnswer tasks.Close (Some end) middle first status last
 
-  -- the census came to its end, which couldn't be told
+  -- the census completed, which couldn't be reported
   pub record CutsCount : Type 0 where
     pub end : CensusEnd
     pub counted : IsCounted census_care end (link_of first.streams) (link_of last.streams)
@@ -151,7 +151,7 @@ module _ (first : Look) (status : Status) (last : Look) where
     pub untouched : IsUntouched first last
     pub unwritten : status ≡ Unwritten
 
-  -- the link broke the census off, which is told
+  -- the link broke the census off, which is reported
   pub record BreaksCount : Type 0 where
     pub fault : DriveFault
     pub broke : CountingBroke fault (link_of first.streams) (link_of last.streams)
@@ -171,7 +171,7 @@ abbrev pub held_named : (List ℕ → Option (List ℕ)) → Option (Bor (List �
 held_named has None = []
 held_named has (Some name) = has name.now ∷ []
 
--- the journal can't be used, or isn't at rest, which is told, and nothing else was done
+-- the journal can't be used, or isn't at rest, which is reported, and nothing else was done
 abbrev pub EndsUnrun : List (Option (List ℕ)) → Look → Status → Look → Type 0
 EndsUnrun knowns first status last = (fault : OlderFault) × MayBeUnusable knowns fault × IsUndriven first last
     × IsFileFaultTold (fault_older fault) status first.streams.out last.streams.out
@@ -182,8 +182,7 @@ IsAddressAnswer has command first status last =
     IsBehindNamed (held_named has command.journal) (λ rests. IsAskedAnswer command.asked first status last)
     (EndsUnrun (held_named has command.journal) first status last)
 
--- What the program does over a link: what the command does. Its store is the command's; `address` has one without a
--- name.
+-- The program does over a link what the command does. Its store is the command's; `address` has one without a name.
 
 abbrev pub HasLinkedStore : {R : Type 0} → Linked → FileStore R → Type 0
 HasLinkedStore (Bank command) store = HasStore command store

@@ -1,4 +1,4 @@
--- The journal that is asked what it says of orders: that of a file, behind the older ones as a drive has it.
+-- The journal that is asked about orders: that of a file, after the older ones as in a drive.
 use Rattle.std.specs.Prelude.{◌≡◌, ◌⊎◌, ℕ, Bool, List, Option}
 use Rattle.dali_journal.specs.declared.version.Version.{Version}
 use Rattle.dali_journal.specs.JournalState.{JournalState}
@@ -13,7 +13,7 @@ use Rattle.dali_link_commands.specs.declared.asked.AskedFault.TheVariants.{Unloa
 use Rattle.dali_link_commands.specs.declared.older.OlderFault.TheVariants.{Join}
 use Rattle.dali_link_commands.specs.Older.{AreJoined, IsOlderFault, IsStoreFailure, fault_older}
 
--- the journal of these bytes, of which those count that are no cut record, behind the older one, where there is one
+-- the journal of these bytes, without a cut record at their end, after the older one, if there is one
 pub record IsAsked (older : Option JournalState) (bytes : List ℕ) (journal : JournalState) : Type 0 where
   pub own : JournalState
   pub counted : ℕ
@@ -21,16 +21,16 @@ pub record IsAsked (older : Option JournalState) (bytes : List ℕ) (journal : J
   pub loaded : IsJournalIn bytes own counted version
   pub whole : IsWhole older own.limit own journal
 
--- the bytes that are known of a store are those of a journal that stands so behind the older one
+-- the bytes that are known of a store are those of such a journal after the older one
 abbrev pub IsReadAsked : Option JournalState → Option (List ℕ) → JournalState → Type 0
 IsReadAsked older known journal = (bytes : List ℕ) × Shows known bytes × IsAsked older bytes journal
 
--- the fault that is told
+-- the fault that is reported
 abbrev pub fault_asked : AskedFault → Fault
 fault_asked (Unloaded fault) = fault
 fault_asked (Unjoined fault) = fault_older (Join fault)
 
--- why a store can't be asked: it gave no bytes, or they are no journal's, or none behind the older one
+-- why a store can't be asked: it gave no bytes, or they are no journal's, or none that can follow the older one
 abbrev pub IsUnasked : Option JournalState → Option (List ℕ) → Bool → Bool → AskedFault → Type 0
 IsUnasked older known failed failed_now (Unloaded fault) =
     ((failure : InputFault) × (fault ≡ Input failure) × IsStoreFailure known failed failed_now failure)
@@ -38,7 +38,7 @@ IsUnasked older known failed failed_now (Unloaded fault) =
 IsUnasked older known failed failed_now (Unjoined fault) =
     (bytes : List ℕ) × Shows known bytes × IsOlderFault older bytes (Join fault)
 
--- the same behind older ones, of which this is known in the order of their names
+-- the same after older ones, of which this is known in the order of their names
 abbrev pub IsAskedAmong : Option (List ℕ) → List (Option (List ℕ)) → JournalState → Type 0
 IsAskedAmong known knowns journal =
     (older : Option JournalState) × AreJoined knowns older × IsReadAsked older known journal

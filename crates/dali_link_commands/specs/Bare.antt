@@ -1,4 +1,4 @@
--- What has to be so at the end of a drive, and how it is told that nothing was done.
+-- The requirements at the end of a drive, and how it is reported that nothing was done.
 use Rattle.std.specs.Prelude.{◌≡◌, Bool, true, false, ℕ, List, [], ◌∷◌, Option, codes, if◌then◌else◌}
 use Rattle.dali_report.specs.declared.outcome.Outcome.{Outcome}
 use Rattle.dali_report.specs.declared.outcome.Outcome.TheVariants as outcomes
@@ -12,7 +12,7 @@ use Rattle.dali_link_commands.specs.Told.{TellsLine, error_line}
 abbrev pub required_by : Bool → Bool → Required
 required_by done now = if now then DoneNow else if done then Done else Nothing
 
--- whether all last replies came to what is required
+-- whether all last replies are as required
 abbrev pub is_met : Required → Outcome → Bool
 is_met Nothing outcome = true
 is_met Done outcomes.Nothing = false
@@ -24,7 +24,7 @@ is_met DoneNow outcomes.DoneNow = true
 is_met DoneNow outcomes.Done = false
 is_met DoneNow outcomes.NotDone = false
 
--- how a drive ends that came to its end
+-- how a completed drive ends
 abbrev pub ended_status : Required → Outcome → Status
 ended_status required outcome = if is_met required outcome then Good else Refused
 
@@ -37,12 +37,12 @@ is_bare required other = false
 abbrev pub nothing_line : List ℕ
 nothing_line = error_line (codes "nothing was done: ORDERS has no orders")
 
--- that nothing was done is told, and refused; else it ends as it did, and nothing is told
+-- that nothing was done is reported, and refused; else it ends as it did, and nothing is reported
 abbrev pub TellsBare : Bool → Status → Status → Option (List ℕ) → Option (List ℕ) → Type 0
 TellsBare true ended status before after = TellsLine nothing_line Refused status before after
 TellsBare false ended status before after = (status ≡ ended) × (after ≡ before)
 
--- how a drive ends and what is told then
+-- how a drive ends, and the report of that
 abbrev pub TellsEnded : Required → Outcome → Status → Option (List ℕ) → Option (List ℕ) → Type 0
 TellsEnded required outcome status before after =
     TellsBare (is_bare required outcome) (ended_status required outcome) status before after

@@ -1,4 +1,5 @@
--- What `drive` answers and writes behind older journals: of its journal, and of what was followed over its streams.
+-- The answers of `drive` with older journals, and what it writes: of its journal, and of what was followed over its
+-- streams.
 use Rattle.std.specs.Prelude.{◌≡◌, ◌≢◌, ◌⊎◌, ◌++◌, ℕ, Bool, List, [], ◌∷◌, Option}
 use Rattle.dali_bank.specs.Order.{Contents}
 use Rattle.dali_journal.specs.declared.behind.JoinFault.{JoinFault}
@@ -45,7 +46,7 @@ use Rattle.dali_write.specs.declared.pace.Pace.{Pace}
 abbrev pub fault_unjoined : JoinFault → Fault
 fault_unjoined fault = fault_older (Join fault)
 
--- how it is told, behind what the lines held, that not all was followed
+-- how it is reported, after what the lines held, that not all was followed
 abbrev pub IsBreakTold : BehindFault → Status → Option (List ℕ) → Option (List ℕ) → Type 0
 IsBreakTold (behind.Open fault) status before after = IsFileFaultTold (fault_unopened fault) status before after
 IsBreakTold (behind.Join fault) status before after = IsFileFaultTold (fault_unjoined fault) status before after
@@ -53,8 +54,8 @@ IsBreakTold (behind.Drive fault) status before after = IsFaultTold fault status 
 
 module _ {G N : Type 0} (gave : G → G → List Given → Type 0) (over : G → Type 0) (contents : N → Option (List ℕ))
     (older : Option JournalState) (pace : Pace) (before after : Report N) (orders left : G) (first last : Look) where
-  -- just what was given was followed, up to where no more came, nothing more is to be done, and the report has it all;
-  -- no stream has failed, and a stop leaves what the journal shows
+  -- exactly what was given was followed, up to where no more came, nothing more is to be done, and the report has it
+  -- all; no stream has failed, and a stop leaves what the journal shows
   pub record FollowsBehind : Type 0 where
     pub writer : WriterState
     pub followed : IsFollowBehind gave over (IsTold contents) older order_limit journal_limit pace orders
@@ -65,11 +66,11 @@ module _ {G N : Type 0} (gave : G → G → List Given → Type 0) (over : G →
 module _ {G N : Type 0} (gave : G → G → List Given → Type 0) (contents : N → Option (List ℕ))
     (older : Option JournalState) (pace : Pace) (before after : Report N) (orders left : G) (first : Look)
     (status : Status) (last : Look) where
-  -- What is told of a fault goes behind what the lines held then, 'replies', where they hadn't failed unless that was
-  -- the fault, 'lost'.
+  -- The lines of a fault follow what the output held then, 'replies'. It hadn't failed, unless that was the fault,
+  -- 'lost'.
 
-  -- the journal wasn't opened, since its store failed or its bytes are none, which was told; nothing was taken of the
-  -- orders
+  -- the journal wasn't opened, since its store failed or its bytes are none, which was reported; nothing was taken of
+  -- the orders
   pub record UnopenedBehind : Type 0 where
     pub fault : OpenFault
     pub replies : Option (List ℕ)
@@ -81,7 +82,7 @@ module _ {G N : Type 0} (gave : G → G → List Given → Type 0) (contents : N
     pub unread : left ≡ orders
     pub unreported : after ≡ before
 
-  -- it was opened, and is none with the older one, which was told
+  -- it was opened, and can't be joined to the older one, which was reported
   pub record UnjoinedBehind : Type 0 where
     pub fault : JoinFault
     pub replies : Option (List ℕ)
@@ -91,8 +92,8 @@ module _ {G N : Type 0} (gave : G → G → List Given → Type 0) (contents : N
     pub unfailed : IsUnfailed (with_lines last replies lost).failed
     pub told : IsFileFaultTold (fault_unjoined fault) status replies last.streams.out
 
-  -- it broke off behind what had been given so far, since a stream failed or gave no answer, which was told; the report
-  -- has what there was, and a stop leaves all that was kept before the step that was broken off
+  -- it broke off after what had been given so far, since a stream failed or gave no answer, which was reported; the
+  -- report has what there was, and a stop leaves all that was kept before the step that was broken off
   pub record BrokenBehind : Type 0 where
     pub fault : DriveFault
     pub replies : Option (List ℕ)
@@ -110,7 +111,7 @@ module _ {R N : Type 0} (rest : R → Option (List ℕ)) (failed : R → Bool) (
     (older : Option JournalState) (pace : Pace) (required : Required) (before after : Report N)
     (orders left : OrderLines R)
     (first : Look) (status : Status) (last : Look) where
-  -- what the lines of a stream gave was followed, and a failure of their source is told
+  -- all that the lines of a stream gave was followed, and a failure of their source is reported
   pub record EndsLinesBehind : Type 0 where
     pub replies : Option (List ℕ)
     pub lost : Bool
@@ -128,8 +129,8 @@ module _ {R N : Type 0} (rest : R → Option (List ℕ)) (failed : R → Bool) (
 module _ {N : Type 0} (older : Option JournalState) (contents : N → Option (List ℕ)) (moment : ℕ)
     (pace : Pace) (required : Required) (before after : Report N) (orders : List Contents) (first : Look)
     (status : Status) (last : Look) where
-  -- all the orders of a list were asked at this moment, nothing more is to be done, and the report has all of it; what
-  -- is told then goes behind what the lines held, which hadn't failed
+  -- all the orders of a list were asked at this moment, nothing more is to be done, and the report has all of it; the
+  -- lines written then follow what the output held, which hadn't failed
   pub record EndsListBehind : Type 0 where
     pub writer : WriterState
     pub replies : Option (List ℕ)
@@ -141,7 +142,7 @@ module _ {N : Type 0} (older : Option JournalState) (contents : N → Option (Li
     pub told : TellsEnded required (outcome_of (start_by pace driven.behind.journal) driven.observed.drive.past)
         status replies last.streams.out
 
-  -- what is answered of a list of orders, behind an older journal where there is one
+  -- the answer to a list of orders, with an older journal if there is one
   abbrev pub IsAnswerBehind : Type 0
   IsAnswerBehind =
       EndsListBehind
@@ -152,7 +153,7 @@ module _ {N : Type 0} (older : Option JournalState) (contents : N → Option (Li
 abbrev pub IsUnopened : OlderFault → Type 0
 IsUnopened fault = (failure : InputFault) × (fault ≡ Unloaded (Input failure)) × IsUnread failure
 
--- One of the known ones can't be used behind those before it, which are one. Whether a file failed isn't known.
+-- One of the known ones can't be used after those before it, which are one. Whether a file failed isn't known.
 pub record IsOneUnusable (knowns : List (Option (List ℕ))) (fault : OlderFault) : Type 0 where
   pub earlier : List (Option (List ℕ))
   pub known : Option (List ℕ)
@@ -168,13 +169,13 @@ pub record IsOneUnusable (knowns : List (Option (List ℕ))) (fault : OlderFault
 abbrev pub MayBeUnusable : List (Option (List ℕ)) → OlderFault → Type 0
 MayBeUnusable knowns fault = IsUnopened fault ⊎ IsOneUnusable knowns fault
 
--- what is answered where older journals are read, of whose files this is known, in the order of their names: behind the
--- one that they are, or that one can't be used; where there are none, behind none
+-- the answer if older journals are read, of whose files this is known, in the order of their names: after the one that
+-- they make, or that one can't be used; if there are none, without an older one
 abbrev pub IsBehindNamed : List (Option (List ℕ)) → (Option JournalState → Type 0) → Type 0 → Type 0
 IsBehindNamed knowns answers refused =
     ((older : Option JournalState) × AreJoined knowns older × answers older) ⊎ ((knowns ≢ []) × refused)
 
--- an older journal can't be used, which is told, and nothing else was done
+-- an older journal can't be used, which is reported, and nothing else was done
 abbrev pub EndsUnread : {N : Type 0} → List (Option (List ℕ)) → Report N → Report N → Look → Status → Look → Type 0
 EndsUnread knowns before after first status last =
     (fault : OlderFault) × MayBeUnusable knowns fault × IsUndriven first last

@@ -1,4 +1,4 @@
--- What there is of the desk at which a command works.
+-- The parts of the desk at which a command works.
 use Rattle.std.specs.Prelude.{◌≡◌, ◌↔◌, ℕ, Bool, true, List, Option, None, ⊤}
 use Rattle.dali_drive.specs.declared.std_streams.StdSink.{StdSink}
 use Rattle.dali_drive.specs.declared.std_streams.StdSource.{StdSource}

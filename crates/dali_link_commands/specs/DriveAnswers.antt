@@ -1,4 +1,4 @@
--- What `drive` tells of a journal that isn't opened.
+-- The fault that `drive` reports if its journal isn't opened.
 use Rattle.dali_journal.specs.declared.fault.JournalFault.TheVariants as journals
 use Rattle.dali_input.specs.declared.fault.InputFault.TheVariants.{Memory, File, TooBig}
 use Rattle.dali_store.specs.declared.opening.OpenFault.{OpenFault}

@@ -1,5 +1,5 @@
--- What `drive --follow` answers and writes of orders that come line by line: of its journal, and of what was followed
--- over its streams.
+-- The answers of `drive --follow`, and what it writes, for orders that come line by line: of its journal, and of what
+-- was followed over its streams.
 use Rattle.std.specs.Prelude.{◌≡◌, ℕ, Bool, true, false, List, Option}
 use Rattle.dali_follow.specs.declared.order_lines.OrderLines.{OrderLines}
 use Rattle.dali_follow.specs.Gave.{state_of}
@@ -12,14 +12,14 @@ use Rattle.dali_link_commands.specs.declared.required.Required.{Required}
 use Rattle.dali_link_commands.specs.Bare.{TellsEnded}
 use Rattle.dali_link_commands.specs.Told.{IsFileFaultTold}
 
--- How a stream ends that was followed to its end, and what is told then: that the source has failed, where it has;
--- else it is refused where a line was, of which that was told, and ends as a drive where none was.
+-- How a stream ends that was followed to its end, and what is reported then: if the source has failed, that; else, if a
+-- line was refused, which was reported, it is refused; else it ends as a drive.
 abbrev pub TellsFollowed : Bool → Bool → Required → Outcome → Status → Option (List ℕ) → Option (List ℕ) → Type 0
 TellsFollowed true has_refused required outcome status before after = IsFileFaultTold (Input File) status before after
 TellsFollowed false true required outcome status before after = (status ≡ Refused) × (after ≡ before)
 TellsFollowed false false required outcome status before after = TellsEnded required outcome status before after
 
--- no line was read of them, nor told that they are, this is the moment of an order that brings none, and their source
+-- no line was read of them, nor reported as refused, this is the moment of an order that brings none, and their source
 -- hasn't failed
 pub record AreUnread {R : Type 0} (failed : R → Bool) (moment : ℕ) (orders : OrderLines R) : Type 0 where
   pub moment_is : (state_of orders).moment ≡ moment

@@ -1,4 +1,4 @@
--- What a command over a link does: each as its own definition says.
+-- The effect of each command over a link, as its own definition says.
 use Rattle.std.specs.Prelude.{◌≡◌, ◌≤◌, ◌⊎◌, ◌&&◌, ◌||◌, not, ℕ, Bool, true, false, is_some, length, List, [], Option, None, ⊤}
 use Rattle.std.specs.Io.KnownBytes.{Appends}
 use Rattle.std.specs.List.{AllByRecursion}
@@ -29,14 +29,14 @@ IsShort (Read unit bank) = unit ≤ 63
 IsShort (Scan addresses sought) = AllByRecursion (λ address. address ≤ 63) addresses.now
 IsShort other = ⊤
 
--- the store is in the file that it writes: its journal, which may have to be there, or the text of a bank; one
--- without a name where it writes none
+-- the store is in the file that it writes: its journal, which may have to be there, or the text of a bank; one without
+-- a name if it writes none
 abbrev pub HasStore : {R : Type 0} → LinkCommand → FileStore R → Type 0
 HasStore (Drive task) store = IsIn true (not task.require_journal) task.journal.now store
 HasStore (Read unit bank) store = IsIn false true bank.now store
 HasStore other store = IsIn false true [] store
 
--- of what a person watches how far it is
+-- the kind of progress that is shown
 abbrev pub watched_of : LinkCommand → Watched
 watched_of (Drive task) = Watched.Drive task.pace
 watched_of (Read unit bank) = Watched.Read
@@ -47,8 +47,8 @@ watched_of (Scan addresses sought) = Watched.Scan (length (asked_addresses addre
 abbrev pub is_lost : {N : Type 0} → Bool → Bool → Report N → Bool
 is_lost wanted opened report = wanted && (not opened || has_failed report)
 
--- a command that ended so far ends so: as it did; where its report is lost, it tells that in plain words behind all
--- else, if the output hasn't failed
+-- how a command ends that has ended so far: as it did; if its report is lost, it says that in plain words after all
+-- else, unless the output has failed
 abbrev pub EndsReported : Bool → Status → Status → Option (List ℕ) → Option (List ℕ) → Type 0
 EndsReported true ended status before after = (status ≡ Unwritten)
     ⊎ ((status ≡ Failed) × ((words : List ℕ) × IsPlain words × Appends before after (error_line words)))
@@ -61,8 +61,8 @@ file_contents file = None
 abbrev pub report_contents : ReportOutput → Option (List ℕ)
 report_contents output = None
 
--- a command with a report, which is opened before all else where it is wanted: it hasn't failed then, and has an output
--- just where it was opened
+-- a command with a report, which is opened before all else if it is wanted: it hasn't failed then, and has an output if
+-- and only if it was opened
 pub record IsReported (wanted : Bool)
     (answers : Report ReportOutput → Report ReportOutput → Look → Status → Look → Type 0) (first : Look)
     (status : Status) (last : Look) : Type 0 where
@@ -76,7 +76,7 @@ pub record IsReported (wanted : Bool)
   pub answered : answers before after first ended (with_lines last lines failed)
   pub reported : EndsReported (is_lost wanted (has_output before) after) ended status lines last.streams.out
 
--- a drive of a task behind an older journal or none: of orders that come line by line, or of all those of a file
+-- a drive of a task, with an older journal or none: of orders that come line by line, or of all those of a file
 abbrev pub Drives : {N : Type 0} → Bool → DriveTask → (N → Option (List ℕ)) → Option JournalState → Report N → Report N
     → Look → Status → Look → Type 0
 Drives true task contents older before after first status last =
@@ -85,8 +85,8 @@ Drives false task contents older before after first status last =
     IsFileAnswer (IsAnswerBehind older contents task.moment task.pace task.required before after) (after ≡ before)
     first status last
 
--- each command does what its own function promises, where this is known of the files of older journals, by their names;
--- of what a stop may leave of the file of a bank nothing is known
+-- each command does what its own function promises, if this is known of the files of older journals, by their names;
+-- nothing is known of what a stop may leave of the file of a bank
 abbrev pub IsLinkAnswer : (List ℕ → Option (List ℕ)) → LinkCommand → Look → Status → Look → Type 0
 IsLinkAnswer has (Drive task) first status last =
     IsReported (is_some task.report) (λ before after begun ended behind.

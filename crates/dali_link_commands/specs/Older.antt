@@ -19,7 +19,7 @@ use Rattle.dali_link_commands.specs.declared.older.OlderFault.{OlderFault}
 use Rattle.dali_link_commands.specs.declared.older.OlderFault.TheVariants.{Unloaded, Cut, AtWork, Join}
 use Rattle.dali_faults.specs.JournalInput.{IsJournalIn, IsUnloaded, journal_limit}
 
--- the fault that is told
+-- the fault that is reported
 abbrev pub fault_older : OlderFault → Fault
 fault_older (Unloaded (faults.Input Memory)) = faults.Input Memory
 fault_older (Unloaded (faults.Input File)) = faults.Input File
@@ -30,12 +30,12 @@ fault_older AtWork = faults.Older
 fault_older (Join NoMemory) = faults.Input Memory
 fault_older (Join other) = faults.Older
 
--- the records of the older journal, none where there is none
+-- the records of the older journal, none if there is none
 abbrev pub records_in : Option JournalState → List Record
 records_in None = []
 records_in (Some older) = older.records
 
--- the journal of these bytes, all of which count, which is at rest, behind the older one: the records of both, at rest
+-- the journal of these bytes, all of which count, which is at rest, after the older one: the records of both, at rest
 -- too
 pub record IsJoinedBehind (older : Option JournalState) (bytes : List ℕ) (journal : JournalState) : Type 0 where
   pub own : JournalState
@@ -60,7 +60,7 @@ IsOlderFault older bytes AtWork = (has : HasJournal bytes) × (standing_of has.o
 IsOlderFault older bytes (Join fault) =
     (has : HasJournal bytes) × IsJoinFault fault has.own.records (records_in older)
 
--- the bytes that are known of a store are a journal's, which is at rest, and stands so behind the older one
+-- the bytes that are known of a store are those of a journal that is at rest, and is joined so after the older one
 abbrev pub IsReadBehind : Option JournalState → Option (List ℕ) → JournalState → Type 0
 IsReadBehind older known journal = (bytes : List ℕ) × Shows known bytes × IsJoinedBehind older bytes journal
 
@@ -72,7 +72,7 @@ IsStoreFailure known failed failed_now Memory = failed_now ≡ failed
 IsStoreFailure known failed failed_now File = failed_now ≡ true
 IsStoreFailure known failed failed_now other = ⊥
 
--- why a store can't be used behind the older one: it gave no bytes, or they can't be used so
+-- why a store can't be used after the older one: it gave no bytes, or they can't be used so
 abbrev pub IsUnusable : Option JournalState → Option (List ℕ) → Bool → Bool → OlderFault → Type 0
 IsUnusable older known failed failed_now fault =
     ((failure : InputFault) × (fault ≡ Unloaded (faults.Input failure))
@@ -98,7 +98,7 @@ abbrev pub records_named : List JournalState → List Record
 records_named [] = []
 records_named (oldest ∷ newer) = records_named newer ++ oldest.records
 
--- the one journal that they are, with the records of all, and at rest; none just where there are none
+-- the one journal that they are, with the records of all, and at rest; none if and only if there are none
 abbrev pub AreOne : List JournalState → Option JournalState → Type 0
 AreOne [] whole = whole ≡ None
 AreOne (oldest ∷ newer) whole = IsSomeAnd whole
@@ -111,7 +111,7 @@ pub record AreJoined (knowns : List (Option (List ℕ))) (whole : Option Journal
   pub are_one : AreOne owns whole
 
 -- The first of the stores that can't be used, counted from 0. Those before it are read, and their journals are one.
--- Those behind it are left alone.
+-- Those after it are left alone.
 pub record IsFirstUnusable {S : Type 0} (seen : S → Option (List ℕ)) (failed : S → Bool) (befores afters : List S)
     (index : ℕ) (fault : OlderFault) : Type 0 where
   pub earlier : List S
@@ -128,6 +128,6 @@ pub record IsFirstUnusable {S : Type 0} (seen : S → Option (List ℕ)) (failed
 
 -- Of files by their names
 
--- what the files of these names have, where that is known
+-- what the files of these names have, if that is known
 abbrev pub held_under : (List ℕ → Option (List ℕ)) → List (Bor (List ℕ)) → List (Option (List ℕ))
 held_under has names = map (λ (name : Bor (List ℕ)). has name.now) names

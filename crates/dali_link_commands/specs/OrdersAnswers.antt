@@ -1,5 +1,5 @@
--- What a command answers and writes that has a list of orders and streams, whatever it does with the orders: 'answers'
--- says that of the orders that were read, and 'unreported' that nothing was reported.
+-- The answers of a command that has a list of orders and streams, and what it writes, whatever it does with the orders:
+-- 'answers' says that of the orders that were read, and 'unreported' that nothing was reported.
 use Rattle.std.specs.Prelude.{◌≡◌, ◌≢◌, ◌⊎◌, ℕ, List}
 use Rattle.std.specs.Io.KnownBytes.{Appends}
 use Rattle.dali_bank.specs.Order.{Contents}
@@ -15,7 +15,7 @@ use Rattle.dali_faults.specs.declared.fault.Status.TheVariants.{Refused, Unwritt
 use Rattle.dali_link_commands.specs.Benches.{IsUndriven}
 use Rattle.dali_link_commands.specs.Told.{refused_lines, IsFileFaultTold}
 
--- items are refused, and all these are told
+-- items are refused, and all these are printed
 pub record EndsRefused (input : List ℕ) (first : Look) (status : Status) (last : Look) : Type 0 where
   pub refused : List (ℕ × ItemFault)
   pub are_refused : AreRefusedIn input refused
@@ -23,7 +23,7 @@ pub record EndsRefused (input : List ℕ) (first : Look) (status : Status) (last
   pub told : status ≢ Unwritten
       → (status ≡ Refused) × Appends first.streams.out last.streams.out (refused_lines refused)
 
--- the fault is told of an input that isn't driven
+-- the fault of an input that isn't driven is reported
 pub record EndsUndriven (fault : InputFault) (first : Look) (status : Status) (last : Look) : Type 0 where
   pub undriven : IsUndriven first last
   pub told : IsFileFaultTold (Input fault) status first.streams.out last.streams.out

@@ -1,4 +1,4 @@
--- What `read`, `verify` and `scan` answer and write.
+-- The answers of `read`, `verify` and `scan`, and what they write.
 use Rattle.std.specs.Prelude.{◌≡◌, ◌⊎◌, ℕ, Bool, List, [], Option, Some, None, length, if◌then◌else◌}
 use Rattle.std.specs.List.{range_with_len}
 use Rattle.dali_bank.specs.Order.{Contents}
@@ -37,7 +37,7 @@ pub record IsUntouched (first last : Look) : Type 0 where
 -- moment.
 
 module _ (unit : ℕ) (leaves_only : (List ℕ → Type 0) → Type 0) (first : Look) (status : Status) (last : Look) where
-  -- the whole bank was read, its text stands in the file, also after a stop, and its line was told
+  -- the whole bank was read, its text is in the file, also after a stop, and its line was printed
   pub record EndsRead : Type 0 where
     pub bytes : List ℕ
     pub read : IsUnitRead unit bank_course (Some bytes) (link_of first.streams) (link_of last.streams)
@@ -48,7 +48,7 @@ module _ (unit : ℕ) (leaves_only : (List ℕ → Type 0) → Type 0) (first : 
     pub unfailed : IsUnfailed (with_lines last first.streams.out lost).failed
     pub told : TellsLine (bytes_line unit (length bytes)) Good status first.streams.out last.streams.out
 
-  -- all tries of a block missed, which is told, and the file is as it was
+  -- all tries of a block missed, which is reported, and the file is as it was
   pub record EndsSilent : Type 0 where
     pub read : IsUnitRead unit bank_course None (link_of first.streams) (link_of last.streams)
     pub file : last.streams.journal ≡ first.streams.journal
@@ -57,7 +57,7 @@ module _ (unit : ℕ) (leaves_only : (List ℕ → Type 0) → Type 0) (first : 
     pub unfailed : IsUnfailed (with_lines last first.streams.out lost).failed
     pub told : TellsLine (silent_line unit) Refused status first.streams.out last.streams.out
 
-  -- the whole bank was read, and the file failed or there was no memory for it, which is told
+  -- the whole bank was read, and the file failed or there was no memory for it, which is reported
   pub record EndsUnkept : Type 0 where
     pub bytes : List ℕ
     pub read : IsUnitRead unit bank_course (Some bytes) (link_of first.streams) (link_of last.streams)
@@ -68,7 +68,7 @@ module _ (unit : ℕ) (leaves_only : (List ℕ → Type 0) → Type 0) (first : 
     pub told : (fault : InputFault) × IsUnread fault
         × IsFileFaultTold (Input fault) status first.streams.out last.streams.out
 
-  -- the link broke the reading off, which is told, and the file is as it was
+  -- the link broke the reading off, which is reported, and the file is as it was
   pub record EndsUnread : Type 0 where
     pub fault : DriveFault
     pub broke : UnitReadBroke unit bank_course fault (link_of first.streams) (link_of last.streams)
@@ -85,8 +85,8 @@ module _ (unit : ℕ) (leaves_only : (List ℕ → Type 0) → Type 0) (first : 
 
 module _ {N : Type 0} (contents : N → Option (List ℕ)) (before after : Report N) (orders : List Contents)
     (first : Look) (status : Status) (last : Look) where
-  -- the units of all the orders were read and what was found was reported, and it ended well where all are the same;
-  -- where there are none, that is told behind what the lines held then, which hadn't failed, and refused
+  -- the units of all the orders were read and the results were reported, and it ended well if all are the same; if
+  -- there are none, that is reported after what the lines held then, which hadn't failed, and refused
   pub record EndsVerified : Type 0 where
     pub all_same : Bool
     pub lines : Option (List ℕ)
@@ -97,7 +97,7 @@ module _ {N : Type 0} (contents : N → Option (List ℕ)) (before after : Repor
     pub unfailed : IsUnfailed (with_lines last lines lost).failed
     pub told : TellsBare (is_empty orders) (if all_same then Good else Refused) status lines last.streams.out
 
-  -- the link or the output broke it off, which is told
+  -- the link or the output broke it off, which is reported
   pub record EndsUnverified : Type 0 where
     pub fault : DriveFault
     pub lines : Option (List ℕ)
@@ -113,7 +113,7 @@ module _ {N : Type 0} (contents : N → Option (List ℕ)) (before after : Repor
 
 -- ---- `scan`
 
--- the short addresses that are asked where these are named: all where none is
+-- the short addresses that are asked if these are named: all if none is
 abbrev pub asked_addresses : List ℕ → List ℕ
 asked_addresses [] = range_with_len 0 64
 asked_addresses addresses = addresses

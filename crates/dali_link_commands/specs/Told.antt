@@ -1,4 +1,4 @@
--- How refused items and faults are told behind a command's lines.
+-- How refused items and faults are reported after a command's lines.
 use Rattle.std.specs.Prelude.{◌≡◌, ◌≢◌, ◌⊎◌, ◌++◌, ℕ, Bool, true, false, List, Option, codes}
 use Rattle.std.specs.Prelude.{IfOk, Result}
 use Rattle.std.specs.List.{AllByRecursion, flat_map}
@@ -46,7 +46,7 @@ abbrev pub TellsWorded : Fault → Option (List ℕ) → Option (List ℕ) → T
 TellsWorded fault before after =
     (words : List ℕ) × IsPlain words × Appends before after (error_line words ++ told_line fault)
 
--- the fault's line, and where a file, an older journal or the memory failed a line in plain words before it
+-- the fault's line, and if a file, an older journal or the memory failed, a line in plain words before it
 abbrev pub TellsFileFault : Fault → Option (List ℕ) → Option (List ℕ) → Type 0
 TellsFileFault (Input Memory) before after = TellsWorded (Input Memory) before after
 TellsFileFault (Input File) before after = TellsWorded (Input File) before after
@@ -58,7 +58,7 @@ abbrev pub is_out : DriveFault → Bool
 is_out Out = true
 is_out fault = false
 
--- the text of a fault: its line, and where the journal or the link failed a line in plain words before it
+-- the text of a fault: its line, and if the journal or the link failed, a line in plain words before it
 abbrev pub IsFaultText : DriveFault → List ℕ → Type 0
 IsFaultText Journal text =
     (words : List ℕ) × IsPlain words × (text ≡ error_line words ++ told_line (Drive Journal))
@@ -66,8 +66,8 @@ IsFaultText Link text =
     (words : List ℕ) × IsPlain words × (text ≡ error_line words ++ told_line (Drive Link))
 IsFaultText fault text = text ≡ told_line (Drive fault)
 
--- how a fault is told behind the replies: by its text, or by a first part of that where the output fails then; nothing
--- is told where the replies can't be written
+-- how a fault is reported after the replies: by its text, or by a first part of that if the output fails then; nothing
+-- is reported if the replies can't be written
 abbrev pub IsFaultTold : DriveFault → Status → Option (List ℕ) → Option (List ℕ) → Type 0
 IsFaultTold Out status before after = (status ≡ Unwritten) × (after ≡ before)
 IsFaultTold fault status before after =
@@ -75,12 +75,12 @@ IsFaultTold fault status before after =
     × (((status ≡ status_of (Drive fault)) × Appends before after text)
     ⊎ ((status ≡ Unwritten) × PutsFirst before after text))
 
--- how the fault of a file is told, where the output doesn't fail
+-- how the fault of a file is reported, if the output doesn't fail
 abbrev pub IsFileFaultTold : Fault → Status → Option (List ℕ) → Option (List ℕ) → Type 0
 IsFileFaultTold fault status before after =
     status ≢ Unwritten → (status ≡ status_of fault) × TellsFileFault fault before after
 
--- and by what was written of it, where it doesn't fail
+-- and by what was written of it, if it doesn't fail
 abbrev pub IsFaultWritten : {W : Type 0} → Fault → Result Status OutputFailed → (W → Option (List ℕ)) → Output W
     → Output W → Type 0
 IsFaultWritten fault result contents before after =
@@ -88,7 +88,7 @@ IsFaultWritten fault result contents before after =
     × TellsFileFault fault (held contents before) (held contents after))
     × TellsEnd result after
 
--- the fault that is told of a file
+-- the fault that is reported of a file
 abbrev pub fault_of : FileFault → Fault
 fault_of (Unopened fault words) = fault_unopened fault
 fault_of (files.Older fault words) = fault_older fault

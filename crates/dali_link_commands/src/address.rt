@@ -31,7 +31,7 @@ use std::io::{Read, Write};
 // How many silent asks a census takes for the answer that no unit is left (profile).
 const CENSUS_CARE: u8 = 4;
 
-/// What `address` is asked for.
+/// The task of `address`.
 #[derive(Clone, Copy, PartialEq, Eq)]
 pub enum Asked {
     /// To give short addresses, to give them anew, or to list them.
@@ -57,17 +57,17 @@ impl Asked {
 /// `address`, over a link (profile).
 #[derive(Clone, Copy)]
 pub struct AddressCommand<'a> {
-    /// What it is asked for.
+    /// Its task.
     pub asked: Asked,
-    /// Those that are given, in their order; where none is named, the lowest that are free.
+    /// Those that are given, in their order; if none is named, the lowest that are free.
     pub units: &'a [u8],
-    /// The journal, if one is named, that has to stand idle.
+    /// The journal, if one is named, that has to be idle.
     pub journal: Option<&'a str>,
 }
 
 impl AddressCommand<'_> {
-    /// Of what a person watches how far it is. How many units there are is known only where short addresses are named
-    /// and none is taken away before.
+    /// The kind of progress that is shown. The number of units is known only if short addresses are named and none is
+    /// taken away before.
     pub fn watched(&self) -> Watched
         ensures { result ≡ watched_asked self.now.asked (length self.now.units.now) }
     {
@@ -78,9 +78,9 @@ impl AddressCommand<'_> {
         }
     }
 
-    /// Carries it out at a desk whose streams haven't failed, as `address` does; the store is left alone. Where a
-    /// journal is named that isn't at rest, or that a drive has open, nothing is sent: 15 Older, 20 Memory or 21 File.
-    /// No drive can open it as long as this goes on.
+    /// Carries it out at a desk whose streams haven't failed, as `address` does; the store is left alone. If a journal
+    /// is named that isn't at rest, or that a drive has open, nothing is sent: 15 Older, 20 Memory or 21 File. No drive
+    /// can open it as long as this goes on.
     pub fn carry_out<
         R: Files<File = File> + AllocGlobal + JournalFiles,
         I: Read,
@@ -109,12 +109,12 @@ impl AddressCommand<'_> {
 
 /// Gives, lists or counts over streams that haven't failed: a run as `address_units` has it, or a census as
 /// `count_units` has it, what tells how that ended, and then a run that ends the initialisation state. After the lines
-/// of a run comes how it ended, or the line of the fault that ends it, 2 Link, 3 Line, 4 End or 6 TooLong, and before
-/// that, unless it lists, that units may be left in the initialisation state. It ends as `Good` if no unit is left
-/// without a short address, none is shared, none may be left in that state, and a census came to `Apart`, else as
+/// of a run comes how it ended, or the line of the fault that ends it, 2 Link, 3 Line, 4 End or 6 TooLong, preceded,
+/// unless it lists, by the line that units may be left in the initialisation state. It ends as `Good` if no unit is
+/// left without a short address, none is shared, none may be left in that state, and a census ended as `Apart`, else as
 /// `Refused`.
 ///
-/// Where `lines` fails it is 7 Out, or there stands a first part of the last text.
+/// If `lines` fails, it is 7 Out, or a first part of the last text is written.
 pub fn address<I: Source, L: Sink, S: Store, W: Write>(
     alloc: Global,
     asked: Asked,
@@ -247,7 +247,7 @@ fn tell_open<W: Write>(
     tell_fault(alloc, lines, fault, causes)
 }
 
-// Whether units may be in the initialisation state where a run broke off, and that can be told.
+// Whether units may be in the initialisation state after a run broke off, and that can be reported.
 fn is_left_open(task: Task, fault: DriveFault) -> bool
     ensures is { result ≡ left_open task fault }
     ensures other { result ≡ true → is_out fault ≡ false }
@@ -258,7 +258,7 @@ fn is_left_open(task: Task, fault: DriveFault) -> bool
     }
 }
 
-// Tells how a run ended, after this census or none, where the lines haven't failed.
+// Reports how a run ended, after this census or none, if the lines haven't failed.
 fn tell_end<W: Write>(lines: &mut Lines<W>, counted: Option<CensusEnd>, end: End) -> Status
     requires { has_failed lines.old.output ≡ false }
     ensures told { TellsLine (text_at_end (ended_after counted end))

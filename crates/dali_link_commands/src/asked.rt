@@ -26,7 +26,7 @@ pub enum AskedFault {
 }
 
 impl AskedFault {
-    /// The fault that is told.
+    /// The fault that is reported.
     pub fn fault(&self) -> Fault
         ensures { result ≡ fault_asked self.now }
     {
@@ -37,8 +37,8 @@ impl AskedFault {
     }
 }
 
-/// The journal that a store has, of either version, behind the older one where there is one, as a drive has it: all
-/// their orders. A record that is cut at its end doesn't count. It is durable before it counts.
+/// The journal that a store has, of either version, after the older one if there is one, as in a drive: all their
+/// orders. A record that is cut at its end doesn't count. It is durable before it counts.
 ///
 /// The older one has to be at rest.
 pub fn asked_in<S: Store>(
@@ -64,7 +64,7 @@ pub fn asked_in<S: Store>(
         None => Ok(own),
         Some(older) => match own.behind(older) {
             Ok(journal) => {
-                // it tells what is so of every journal
+                // it shows what is true of every journal
                 let _most = journal.limit();
                 Ok(journal)
             }
@@ -73,7 +73,7 @@ pub fn asked_in<S: Store>(
     }
 }
 
-/// Why no journal is asked: the fault, and words for a person that tell which file and why, where there is memory for
+/// Why no journal is asked: the fault, and words for a person that name the file and the reason, if there is memory for
 /// them.
 #[derive(Drop)]
 pub struct Unasked {
@@ -81,8 +81,8 @@ pub struct Unasked {
     pub words: Option<String>,
 }
 
-/// The journal of a file behind those of older files, which are read as a drive reads them: each has to be at rest, and
-/// none may be in use. Its own file may be in use.
+/// The journal of a file after those of older files, which are read as in a drive: each has to be at rest, and none may
+/// be in use. Its own file may be in use.
 pub fn read_asked<'a, R: JournalFiles + AllocGlobal>(
     rt: &R,
     name: &str,
@@ -109,7 +109,7 @@ pub fn read_asked<'a, R: JournalFiles + AllocGlobal>(
     }
 }
 
-// The journal of this store behind the older one.
+// The journal of this store after the older one.
 fn read_behind<S: Store>(
     alloc: Global,
     name: &str,
@@ -153,7 +153,7 @@ fn unopened_journal(alloc: Global, name: &str, unopened: &Unopened) -> Unasked {
     }
 }
 
-// Words for a journal of this name that can't be used, with the cause where one is known.
+// Words for a journal of this name that can't be used, with the cause if one is known.
 fn unusable_words(alloc: Global, name: &str, cause: Option<String>) -> Option<String> {
     let made = match cause {
         Some(cause) => {

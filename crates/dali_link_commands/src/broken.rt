@@ -1,4 +1,4 @@
-// How a drive is told that broke off, behind what its lines hold.
+// How it is reported that a drive broke off, after what its lines hold.
 ghost use Rattle.std.specs.Prelude.{◌≡◌, ◌≢◌};
 ghost use Rattle.dali_drive.specs.Behind.{BehindShows};
 ghost use Rattle.dali_link_commands.specs.Benches.{TellsUnwritten, bench};
@@ -13,7 +13,7 @@ use dali_store::Store;
 use std::alloc::Global;
 use std::io::Write;
 
-// Tells why not all was followed, with the name of the journal, where the lines haven't failed, or that is the fault.
+// Reports why not all was followed, with the name of the journal, if the lines haven't failed, or that is the fault.
 pub(crate) fn tell_broken<I: Source, L: Sink, S: Store, W: Write>(
     alloc: Global,
     name: &str,

@@ -25,10 +25,10 @@ use std::alloc::Global;
 use std::io;
 use std::io::{ErrorKind, Read, Write};
 
-/// What is to be driven, and how.
+/// The orders to drive, and how.
 #[derive(Clone, Copy)]
 pub struct DriveTask<'a> {
-    /// What a person calls the orders: ORDERS.
+    /// The name of the orders for a person: ORDERS.
     pub orders: &'a str,
     /// And the journal: JOURNAL.
     pub journal: &'a str,
@@ -38,7 +38,7 @@ pub struct DriveTask<'a> {
     pub moment: u64,
     /// The plan of its sessions.
     pub pace: Pace,
-    /// What the last replies have to be.
+    /// The requirement on the last replies.
     pub required: Required,
     /// Whether the journal has to be there: none is made then.
     pub require_journal: bool,
@@ -49,7 +49,7 @@ pub struct DriveTask<'a> {
 }
 
 impl DriveTask<'_> {
-    // What it goes by: what a journal may have, and its plan.
+    // Its terms: what a journal may have, and its plan.
     pub(crate) fn terms(&self) -> Terms
         ensures { result ≡ record { orders = order_limit; bytes = journal_limit; pace = self.now.pace } }
     {
@@ -74,8 +74,8 @@ pub fn pace_of(short_plan: bool) -> Pace
 
 /// Carries out the orders that a reader gives over a link, with the journal that a store holds, as `drive_orders` does.
 ///
-/// Where an item is refused, the lines of all that are, are written, and nothing else is touched; nor is it where there
-/// are no orders: 13 TooBig over 16777216 bytes, 11 Json, 12 Document, 20 Memory or 21 File.
+/// If an item is refused, the lines of all that are, are written, and nothing else is touched; nor is it if there are
+/// no orders: 13 TooBig over 16777216 bytes, 11 Json, 12 Document, 20 Memory or 21 File.
 pub fn drive_input<R: Read, I: Source, L: Sink, S: Store, W: Write, N: Write + Drop>(
     alloc: Global,
     older: Option<Journal>,
@@ -128,16 +128,16 @@ pub(crate) fn failure_of(cause: Option<ErrorKind>) -> Option<io::Error>
 
 /// Carries out what the journal of a store still asks for, and then the orders one after the other, over streams that
 /// haven't failed. Each reply has its line in `lines`, and so has the fault that ends it; the report has a line for
-/// each last reply. It ends as `Refused` where the last replies aren't what is required, and where that is since there
-/// were none it tells that nothing was done.
+/// each last reply. It ends as `Refused` if the last replies aren't what is required, and if that is because there were
+/// none, it says that nothing was done.
 ///
-/// Nothing is sent where no journal is opened, for at most 100000 orders and of at most 33554432 bytes: 13 TooBig, 7
-/// Header, 3 Record, 4 Sequence, 5 Repeated, 6 Full, 20 Memory or 21 File. A drive breaks off at 1 Journal, 2 Link, 3
-/// Line, 4 End, 6 TooLong or 20 Memory. Where `lines` fails it is 7 Out, or there stands a first part of the fault's
-/// line; later calls of it write nothing more.
+/// If no journal is opened, nothing is sent: for at most 100000 orders and of at most 33554432 bytes the fault is 13
+/// TooBig, 7 Header, 3 Record, 4 Sequence, 5 Repeated, 6 Full, 20 Memory or 21 File. A drive breaks off at 1 Journal, 2
+/// Link, 3 Line, 4 End, 6 TooLong or 20 Memory. If `lines` fails, it is 7 Out, or a first part of the fault's line is
+/// written; later calls of it write nothing more.
 ///
-/// Behind an older journal, where there is one, which has to be at rest, an order that it has ended gets its kept
-/// reply, or `reused`, with no frame. Where both have an order number in common nothing is sent: 15 Older.
+/// With an older journal, if there is one, which has to be at rest, an order that it has ended gets its kept reply, or
+/// `reused`, with no frame. If both have an order number in common, nothing is sent: 15 Older.
 pub fn drive_orders<I: Source, L: Sink, S: Store, W: Write, N: Write + Drop>(
     alloc: Global,
     older: Option<Journal>,

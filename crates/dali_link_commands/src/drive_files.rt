@@ -27,8 +27,8 @@ use std::{fs, io};
 
 /// Carries out the orders of a file over a link, with the journal that another file holds, as `drive_input` does.
 ///
-/// No contract tells what the file of the orders holds: the drive is that of the orders which its bytes spell, on these
-/// terms, behind what is known of the older journals' files.
+/// No contract says what the file of the orders holds: the drive is that of the orders which its bytes spell, on these
+/// terms, with what is known of the older journals' files.
 pub fn drive_files<
     R: Files<File = File> + AllocGlobal + JournalFiles,
     I: Read,
@@ -97,7 +97,7 @@ pub(crate) fn tell_unjoined<O: Write>(
     tell_file(alloc, output, unjoined.name, fault)
 }
 
-// What is told where ORDERS is what the link has for its answers.
+// The words if ORDERS is the file that has the link's answers.
 const ANSWERS_THERE: &str =
     "ORDERS has to be a file or a named pipe: standard input has the answers";
 
@@ -114,7 +114,7 @@ pub(crate) fn opened<R: Files<File = File>>(rt: &R, name: &str) -> io::Result<(F
     Ok((file, found))
 }
 
-// Whether this file is the one that standard input is of.
+// Whether standard input is this file.
 fn is_standard_input<R: Files<File = File>>(rt: &R, found: &Metadata) -> bool {
     match fs::metadata(rt, "/dev/fd/0") {
         Ok(input) => found.dev() == input.dev() && found.ino() == input.ino(),

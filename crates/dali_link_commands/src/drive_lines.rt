@@ -1,4 +1,4 @@
-// How a drive's end is told.
+// How a drive's end is reported.
 ghost use Rattle.std.specs.Prelude.{◌≡◌, ◌≢◌, ◌↔◌, ◌⊎◌, ◌++◌, ℕ, List, IfOk, IfErr, OnOk, false, true};
 ghost use Rattle.std.specs.Prelude.{string_bytes};
 ghost use Rattle.std.specs.Io.KnownBytes.{Appends};
@@ -23,8 +23,8 @@ use std::alloc::{AllocError, Global};
 use std::io;
 use std::io::{ErrorKind, Write};
 
-/// What made a drive or a reading break off: of what kind the failure of the link's streams was, and the words that the
-/// store of the journal has for its own.
+/// Why a drive or a reading broke off: the kind of failure of the link's streams, and the words that the store of the
+/// journal has for its own.
 #[derive(Clone, Copy)]
 pub struct Causes<'a> {
     pub link_in: Option<ErrorKind>,
@@ -33,7 +33,7 @@ pub struct Causes<'a> {
 }
 
 impl Causes<'_> {
-    // Words for a fault, where there are any, and memory for them.
+    // Words for a fault, if there are any, and memory for them.
     fn words(&self, alloc: Global, fault: DriveFault) -> Option<String> {
         match (fault, self.link_in, self.link_out) {
             (DriveFault::Journal, _, _) => String::from_str(alloc, self.store?).ok(),
@@ -48,8 +48,8 @@ impl Causes<'_> {
     }
 }
 
-/// Writes the fault of a drive, where the replies could be written: its line, and before that of 1 Journal and 2 Link
-/// its cause in words.
+/// Writes the fault of a drive, if the replies could be written: its line, and before that of 1 Journal and 2 Link its
+/// cause in words.
 pub fn tell_fault<W: Write>(
     alloc: Global,
     lines: &mut Lines<W>,
@@ -67,7 +67,7 @@ pub fn tell_fault<W: Write>(
     }
 }
 
-// Writes 1 Journal or 2 Link, with its cause where there is memory for it.
+// Writes 1 Journal or 2 Link, with its cause if there is memory for it.
 fn tell_worded<W: Write>(
     alloc: Global,
     lines: &mut Lines<W>,
@@ -105,7 +105,7 @@ fn tell_text<W: Write>(lines: &mut Lines<W>, fault: DriveFault, text: &str) -> S
     Fault::Drive(fault).status()
 }
 
-// The line of a fault behind these words, as they are shown.
+// The line of a fault after these words, as they are shown.
 fn worded_text(alloc: Global, fault: DriveFault, words: &str) -> Result<String, AllocError>
     ensures { IfOk result (λ text. (words : List ℕ) × IsPlain words
         × (string_bytes text ≡ error_line words ++ told_line (Fault.Drive fault))) }
@@ -130,7 +130,7 @@ fn plain_text(fault: DriveFault) -> &'static str
 
 /// Writes the refused items of a list of orders, and nothing after them.
 ///
-/// Where a call of the output fails later ones write nothing more to it, and it ends as `Unwritten`.
+/// If a call of the output fails, later ones write nothing more to it, and it ends as `Unwritten`.
 pub fn tell_refused<W: Write>(output: &mut Output<W>, refused: &[(u64, ItemFault)]) -> Status
     ensures told { result ≢ Status.Unwritten → (result ≡ Status.Refused)
         × Takes W.contents output.old output.new (refused_lines refused.now) }
@@ -272,7 +272,7 @@ fn write_unreadable<W: Write>(
     }
 }
 
-// Writes that a file can't be used: the words for that, where there are any.
+// Writes that a file can't be used: the words for that, if there are any.
 fn write_unusable<W: Write>(
     alloc: Global,
     output: &mut Output<W>,

@@ -25,16 +25,16 @@ use std::alloc::Global;
 use std::io::Write;
 
 /// Carries out what the journal of a store still asks for, and then the orders that come line by line, over streams
-/// that haven't failed: each line is judged, its order submitted and carried out, and its replies told in `lines`,
-/// before the next is read. Before the first is, `ready` is told: the journal is open, and all that it asked for is
-/// done. A line that is refused is told as `item I order N fault F NAME`, of which `order N` stands where it has that
-/// number, and changes nothing. The report has a line for each last reply.
+/// that haven't failed: each line is judged, its order submitted and carried out, and its replies written to `lines`,
+/// before the next is read. Before the first is, `ready` is written: the journal is open, and all that it asked for is
+/// done. A refused line is printed as `item I order N fault F NAME`, with `order N` only if the line has that number,
+/// and changes nothing. The report has a line for each last reply.
 ///
-/// It ends where the lines do: as `Refused` where one was refused, or as `drive_orders` does. Where their source fails
-/// it ends there too, which is told behind all else: 21 File.
+/// It ends where the lines do: as `Refused` if one was refused, or as `drive_orders` does. If their source fails, it
+/// ends there too, which is reported after all else: 21 File.
 ///
-/// Nothing is sent, and no line is read, where no journal is opened; behind an older journal, and where it breaks off,
-/// it is as of `drive_orders`.
+/// If no journal is opened, nothing is sent, and no line is read; with an older journal, and if it breaks off, it is as
+/// in `drive_orders`.
 pub fn follow_lines<R: Source, I: Source, L: Sink, S: Store, W: Write, N: Write + Drop>(
     alloc: Global,
     older: Option<Journal>,

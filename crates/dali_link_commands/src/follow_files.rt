@@ -25,7 +25,7 @@ use std::io::{Read, Write};
 /// Its bytes are read one by one, with no buffer: so no byte of a line is taken out of a pipe before it is its turn.
 /// The older journals are read before it is opened.
 ///
-/// No contract tells what the file of the orders holds: just what its lines give is followed, on these terms, behind
+/// No contract says what the file of the orders holds: exactly what its lines give is followed, on these terms, with
 /// what is known of the older journals' files.
 pub fn follow_file<
     R: Files<File = File> + AllocGlobal + JournalFiles,

@@ -13,7 +13,7 @@ use std::{fs, io};
 pub trait JournalFiles {
     type Opened: Store + Drop;
 
-    /// What the file of this name has, where that is known.
+    /// The contents of the file of this name, if they are known.
     ghost has: { Self → List ℕ → Option (List ℕ) };
 
     /// Opens the file of an older journal, which no drive may open as long as it is open here.

@@ -1,5 +1,7 @@
 //! The commands over a link (profile): what each does with its streams and the files that it is given, up to its
 //! status.
+//!
+//! A crate of its own: it is proved beside the commands over files.
 #![tactic(auto)]
 
 pub mod address;

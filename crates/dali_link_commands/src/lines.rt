@@ -1,4 +1,4 @@
-// Where a drive's lines go: its replies, and then its fault.
+// The output of a drive's lines: its replies, and then its fault.
 ghost use Rattle.std.specs.Prelude.{◌≡◌, ◌||◌, None, not, true};
 ghost use Rattle.std.specs.Io.KnownBytes.{Keeps};
 ghost use Rattle.dali_drive.specs.Streams.{Flushes};

@@ -37,7 +37,7 @@ pub enum LinkCommand<'a> {
         orders: &'a str,
         report: Option<&'a str>,
     },
-    /// `scan`, of the units at these short addresses, or at all where none is named.
+    /// `scan`, of the units at these short addresses, or at all if none is named.
     Scan {
         addresses: &'a [u8],
         sought: Sought,
@@ -45,8 +45,8 @@ pub enum LinkCommand<'a> {
 }
 
 impl<'a> LinkCommand<'a> {
-    /// The store in the file that it writes: that of the journal or of a bank's text. Where it writes none, that of a
-    /// text without a name.
+    /// The store in the file that it writes: that of the journal or of a bank's text. If it writes none, that of a text
+    /// without a name.
     pub fn store<R: Files<File = File> + AllocGlobal>(&self, rt: &'a R) -> FileStore<'a, R>
         ensures { HasStore self.now result }
     {
@@ -61,7 +61,7 @@ impl<'a> LinkCommand<'a> {
         }
     }
 
-    /// Of what a person watches how far it is.
+    /// The kind of progress that is shown.
     pub fn watched(&self) -> Watched
         ensures { result ≡ watched_of self.now }
     {
@@ -74,7 +74,7 @@ impl<'a> LinkCommand<'a> {
     }
 
     /// Carries the command out at a desk whose streams haven't failed, and whose store is its own (`store`). Each short
-    /// address that it names has to be at most 63. Whoever watches is told of its orders, and changes nothing.
+    /// address that it names has to be at most 63. The progress that is shown follows its orders, and changes nothing.
     pub fn carry_out<
         R: Files<File = File> + AllocGlobal + JournalFiles,
         I: Read,

@@ -15,7 +15,7 @@ use dali_store::FileStore;
 use std::fs::{File, Files};
 use std::io::{Read, Write};
 
-/// What the program does over a link (profile).
+/// The work of the program over a link (profile).
 #[derive(Clone, Copy)]
 pub enum Linked<'a> {
     /// A command over memory banks.
@@ -35,7 +35,7 @@ impl<'a> Linked<'a> {
         }
     }
 
-    /// Of what a person watches how far it is.
+    /// The kind of progress that is shown.
     pub fn watched(&self) -> Watched
         ensures { result ≡ watched_linked self.now }
     {

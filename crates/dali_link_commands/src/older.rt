@@ -29,7 +29,7 @@ pub enum OlderFault {
 }
 
 impl OlderFault {
-    /// The fault that is told: 15 Older, 20 Memory or 21 File.
+    /// The fault that is reported: 15 Older, 20 Memory or 21 File.
     pub fn fault(&self) -> Fault
         ensures { result ≡ fault_older self.now }
     {
@@ -44,7 +44,7 @@ impl OlderFault {
     }
 }
 
-/// The journal of these bytes, of either version, behind the older one, where there is one already: all their orders.
+/// The journal of these bytes, of either version, after the older one, if there is one already: all their orders.
 ///
 /// The older one has to be at rest, and so has this one, and no record of it may be cut.
 pub fn joined_behind(
@@ -83,10 +83,9 @@ pub struct Unusable {
     pub fault: OlderFault,
 }
 
-/// The journals of these stores as one, each behind those that are named before it; none where there are no stores.
+/// The journals of these stores as one, each after those that are named before it; none if there are no stores.
 ///
-/// Each has to be at rest, and is durable before it counts. Behind the first one that can't be used no store is
-/// touched.
+/// Each has to be at rest, and is durable before it counts. After the first one that can't be used no store is touched.
 pub fn joined_older<S: Store>(alloc: Global, stores: &mut [S]) -> Result<Option<Journal>, Unusable>
     ensures ok { IfOk result (AreJoined (map S.seen stores.old)) }
     ensures settled { OnOk result
@@ -106,7 +105,7 @@ pub fn joined_older<S: Store>(alloc: Global, stores: &mut [S]) -> Result<Option<
     Ok(older)
 }
 
-// The journal of this store behind the older one. It is synced once it is read: what a program that was killed has
+// The journal of this store after the older one. It is synced once it is read: what a program that was killed has
 // written may be lost until then.
 fn joined_store<S: Store>(
     alloc: Global,
@@ -159,8 +158,8 @@ impl<'a> Unjoined<'a> {
     }
 }
 
-/// The files of journals that are at rest, and the one journal that they are, each behind those that are named before
-/// it; none where none is named. As long as this is there no drive can open one of them.
+/// The files of journals that are at rest, and the one journal that they are, each after those that are named before
+/// it; none if none is named. As long as this is there no drive can open one of them.
 #[derive(Drop)]
 pub(crate) struct HeldOlder<S: Store + Drop> {
     pub(crate) journal: Option<Journal>,
@@ -234,7 +233,7 @@ fn all_opened<'a, R: JournalFiles + AllocGlobal>(
     Ok(stores)
 }
 
-// Words for why a call of a store has failed, where one has.
+// Words for why a call of a store has failed, if one has.
 pub(crate) fn cause_words<S: Store>(alloc: Global, store: &S) -> Option<String> {
     match store.cause() {
         Some(cause) => String::from_str(alloc, cause).ok(),

@@ -1,4 +1,4 @@
-// How a journal is told that can't stand behind others.
+// How it is reported that a journal can't follow others.
 ghost use Rattle.std.specs.Prelude.{IfSome, string_bytes};
 ghost use Rattle.dali_link_commands.specs.Older.{fault_older};
 ghost use Rattle.dali_link_commands.specs.Told.{IsFaultWritten, IsPlain};
@@ -27,7 +27,7 @@ pub(crate) fn write_older<W: Write>(
     write_worded(output, said(&words), fault.fault())
 }
 
-// The words, or plain ones where there is no memory for them.
+// The words, or plain ones if there is no memory for them.
 fn said(words: &Option<String>) -> &str
     requires { IfSome words.now (λ words. IsPlain (string_bytes words)) }
     ensures { IsPlain result.now }
@@ -38,7 +38,7 @@ fn said(words: &Option<String>) -> &str
     }
 }
 
-/// Words for a person that tell why a file can't be used as an older journal, where there is memory for them.
+/// Words for a person that say why a file can't be used as an older journal, if there is memory for them.
 pub(crate) fn older_words(
     alloc: Global,
     name: &str,

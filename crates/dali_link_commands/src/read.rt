@@ -20,11 +20,11 @@ use std::alloc::Global;
 use std::io::Write;
 
 /// Reads memory bank 1 of the unit at a short address, at most 63, over streams that haven't failed, and puts its bytes
-/// into a store as text, whole: `unit U bytes N` where they stand there, or `unit U silent`, where the store is as it
-/// was. It ends as `Good`, or as `Refused` where the unit was silent.
+/// into a store as text, whole: `unit U bytes N` if they are there, or `unit U silent`, and then the store is as it
+/// was. It ends as `Good`, or as `Refused` if the unit was silent.
 ///
-/// Faults are 2 Link, 3 Line, 4 End and 6 TooLong of the link, and where the store fails 21 File, or 20 Memory where it
-/// says nothing of that. Where `lines` fails there stands a first part of a line, and it ends as `Unwritten`.
+/// Faults are 2 Link, 3 Line, 4 End and 6 TooLong of the link, and if the store fails 21 File, or 20 Memory if it says
+/// nothing of that. If `lines` fails, a first part of a line is written, and it ends as `Unwritten`.
 pub fn read_bank<I: Source, L: Sink, S: Store, W: Write>(
     alloc: Global,
     unit: u8,
@@ -61,7 +61,7 @@ pub fn read_bank<I: Source, L: Sink, S: Store, W: Write>(
     }
 }
 
-// Writes that the file of a bank can't be written, and why: where nothing is said of that, memory ran out for it.
+// Writes that the file of a bank can't be written, and why: if nothing is said of that, memory ran out for it.
 fn tell_unwritten<W: Write>(
     alloc: Global,
     output: &mut Output<W>,
@@ -83,7 +83,7 @@ fn tell_unwritten<W: Write>(
     }
 }
 
-/// Writes a line, and gives the status where that could be done.
+/// Writes a line, and gives the status if that could be done.
 pub(crate) fn tell_line<W: Write>(lines: &mut Lines<W>, line: &[u8], good: Status) -> Status
     requires { has_failed lines.old.output ≡ false }
     ensures told { TellsLine line.now good result

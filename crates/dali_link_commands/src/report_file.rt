@@ -39,7 +39,7 @@ enum Unopened {
 #[derive(Clone, Copy)]
 pub(crate) struct Others<'a> {
     pub(crate) orders: &'a str,
-    /// The journal, or none where the name is empty.
+    /// The journal, or none if the name is empty.
     pub(crate) journal: &'a str,
     pub(crate) older: &'a [&'a str],
 }
@@ -52,9 +52,9 @@ pub(crate) struct ReportFile<'a> {
 }
 
 impl<'a> ReportFile<'a> {
-    /// Opens the file, or makes it, for this command alone; with no name there is none. What it holds stays, and what
-    /// there is to report goes behind it. It is none of the command's other files, no link, and has to be a report or
-    /// empty. What is watched is told of all of it too, if that is.
+    /// Opens the file, or makes it, for this command alone; with no name there is none. Its contents stay, and the new
+    /// lines of the report go after them. It is none of the command's other files, no link, and has to be a report or
+    /// empty. All of it is also passed on to what is watched, if anything is.
     pub(crate) fn open<R: Files<File = File> + AllocGlobal>(
         rt: &R,
         name: Option<&str>,
@@ -79,8 +79,8 @@ impl<'a> ReportFile<'a> {
         }
     }
 
-    /// How a command ends that had this report in a file of that name and ended so: a report that couldn't be opened or
-    /// written is told.
+    /// How a command ends that had this report in a file of that name and ended so: if the report couldn't be opened or
+    /// written, that is reported.
     pub(crate) fn end<W: Write>(
         &self,
         alloc: Global,
@@ -158,8 +158,8 @@ fn is_named(name: &str, others: Others<'_>) -> bool {
         || others.older.iter().any(|&older| name == older)
 }
 
-// What is no regular file, as a pipe or a terminal, is written to as it is. A pipe that nobody reads would be waited
-// for, so it is held open for reading too until it is open.
+// A file that isn't regular, such as a pipe or a terminal, is written to as it is. Opening a pipe that nobody reads
+// would block, so it is held open for reading too until it is open.
 fn opened_other<R: Files<File = File>>(
     rt: &R,
     name: &str,

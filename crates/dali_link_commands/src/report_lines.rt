@@ -1,23 +1,23 @@
-// What a file holds that is to be a report. No contract tells that.
+// The contents of a file that is to be a report. No contract describes them.
 use dali_report::{LINE_LIMIT, Seen, look_at, run_behind};
 use std::alloc::Global;
 use std::fs::File;
 use std::io;
 use std::io::Read;
 
-/// Where a report goes on.
+/// The place where a report goes on.
 #[derive(Clone, Copy)]
 pub(crate) struct Onward {
     /// The run of the command that writes there.
     pub(crate) run: u64,
-    /// What is behind so many bytes is cut away: a kill, a full disk or a loss of power left it.
+    /// All after this many bytes is cut away: a kill, a full disk or a loss of power left it.
     pub(crate) cut: Option<u64>,
     /// Whether the last line that stays lacks its line feed.
     pub(crate) is_unended: bool,
 }
 
 impl Onward {
-    /// The first run, where nothing is yet.
+    /// The first run, when there is nothing yet.
     pub(crate) fn first() -> Onward {
         Onward {
             run: run_behind(0),
@@ -27,14 +27,14 @@ impl Onward {
     }
 }
 
-/// What a file is to a report: one that goes on there, or it has this line, counted from 1, which is none of a report.
+/// How a report sees a file: it goes on there, or this line, counted from 1, is none of a report.
 #[derive(Clone, Copy)]
 pub(crate) enum Held {
     Report(Onward),
     Other(u64),
 }
 
-/// What the file holds, read from where it stands.
+/// The contents of the file, read from its position.
 pub(crate) fn look_through(alloc: Global, file: &mut File) -> io::Result<Held> {
     let mut lines = ReportLines {
         alloc,
@@ -67,7 +67,7 @@ struct ReportLines {
     line: Vec<u8>,
     begins: u64,
     number: u64,
-    // How many zeros stand behind it: a loss of power may leave them where bytes were not yet on the disk.
+    // How many zeros follow it: a loss of power may leave them where bytes were not yet on the disk.
     zeros: u64,
     // The run of the last whole line.
     last: u64,

@@ -1,4 +1,4 @@
-// What a report is written into. No contract tells what a file holds.
+// The output of a report. No contract says what a file holds.
 use crate::report_lines::Onward;
 use std::fs::File;
 use std::io;

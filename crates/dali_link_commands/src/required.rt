@@ -1,4 +1,4 @@
-// What has to be so at the end of a drive, and how it is told that nothing was done.
+// The requirements at the end of a drive, and how it is reported that nothing was done.
 ghost use Rattle.std.specs.Prelude.{◌≡◌, ◌≢◌, ◌↔◌, false, true};
 ghost use Rattle.dali_text.specs.Output.{has_failed, held, is_flushed};
 ghost use Rattle.dali_link_commands.specs.Bare.{TellsBare, TellsEnded, is_bare as nothing_done, is_met as met};
@@ -15,7 +15,7 @@ use std::io::Write;
 // The line that tells it.
 const NOTHING: &str = "error: nothing was done: ORDERS has no orders\n";
 
-/// What the last replies of a drive have to be, for it to end well.
+/// The last replies that a drive needs to end well.
 #[derive(Clone, Copy)]
 pub enum Required {
     /// Anything.
@@ -57,8 +57,8 @@ impl Required {
     }
 }
 
-/// How a drive ends that came to its end with this outcome; where something is required and nothing was done, that is
-/// told.
+/// The status of a drive that completed with this outcome; if something is required and nothing was done, that is
+/// reported.
 pub(crate) fn tell_ended<W: Write>(
     lines: &mut Lines<W>,
     required: Required,
@@ -84,7 +84,7 @@ fn ended_status(required: Required, outcome: Outcome) -> Status
     }
 }
 
-/// Tells that nothing was done, where that is so; else it ends so.
+/// Reports that nothing was done, if that is so; else it has the status `ended`.
 pub(crate) fn tell_bare<W: Write>(lines: &mut Lines<W>, is_bare: bool, ended: Status) -> Status
     requires unfailed { has_failed lines.old.output ≡ false }
     requires written { ended ≢ Status.Unwritten }

@@ -31,8 +31,8 @@ static ALL_ADDRESSES: [u8; 64] = [
 
 /// Compares units with the orders that a reader gives, over a link, as `verify_units` does.
 ///
-/// Where an item is refused, the lines of all that are, are written, and the link isn't touched; nor is it where there
-/// are no orders: 13 TooBig over 16777216 bytes, 11 Json, 12 Document, 20 Memory or 21 File.
+/// If an item is refused, the lines of all that are, are written, and the link isn't touched; nor is it if there are no
+/// orders: 13 TooBig over 16777216 bytes, 11 Json, 12 Document, 20 Memory or 21 File.
 pub fn verify_input<R: Read, I: Source, L: Sink, S: Store, W: Write, N: Write + Drop>(
     alloc: Global,
     name: &str,
@@ -69,9 +69,9 @@ pub fn verify_input<R: Read, I: Source, L: Sink, S: Store, W: Write, N: Write + 
 
 /// Compares units with orders, over streams that haven't failed, as `verify_orders` does: a line for each order, and
 /// one for the fault that ends it, 2 Link, 3 Line, 4 End or 6 TooLong; the report has a line for each order. It ends as
-/// `Good` where all are the same, else as `Refused`; where there are no orders it tells that nothing was done.
+/// `Good` if all are the same, else as `Refused`; if there are no orders it says that nothing was done.
 ///
-/// Where `lines` fails it is 7 Out, or there stands a first part of the fault's line.
+/// If `lines` fails, it is 7 Out, or a first part of the fault's line is written.
 pub fn verify_units<I: Source, L: Sink, S: Store, W: Write, N: Write + Drop>(
     alloc: Global,
     orders: &[Order],
@@ -107,7 +107,7 @@ pub fn verify_units<I: Source, L: Sink, S: Store, W: Write, N: Write + Drop>(
     }
 }
 
-// How a comparison ends that came to its end, where all are the same or one is not.
+// The status of a comparison that completed: all are the same, or one is not.
 fn tell_verified<W: Write>(lines: &mut Lines<W>, orders: &[Order], all_same: bool) -> Status
     requires { has_failed lines.old.output ≡ false }
     ensures told { TellsBare (no_orders orders.now) (if all_same then Status.Good else Status.Refused) result
@@ -122,11 +122,11 @@ fn tell_verified<W: Write>(lines: &mut Lines<W>, orders: &[Order], all_same: boo
     tell_bare(lines, orders.is_empty(), ended)
 }
 
-/// Asks the units at these short addresses, each at most 63, or at all where none is named, over streams that haven't
+/// Asks the units at these short addresses, each at most 63, or at all if none is named, over streams that haven't
 /// failed, as `scan_units` does: a line for each unit that answers and one for their number, or one for the fault that
 /// ends it, 2 Link, 3 Line, 4 End or 6 TooLong.
 ///
-/// Where `lines` fails it is 7 Out, or there stands a first part of the fault's line.
+/// If `lines` fails, it is 7 Out, or a first part of the fault's line is written.
 pub fn scan<I: Source, L: Sink, S: Store, W: Write>(
     alloc: Global,
     addresses: &[u8],

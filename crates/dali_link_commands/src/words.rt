@@ -6,12 +6,12 @@ ghost use Rattle.dali_link_commands.specs.Told.{IsPlain};
 use dali_text::Escaped;
 use std::alloc::{AllocError, Global};
 
-// What the system's words end with where the command may open no more files, and what to do then.
+// The end of the system's words if the command may open no more files, and what to do then.
 const TOO_MANY_FILES: &str = "(os error 24)";
 
 const MORE_FILES: &str = "raise the limit, as by ulimit -n 1024";
 
-/// What was made of words, as it is shown; none where there is no memory for that.
+/// Words as they are shown; none if there is no memory for that.
 pub(crate) fn plain_words(alloc: Global, made: Option<String>) -> Option<String>
     ensures { IfSome result (λ words. IsPlain (string_bytes words)) }
 {

@@ -1,5 +1,5 @@
--- What a person is told, on an output of its own: lines of printable characters, and of a thing that has a number, as
--- an item of a list, lines that begin with it.
+-- The notes for a person, on an output of their own: lines of printable characters, and of a thing that has a number,
+-- as an item of a list, lines that begin with it.
 use Rattle.std.specs.Prelude.{◌≡◌, ◌<◌, ◌⊎◌, ℕ, zero, suc, false, List, [], ◌++◌, Option, codes, decimal}
 use Rattle.std.specs.List.{AllByRecursion}
 use Rattle.std.specs.Io.KnownBytes.{Appends}
@@ -31,7 +31,7 @@ front_text (Order what number order) = order_front what.now number order
 abbrev pub IsLine : List ℕ → List ℕ → Type 0
 IsLine front line = (words : List ℕ) × ArePlain words × (line ≡ front ++ words ++ codes "\n")
 
--- so many lines that begin so, one behind the other
+-- this many lines that begin so, one after the other
 abbrev pub AreLines : List ℕ → ℕ → List ℕ → Type 0
 AreLines front zero text = text ≡ []
 AreLines front (suc count) text = (lines : List ℕ) × (line : List ℕ) × AreLines front count lines × IsLine front line
@@ -46,7 +46,7 @@ abbrev pub SomeAbout : List ℕ → ℕ → List ℕ → Type 0
 SomeAbout what number text = SomeLines (number_front what number) text
     ⊎ ((order : ℕ) × SomeLines (order_front what number order) text)
 
--- so far as the output has not failed, it took a text that is so
+-- unless the output has failed, it took a text of this form
 abbrev pub Tells : {N : Type 0} → (N → Option (List ℕ)) → Output N → Output N → (List ℕ → Type 0) → Type 0
 Tells contents old new IsSo = has_failed new ≡ false → (has_failed old ≡ false)
     × ((text : List ℕ) × IsSo text × Appends (held contents old) (held contents new) text)

@@ -4,8 +4,8 @@ use crate::repeats::Repeats;
 use dali_bank::{Field, Order};
 use std::alloc::Global;
 
-/// What is told of an item that is accepted, where there is something: that an earlier one of the list has its number
-/// and is another order, which of its keys stand there again, and that its GTIN is zeros alone.
+/// The note on an item that is accepted, if there is something: that an earlier one of the list has its number and is
+/// another order, which of its keys occur there again, and that its GTIN is zeros alone.
 pub fn note_of_accepted(
     alloc: Global,
     item: u64,

@@ -7,7 +7,7 @@ use dali_input::TEXT_LIMIT;
 use std::alloc::Global;
 
 /// Why an input is no text of a bank: what it is instead, the first character that is no hexadecimal digit, or how many
-/// digits it has. Nothing where it is one.
+/// digits it has. Nothing if it is one.
 pub fn note_of_bank(alloc: Global, input: &[u8]) -> Note {
     if input.len() > TEXT_LIMIT as usize {
         return note_of_size(alloc, TEXT_LIMIT as usize);
@@ -23,7 +23,7 @@ pub fn note_of_bank(alloc: Global, input: &[u8]) -> Note {
     note
 }
 
-// Tells where a text of hexadecimal digits has an odd number of them, or too many.
+// Notes if a text of hexadecimal digits has an odd number of them, or too many.
 fn note_size(note: &mut Note, input: &[u8]) {
     let count = input.iter().filter(|byte| !is_blank(**byte)).count();
     let bytes = count / 2;

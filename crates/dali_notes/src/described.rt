@@ -2,7 +2,7 @@ use dali_input::Shallow;
 use dali_text::Escaped;
 use std::fmt;
 
-/// What stands at a place of a JSON value, in a few words.
+/// The value at a place of JSON, in a few words.
 #[derive(Clone, Copy)]
 pub struct Described<'a>(pub Option<Shallow<'a>>);
 

@@ -4,7 +4,7 @@ use std::io::{ErrorKind, Write};
 /// The most lines that are taken.
 pub(crate) const MOST_LINES: usize = 1000;
 
-// What stands behind them, where there are more.
+// The line after them, if there are more.
 const LEFT_OUT: &[u8] = b"more is left out: these are the first 1000 lines\n";
 
 /// A writer that takes the first thousand lines. At more it tells that they are left out, and fails from then on, as
@@ -14,7 +14,7 @@ pub struct FirstLines<W> {
     writer: W,
     // How many lines more it takes.
     left: usize,
-    // Whether it was told that lines are left out.
+    // Whether the line was written that more lines are left out.
     is_closed: bool,
 }
 

@@ -4,7 +4,7 @@ use std::cmp::Ordering;
 // The most that a block has.
 const MOST: usize = 512;
 
-/// What is known of the first order under a number: which item it was, and a sum over its unit and its updates.
+/// The first order under a number as far as it is kept: which item it was, and a sum over its unit and its updates.
 #[derive(Clone, Copy)]
 pub(crate) struct First {
     pub id: u64,
@@ -29,7 +29,7 @@ impl Firsts {
         }
     }
 
-    // The earlier order of this number, where there is one; else this one is added.
+    // The earlier order of this number, if there is one; else this one is added.
     pub(crate) fn earlier_or_add(&mut self, first: First) -> Result<Option<First>, AllocError> {
         let at = self.room_for(first.id)?;
         let Some(block) = self.blocks.get_mut(at) else {
@@ -69,7 +69,7 @@ impl Firsts {
         Ok(self.block_of(id))
     }
 
-    // Puts the upper half of a block into one of its own behind it.
+    // Puts the upper half of a block into one of its own after it.
     fn split(&mut self, at: usize, next: usize) -> Result<(), AllocError> {
         let Some(block) = self.blocks.get_mut(at) else {
             return Ok(());

@@ -2,7 +2,7 @@ use dali_bank::Field;
 use dali_text::Letter;
 use std::fmt;
 
-/// What of a text a field doesn't take, where the text tells: `; it has ...`, or nothing.
+/// The part of a text that a field doesn't take, if the text shows it: `; it has ...`, or nothing.
 #[derive(Clone, Copy)]
 pub(crate) struct Flaw<'a> {
     pub field: Field,
@@ -74,7 +74,7 @@ fn tell_gtin<W: fmt::Write>(f: &mut fmt::Formatter<W>, text: &str) -> fmt::Resul
     }
 }
 
-// The check digit behind these digits (GS1): from the right each digit counts three times and once in turn, and the
+// The check digit after these digits (GS1): from the right each digit counts three times and once in turn, and the
 // check digit makes of the sum a multiple of ten.
 fn check_digit(front: &[u8]) -> u32 {
     let mut sum = 0u32;
@@ -100,7 +100,7 @@ fn tell_digits<W: fmt::Write>(f: &mut fmt::Formatter<W>, text: &str) -> fmt::Res
     write!(f, "; it has {count} digits")
 }
 
-// Tells what keeps a text from being one of so many characters: a character, its length, or both.
+// Tells what keeps a text from being one of this many characters: a character, its length, or both.
 fn tell_text<W: fmt::Write>(f: &mut fmt::Formatter<W>, text: &str, most: usize) -> fmt::Result {
     tell_letter(f, text, Letters::Plain)?;
     let count = text.chars().count();

@@ -1,13 +1,13 @@
 use std::fmt;
 
-/// What each line of a note begins with.
+/// The beginning of each line of a note.
 #[derive(Clone, Copy)]
 pub enum Front<'a> {
     /// Nothing: its words tell the place.
     Nothing,
-    /// What a thing is, as `unit`, and its number.
+    /// The kind of a thing, as `unit`, and its number.
     Numbered(&'a str, u64),
-    /// What an order is, as `item` or `event`, its place, counted from 1, and its number.
+    /// The kind of an order, as `item` or `event`, its place, counted from 1, and its number.
     Order(&'a str, u64, u64),
 }
 

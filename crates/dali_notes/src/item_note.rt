@@ -9,7 +9,7 @@ use dali_input::{Item, ItemFault, Members, Shallow, field_fault};
 use std::alloc::Global;
 
 /// All that is wrong with an item that is refused for a fault, a line each. Of its keys, those that orders don't have,
-/// and those that stand there again, are among these.
+/// and those that occur there again, are among these.
 pub fn note_of_item(alloc: Global, item: &Item<'_>, keys: &[&str], fault: ItemFault) -> Note {
     let members = &item.members;
     let mut note = Note::of_order(alloc, whole(members.order));
@@ -30,7 +30,7 @@ pub fn note_of_item(alloc: Global, item: &Item<'_>, keys: &[&str], fault: ItemFa
     note
 }
 
-// The whole number that stands there.
+// The whole number that is there.
 fn whole(value: Option<Shallow<'_>>) -> Option<u64> {
     match value {
         Some(Shallow::Number(number)) => number.as_u64(),
@@ -38,13 +38,13 @@ fn whole(value: Option<Shallow<'_>>) -> Option<u64> {
     }
 }
 
-// Tells where the order's or the unit's number is none.
+// Notes if the order's or the unit's number is none.
 fn note_numbers(note: &mut Note, members: &Members<'_>) {
     note_number(note, "order", members.order, u64::MAX);
     note_number(note, "unit", members.unit, u64::from(MOST_ADDRESS));
 }
 
-// Tells where what stands at a key is no whole number.
+// Notes if the value at a key is no whole number.
 fn note_number(note: &mut Note, key: &str, value: Option<Shallow<'_>>, most: u64) {
     if whole(value).is_none() {
         let found = Described(value);
@@ -52,7 +52,7 @@ fn note_number(note: &mut Note, key: &str, value: Option<Shallow<'_>>, most: u64
     }
 }
 
-/// Tells a key that orders don't have, or that stands there again.
+/// Notes a key that orders don't have, or that occurs there again.
 pub(crate) fn note_key(note: &mut Note, key: &str) {
     if key == "order" || key == "unit" {
         note_again(note, key);
@@ -73,12 +73,12 @@ pub(crate) fn note_key(note: &mut Note, key: &str) {
     }
 }
 
-// Tells that a key stands there again.
+// Notes that a key occurs there again.
 fn note_again(note: &mut Note, key: &str) {
     note.add(format_args!("{key}: the key stands there more than once, and the last one counts"));
 }
 
-// Tells where a unit's number is no short address.
+// Notes if a unit's number is no short address.
 fn note_address(note: &mut Note, members: &Members<'_>) {
     match whole(members.unit) {
         Some(unit) if unit > u64::from(MOST_ADDRESS) => {
@@ -90,7 +90,7 @@ fn note_address(note: &mut Note, members: &Members<'_>) {
     }
 }
 
-// Tells where a field doesn't take what is given to it.
+// Notes if a field doesn't take what is given to it.
 fn note_field(note: &mut Note, field: Field, value: Option<Shallow<'_>>) {
     let Some(given) = value else {
         return;
@@ -134,7 +134,7 @@ fn note_whole(note: &mut Note, members: &Members<'_>, fault: ItemFault) {
     }
 }
 
-// What a field takes.
+// The values that a field takes.
 fn rule_of(field: Field) -> &'static str {
     match field {
         Field::Gtin => "a string of 8, 12, 13 or 14 digits, the last its check digit, or null",

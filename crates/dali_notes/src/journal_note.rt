@@ -3,7 +3,7 @@ use crate::note::Note;
 use dali_journal::JournalFault;
 use std::alloc::Global;
 
-/// Why an input that looks like this is no journal, where it is refused for a fault.
+/// Why an input that looks like this is no journal, if it is refused for a fault.
 pub fn note_of_journal(alloc: Global, kind: Option<Kind>, fault: JournalFault) -> Note {
     let mut note = Note::new(alloc);
     match (kind, fault) {

@@ -7,7 +7,7 @@ use json::{MAX_DEPTH, Reader, Scratch};
 use serde_json::Value as Json;
 use std::alloc::Global;
 
-// What a text in UTF-8 may begin with, and JSON may not.
+// A mark that a text in UTF-8 may begin with, and JSON may not.
 const MARK: &[u8] = b"\xef\xbb\xbf";
 
 /// Why an input that is refused for a fault is no list of orders.
@@ -30,7 +30,7 @@ pub fn note_of_orders(alloc: Global, input: &[u8], fault: InputFault) -> Note {
 }
 
 /// Why an input that is refused for a fault is no JSON: where it stops being any, how its characters are spelled, or
-/// what it is instead; or that it is too big, where it was read up to one byte past its limit.
+/// what it is instead; or that it is too big, if it was read up to one byte past its limit.
 pub fn note_of_json(alloc: Global, input: &[u8], fault: InputFault) -> Note {
     let mut note = Note::new(alloc);
     match fault {
@@ -41,7 +41,7 @@ pub fn note_of_json(alloc: Global, input: &[u8], fault: InputFault) -> Note {
     note
 }
 
-/// Why an input is too big that may have so many bytes at most.
+/// Why an input is too big that may have this many bytes at most.
 pub fn note_of_size(alloc: Global, most: usize) -> Note {
     let mut note = Note::new(alloc);
     note.add(format_args!("the input has more than {most} bytes, the most that it may have"));
@@ -72,7 +72,7 @@ fn without_mark(input: &[u8]) -> &[u8] {
     input.strip_prefix(MARK).unwrap_or(input)
 }
 
-// What is told of an input that is a file of another program, where its first bytes tell.
+// The note on an input that is a file of another program, if its first bytes show that.
 fn other_file(input: &[u8]) -> Option<&'static str> {
     let text = without_mark(input);
     let (_, text) = text.split_at(blanks_of(text).min(text.len()));
@@ -106,7 +106,7 @@ fn note_spelling(alloc: Global, note: &mut Note, input: &[u8]) {
     }
 }
 
-// Tells where an input stops being JSON, and why, where its bytes tell.
+// Notes where an input stops being JSON, and why, if its bytes show it.
 fn note_place(alloc: Global, note: &mut Note, input: &[u8]) {
     if let Err(error) = str::from_utf8(input) {
         note_no_text(note, input, error.valid_up_to());
@@ -129,15 +129,15 @@ fn note_place(alloc: Global, note: &mut Note, input: &[u8]) {
     note.add(format_args!("{position}: {words}"));
 }
 
-// How many bytes stand in front of where an input stops being JSON. None where it doesn't, or where there is no memory
-// to tell.
+// How many bytes come before the place where an input stops being JSON. None if it doesn't, or if there is no memory to
+// tell.
 fn stop_of(alloc: Global, input: &[u8]) -> Option<usize> {
     let text = str::from_utf8(input).ok()?;
     value_of_text(text, &mut Scratch::new(alloc)).ok()?.err()
 }
 
-// Whether an input that stops being JSON there ends where more had to come: behind all that stands there, or in the
-// middle of a text, a number or a word that may stand there.
+// Whether an input that stops being JSON there ends where more had to come: after all that is there, or in the middle
+// of a text, a number or a word that may be there.
 fn is_cut_short(alloc: Global, input: &[u8], stop: usize) -> bool {
     let (front, rest) = input.split_at(stop.min(input.len()));
     let goes_on = match (last_of(front), rest) {
@@ -150,7 +150,7 @@ fn is_cut_short(alloc: Global, input: &[u8], stop: usize) -> bool {
     goes_on && Json::from_slice(alloc, rest).is_err_and(|error| error.is_eof())
 }
 
-// Tells the byte behind so many that is no UTF-8.
+// Notes the byte after the first `count` that is no UTF-8.
 fn note_no_text(note: &mut Note, input: &[u8], count: usize) {
     let position = Position::behind(input, count);
     match &input[count.min(input.len())..] {
@@ -164,7 +164,7 @@ fn note_no_text(note: &mut Note, input: &[u8], count: usize) {
     }
 }
 
-// Why an input stops being JSON behind so many of its bytes.
+// Why an input stops being JSON after its first `count` bytes.
 fn trouble_at(alloc: Global, input: &[u8], count: usize) -> &'static str {
     let (front, rest) = input.split_at(count.min(input.len()));
     let value = without_comma(front);
@@ -221,7 +221,7 @@ fn last_of(front: &[u8]) -> Option<u8> {
     front.iter().rev().find(|byte| !is_blank(**byte)).copied()
 }
 
-// What JSON an input is that is no array.
+// The kind of JSON of an input that is no array.
 fn no_list_note(alloc: Global, input: &[u8]) -> Note {
     let mut note = Note::new(alloc);
     let Ok(text) = str::from_utf8(input) else {
@@ -239,7 +239,7 @@ fn no_list_note(alloc: Global, input: &[u8]) -> Note {
     note
 }
 
-// Tells what object stands in place of an array of orders.
+// Notes what object is there in place of an array of orders.
 fn note_object(alloc: Global, note: &mut Note, text: &str) {
     let (mut has_events, mut has_order, mut has_unit) = (false, false, false);
     let mut scratch = Scratch::new(alloc);

@@ -6,7 +6,7 @@ use std::fmt;
 // At least as many bytes as the header of a journal and its first record have.
 const FRONT: usize = 256;
 
-/// What an input looks like that was meant for another command, by its first 4096 bytes (profile).
+/// The kind of file that an input looks like that was meant for another command, by its first 4096 bytes (profile).
 #[derive(Clone, Copy, PartialEq, Eq)]
 pub enum Kind {
     /// It begins as an array of JSON.
@@ -22,7 +22,7 @@ pub enum Kind {
 }
 
 impl Kind {
-    /// What an input looks like, if it looks like any of these.
+    /// The kind that an input looks like, if it looks like any of these.
     pub fn of(alloc: Global, input: &[u8]) -> Option<Kind> {
         if is_journal(alloc, input) {
             return Some(Kind::Journal);

@@ -1,8 +1,10 @@
-//! What a person is told beside an answer (profile): where in an input a fault is, what stands there, and what has to
-//! stand there. The lines are for standard error; an answer never hangs on them.
+//! The notes for a person that go with an answer (profile): where in an input a fault is, what is there, and what has
+//! to be there. The lines are for standard error; an answer never depends on them.
 //!
-//! A `Note` is what is told of one fault. It is told on an `Output` whose failure is let be: later calls write nothing
-//! more there then.
+//! A `Note` holds the lines on one fault. It is written to an `Output` whose failure is ignored: later calls write
+//! nothing more there then.
+//!
+//! A crate of its own: notes are for a person, and no answer depends on them.
 #![tactic(auto)]
 
 mod accepted_note;

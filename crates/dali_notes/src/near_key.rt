@@ -1,6 +1,6 @@
 ghost use Rattle.std.specs.Prelude.{◌≤◌, length};
 
-/// The first of the keys that the text becomes by one change at most, where there is one: a letter more, a letter less,
+/// The first of the keys that the text becomes by one change at most, if there is one: a letter more, a letter less,
 /// another letter, or two neighbours turned. Upper and lower case count as the same.
 pub fn near_key<'a>(text: &str, keys: &[&'a str]) -> Option<&'a str> {
     for &key in keys {
@@ -30,7 +30,7 @@ fn is_near(one: &[u8], other: &[u8]) -> bool {
     }
 }
 
-// How many bytes are the same at the front of both, but for their case.
+// How many bytes are the same at the front of both, except for their case.
 fn common_front(one: &[u8], other: &[u8]) -> usize
     ensures { (result ≤ length one.now) × (result ≤ length other.now) }
 {

@@ -9,22 +9,22 @@ use std::alloc::Global;
 use std::fmt::Display;
 use std::io::Write;
 
-// The most lines that are kept of one note: one more than are told, so that more are told of.
+// The most lines that are kept of one note: one more than are written, so that it shows that there are more.
 const MOST: usize = MOST_LINES + 1;
 
-// What is told where there was no memory for a line.
+// The line if there was no memory for a line.
 const NO_MEMORY: &str = "there is no memory to tell what is wrong";
 
-// What is told in place of words that a terminal might not show as they are.
+// The line in place of words that a terminal might not show as they are.
 const NOT_PLAIN: &str = "what is wrong can't be shown";
 
-/// What a person is told of one fault, line by line (profile). Lines behind the first 1001, and those for which there
+/// The notes for a person on one fault, line by line (profile). Lines after the first 1001, and those for which there
 /// is no memory, are left out.
 #[derive(Drop)]
 pub struct Note {
     alloc: Global,
     lines: Vec<String>,
-    // The number of the order that it is about, where it is about one.
+    // The number of the order that it is about, if it is about one.
     order: Option<u64>,
 }
 
@@ -81,7 +81,7 @@ impl Note {
     }
 }
 
-// Tells the lines, and where there are none, one.
+// Writes the lines, and if there are none, one.
 fn tell_all<N: Write>(
     notes: &mut Output<N>,
     front: Front<'_>,
@@ -113,7 +113,7 @@ fn tell_lines<N: Write>(
     Ok(())
 }
 
-// Tells a line of these words, where a terminal shows them as they are.
+// Writes a line of these words, if a terminal shows them as they are.
 fn tell_line<N: Write>(
     notes: &mut Output<N>,
     front: Front<'_>,
@@ -127,7 +127,7 @@ fn tell_line<N: Write>(
     writeln!(notes, "{front}{words}")
 }
 
-// The words, where they are plain.
+// The words, if they are plain.
 fn plain(words: &str) -> &str
     ensures { ArePlain result.now }
 {

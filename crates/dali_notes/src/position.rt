@@ -4,12 +4,12 @@ use std::fmt;
 /// byte that doesn't go on with one of UTF-8.
 #[derive(Clone, Copy)]
 pub(crate) struct Position<'a> {
-    /// What stands in front of it.
+    /// The words in front of it.
     pub front: &'a [u8],
 }
 
 impl<'a> Position<'a> {
-    /// The position behind so many bytes of an input, or its end.
+    /// The position after this many bytes of an input, or its end.
     pub(crate) fn behind(input: &'a [u8], count: usize) -> Position<'a> {
         Position {
             front: &input[..count.min(input.len())],

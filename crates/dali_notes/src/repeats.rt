@@ -20,9 +20,9 @@ impl Repeats {
         }
     }
 
-    // Tells of an item where an earlier one of the list has its number and is another order: the writer replies
-    // `reused` to the later one, once the earlier has begun. Where there is no memory to remember an order, no more are
-    // told.
+    // Notes an item if an earlier one of the list has its number and is another order: the writer replies
+    // `reused` to the later one, once the earlier has begun. If there is no memory to remember an order, no more are
+    // reported.
     pub(crate) fn add_repeat(&mut self, note: &mut Note, item: u64, order: &Order) {
         if self.is_full {
             return;

@@ -8,7 +8,7 @@ use serde_json::Value as Json;
 use std::alloc::Global;
 use std::fmt;
 
-// Where an object of a scenario stands: the scenario itself, or a place of one of its lists, counted from 0.
+// The place of an object of a scenario: the scenario itself, or a place of one of its lists, counted from 0.
 #[derive(Clone, Copy)]
 enum Path {
     Whole,
@@ -24,7 +24,7 @@ impl fmt::Display for Path {
     }
 }
 
-// What stands before a key in the line that tells of it.
+// The words before a key in the line about it.
 #[derive(Clone, Copy)]
 struct Before(Path);
 
@@ -37,7 +37,8 @@ impl fmt::Display for Before {
     }
 }
 
-/// What in a JSON value isn't of the form of a scenario: a line for each key and each value that can't be so.
+/// The parts of a JSON value that aren't of the form of a scenario: a line for each key and each value that can't be
+/// so.
 pub fn note_of_scenario(alloc: Global, json: &Json) -> Note {
     let mut note = Note::new(alloc);
     if json.as_array().is_some() {
@@ -72,7 +73,7 @@ fn note_each(note: &mut Note, list: &'static str, json: Option<&Json>, members: 
     }
 }
 
-// Tells what is wrong with an object: its keys, and then what stands at them.
+// Notes what is wrong with an object: its keys, and then the values at them.
 fn note_object(note: &mut Note, path: Path, json: &Json, members: &[Member]) {
     if json.as_object().is_none() {
         let found = Described(Some(Shallow::of(json)));
@@ -85,7 +86,7 @@ fn note_object(note: &mut Note, path: Path, json: &Json, members: &[Member]) {
     }
 }
 
-// Tells each key of an object that such an object doesn't have, with the one that may be meant.
+// Notes each key of an object that such an object doesn't have, with the one that may be meant.
 fn note_keys(note: &mut Note, path: Path, json: &Json, members: &[Member]) {
     let Some(object) = json.as_object() else {
         return;
@@ -98,7 +99,7 @@ fn note_keys(note: &mut Note, path: Path, json: &Json, members: &[Member]) {
     }
 }
 
-// Tells a key, where none of the members has it.
+// Notes a key, if none of the members has it.
 fn note_key(note: &mut Note, path: Path, key: &str, members: &[Member]) {
     let mut meant = None;
     for member in members {
@@ -114,7 +115,7 @@ fn note_key(note: &mut Note, path: Path, key: &str, members: &[Member]) {
     }
 }
 
-// Tells what is wrong with what stands at a key.
+// Notes what is wrong with the value at a key.
 fn note_member(note: &mut Note, path: Path, json: &Json, member: Member) {
     let value = json.get(member.key);
     let suits = match value {

@@ -9,7 +9,7 @@ const LEAST_DIGITS: usize = 2 * LEAST_BANK;
 
 const MOST_DIGITS: usize = 2 * MOST_BANK;
 
-/// What a value of a scenario has to be.
+/// The rule for a value of a scenario.
 #[derive(Clone, Copy)]
 pub enum Rule {
     /// A whole number from the least to the most.
@@ -26,12 +26,12 @@ pub enum Rule {
     Plan,
     /// An array.
     List,
-    /// Whatever stands there.
+    /// Any value.
     Anything,
 }
 
 impl Rule {
-    /// Whether the value is so.
+    /// Whether the value follows the rule.
     pub fn suits(&self, json: &Json) -> bool {
         match *self {
             Rule::Whole { least, most } => is_whole(json, least, most),
@@ -77,7 +77,7 @@ pub struct Member {
     pub rule: Rule,
 }
 
-// What a short address has to be.
+// The rule for a short address.
 const ADDRESS: Rule = Rule::Whole {
     least: 0,
     most: MOST_ADDRESS as u64,

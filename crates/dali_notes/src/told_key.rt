@@ -1,7 +1,7 @@
 use dali_text::Escaped;
 use std::fmt;
 
-/// A key as it is told: its first 40 characters, between quotes where it is empty or has a space, so that it is seen.
+/// A key as it is printed: its first 40 characters, between quotes if it is empty or has a space, so that it is seen.
 #[derive(Clone, Copy)]
 pub(crate) struct ToldKey<'a>(pub &'a str);
 

@@ -32,7 +32,7 @@ pub last_took : (told : List Exchange) (unit : ℕ) (bytes : List ℕ) → IsRea
     → AreSoMany (block_frames 1) told
 last_took told unit bytes read = grind (arith, last_so_far, frames_of, turn_frames)
 
--- a whole bank: so many of its locations behind 00h were read by blocks of sixteen, which took so many frames
+-- a whole bank: `count` of its locations after 00h were read by blocks of sixteen, which took `frames` frames
 record BankSoFar (frames count end : ℕ) : Type 0 where
   blocks : ℕ
   frames_are : frames ≡ block_frames 1 + (count + 6 * blocks)
@@ -68,7 +68,7 @@ pub if_next : (b : Bool) (x y : Block) → (if b then Some x else None) ≡ Some
 if_next true x y e = (refl, cc)
 if_next false x y e = cc
 
--- the next block of a bank, behind so many locations
+-- the next block of a bank, after this many locations
 next_count : (last : ℕ) (more : List ℕ) (next : Block) → bank_course (last ∷ more) ≡ Some next
     → (length more < min last 0xFE) × (next.count ≡ min (min last 0xFE - length more) 16)
 next_count last more next is = grind (arith, if_next (nat_lt (length more) (min last 0xFE)) _ next is, ltb-true)

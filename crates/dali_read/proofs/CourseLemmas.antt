@@ -60,7 +60,7 @@ in_row location [] index below = absurd (omega arith)
 in_row location (update ∷ updates) zero below = grind (arith, eqb-true)
 in_row location (update ∷ updates) (suc index) below = grind (arith, in_row (suc location) updates index)
 
--- the places behind so many updates
+-- the places after this many updates
 drop_get : (updates : List (ℕ × ℕ)) (before index number : ℕ) → number ≡ before + index
     → slice_get (own_places updates) number ≡ slice_get (own_places (drop before updates)) index
 drop_get updates zero index number is = grind arith
@@ -77,20 +77,20 @@ row_here : (updates : List (ℕ × ℕ)) (this : Block) → row_of updates ≡ S
 row_here [] this next = cc
 row_here (update ∷ updates) this next = grind (arith, in_row)
 
--- the row behind so many updates
+-- the row after this many updates
 row_follows : (updates : List (ℕ × ℕ)) (before : ℕ) (this : Block) → row_of (drop before updates) ≡ Some this
     → At (λ index. slice_get (own_places updates) index) before this
 row_follows updates before this next index below =
     drop_get updates before index (before + index) refl ∙ row_here (drop before updates) this next index below
 
--- which block of an order is next, where the first byte suits it
+-- which block of an order is next, if the first byte suits it
 pub picked : (row format : Option Block) (last greatest : ℕ) (this : Block)
     → (if nat_lt last greatest then None else (if nat_lt greatest 0x13 then row else format)) ≡ Some this
     → (greatest ≤ last)
     × (((greatest < 0x13) × (row ≡ Some this)) ⊎ ((0x13 ≤ greatest) × (format ≡ Some this)))
 picked row format last greatest this next = grind (arith, ltb-false, ltb-true)
 
--- behind the first byte of a short order, and behind the third of a long one
+-- after the first byte of a short order, and after the third of a long one
 near_follows : (updates : List (ℕ × ℕ)) (before number : ℕ) (this : Block) → greatest updates < 0x13
     → number ≡ suc before → row_of (drop before updates) ≡ Some this → At (order_place updates) number this
 near_follows updates before number this near is next index below =
@@ -117,7 +117,7 @@ first_follows : (updates : List (ℕ × ℕ)) → At (order_place updates) 0 fir
 first_follows updates zero below = refl
 first_follows updates (suc index) below = absurd (omega arith)
 
--- the row behind the format, if it is this one
+-- the row after the format, if it is this one
 format_row : (right : Bool) (row : Option Block) (this : Block) → (if right then row else None) ≡ Some this
     → row ≡ Some this
 format_row true row this next = next
@@ -186,7 +186,7 @@ bank_long unit (newest ∷ done) in_turn =
     bank_next (bytes_in done) newest.bytes newest.block (bank_long unit done in_turn.0) in_turn.2
     (done_count unit newest.block newest.bytes newest.told in_turn.3)
 
--- What whole readings tell
+-- The bytes of whole readings
 
 pub last_shown : (shows : ℕ → ℕ → Type 0) (told : List Exchange) (unit : ℕ) (bytes : List ℕ)
     → IsRead unit last_course bytes told → Tells shows (λ index. Some index) bytes
@@ -195,7 +195,7 @@ last_shown shows told unit [] read tells = let more = read.over in cc
 last_shown shows told unit (last ∷ []) read tells = (last, refl, tells 0 0x00 last refl refl)
 last_shown shows told unit (last ∷ next ∷ more) read tells = grind (arith, last_long unit read.done read.in_turn)
 
--- it goes on until all are told
+-- it goes on until all are read
 bank_whole : (last : ℕ) (more : List ℕ) → bank_course (last ∷ more) ≡ None → min last 0xFE ≤ length more
 bank_whole last more over = grind (arith, ltb-false)
 

@@ -1,4 +1,4 @@
--- What is found of an order, where each byte is shown at its location.
+-- The finding of an order, if each byte is shown at its location.
 use Rattle.std.proofs.Common.{◌≡◌, inl, inr, refl, sym, ap, subst, ◌∙◌, ℕ, suc, ◌<◌, ◌≤◌, List, [], ◌∷◌, ◌++◌}
 use Rattle.std.proofs.Common.{append-nil, slice_get, arith, Bool, true, false, Some, drop, option_map}
 use Rattle.std.specs.Prelude.{nat_lt, if◌then◌else◌}
@@ -23,7 +23,7 @@ use Rattle.dali_read.proofs.CourseLemmas.{own_places, order_place, near_places, 
 abbrev pub Shown : (ℕ → ℕ → Type 0) → List ℕ → List ℕ → Type 0
 Shown shows places bytes = Tells shows (λ index. slice_get places index) bytes
 
--- each location of these updates shows the own byte, and so on behind them
+-- each location of these updates shows its own byte, and so on after them
 own_shown : (shows : ℕ → ℕ → Type 0) (updates : List (ℕ × ℕ)) (places more : List ℕ)
     → Shown shows (own_places updates ++ places) (own_bytes updates ++ more)
     → AllByRecursion (λ update. shows update.0 update.1) updates × Shown shows places more
@@ -58,7 +58,7 @@ other_shown shows updates bytes location byte shown (before, own, behind, more, 
     (subst (λ (l : List ℕ). Shown shows (own_places updates) l) is shown)) in
     (before, own, behind, parts, both.0, both.1 0 location byte refl refl, other)
 
--- behind the first byte, or the first three
+-- after the first byte, or the first three
 near_shown : (shows : ℕ → ℕ → Type 0) (updates : List (ℕ × ℕ)) (bytes more : List ℕ) (last : ℕ)
     → Tells shows (order_place updates) bytes → greatest updates < 0x13 → bytes ≡ last ∷ more
     → Shown shows (own_places updates) more
@@ -143,7 +143,7 @@ found_so shows updates bytes (Other location byte) tells (last, reach, inr (more
           byte (far_shown shows updates bytes more last 0x00 0x03 tells far is) first,
     )
 
--- the byte that was told of an update's own location is shown there
+-- the byte that was read of an update's own location is shown there
 update_place : (updates : List (ℕ × ℕ)) (index : ℕ) (update : ℕ × ℕ) → slice_get updates index ≡ Some update
     → slice_get (own_places updates) index ≡ Some update.0
 update_place updates index update at =

@@ -9,7 +9,7 @@ use Rattle.dali_read.specs.declared.finding.Finding.TheVariants.{Same, Other, Sh
 use Rattle.dali_read.specs.Findings.{own_bytes, IsFirstOther, IsFound}
 use Rattle.dali_read.specs.Places.{row_of, order_course}
 
--- the elements behind the first so many
+-- the elements after the first `count`
 abbrev pub behind : {A : Type 0} → ℕ → List A → List A
 behind count xs = take (length xs - count) (drop count xs)
 
@@ -20,7 +20,7 @@ pub no_updates : (updates : List (ℕ × ℕ)) (bytes : List ℕ) → length upd
 no_updates [] bytes none = (bytes, refl)
 no_updates (update ∷ updates) bytes none = absurd (omega arith)
 
--- what is so of those behind the first one is so of all, where that one is the update's own
+-- if the first byte is the update's own, a finding for the ones after it holds for all
 further : (update : ℕ × ℕ) (updates : List (ℕ × ℕ)) (bytes : List ℕ) (finding : Finding)
     → IsFirstOther updates bytes finding → IsFirstOther (update ∷ updates) (update.1 ∷ bytes) finding
 further update updates bytes Same (more, is) = (more, ap (λ (l : List ℕ). update.1 ∷ l) is)
@@ -54,13 +54,13 @@ first_is_other [] bytes some more other = absurd (omega arith)
 first_is_other (update ∷ updates) [] some more other = absurd (omega arith)
 first_is_other (update ∷ updates) (byte ∷ bytes) some more other = ([], update.1, updates, bytes, refl, refl, other)
 
--- where no row is left, none of the updates is
+-- if no row is left, none of the updates is
 row_over : (updates : List (ℕ × ℕ)) (count : ℕ) → row_of (drop count updates) ≡ None → length updates ≤ count
 row_over [] count over = omega arith
 row_over (update ∷ updates) zero over = cc
 row_over (update ∷ updates) (suc count) over = let rest = row_over updates count over in omega arith
 
--- the updates have a byte each, behind that of 00h
+-- the updates have a byte each, after that of 00h
 pub enough_plain : (updates : List (ℕ × ℕ)) (bytes : List ℕ) → order_course updates bytes ≡ None → 1 ≤ length bytes
     → greatest updates ≤ slice_index_or bytes 0 0
     → greatest updates < 0x13 → length updates ≤ length (behind 1 bytes)
@@ -75,7 +75,7 @@ enough_plain updates (last ∷ more) over some reaches plain =
       row_over,
     )
 
--- or behind the content format
+-- or after the content format
 pub enough_formatted : (updates : List (ℕ × ℕ)) (bytes : List ℕ) → order_course updates bytes ≡ None
     → 3 ≤ length bytes → greatest updates ≤ slice_index_or bytes 0 0 → 0x13 ≤ greatest updates
     → slice_index_or bytes 1 0 ≡ 0x00 → slice_index_or bytes 2 0 ≡ 0x03 → length updates ≤ length (behind 3 bytes)
@@ -123,7 +123,7 @@ found_formatted updates (last ∷ first ∷ second ∷ more) finding some reache
     by Short never = absurd never
     by Format never = absurd never
 
--- where all is the same nothing else is found
+-- if all is the same nothing else is found
 
 own_both : (one two : List (ℕ × ℕ)) → own_bytes (one ++ two) ≡ own_bytes one ++ own_bytes two
 own_both [] two = refl

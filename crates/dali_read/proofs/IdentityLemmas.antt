@@ -1,4 +1,4 @@
--- What a unit is: its last location, and its GTIN and identification number.
+-- The identity of a unit: its last location, and its GTIN and identification number.
 use Rattle.std.proofs.Common.{◌≡◌, inl, inr, refl, sym, ap, subst, ◌∙◌, ℕ, zero, suc, ◌+◌, ◌<◌, ◌≤◌}
 use Rattle.std.proofs.Common.{nat_lt, Bool, true, false, if◌then◌else◌, List, [], ◌∷◌, ◌++◌, length, Option, Some, None}
 use Rattle.std.proofs.Common.{arith}
@@ -24,7 +24,7 @@ abbrev pub identity_place : ℕ → Option ℕ
 identity_place zero = Some 0x00
 identity_place (suc index) = Some (0x03 + index)
 
--- the second block, where the bank reaches it
+-- the second block, if the bank reaches it
 reaches : (short : Bool) (mine this : Block) → (if short then None else Some mine) ≡ Some this
     → (short ≡ false) × (mine ≡ this)
 reaches true mine this is = cc

@@ -1,4 +1,5 @@
--- Each byte that a reading told was told by a whole read of a block, of the location at which its course reads it.
+-- Each byte that a reading has found came back in a whole read of a block, at the location at which its course reads
+-- it.
 use Rattle.std.proofs.Common.{◌≡◌, ◌⊎◌, inl, inr, sym, ap, subst, ◌∙◌, ℕ, zero, suc, ◌+◌, ◌<◌, List, [], ◌∷◌, ◌++◌}
 use Rattle.std.proofs.Common.{length, append_assoc, Option, Some, slice_get, arith}
 use Rattle.std.proofs.lemmas.Option.{slice_get_within}
@@ -48,7 +49,7 @@ pub place_is : (unit : ℕ) (this : Block) (bytes : List ℕ) (tried : List Exch
     → moved_on this.location index ≡ this.location + index
 place_is unit this bytes tried fits read index byte is = grind (arith, slice_get_within, block_count, moved_is)
 
--- so many bytes were told of a block that was read
+-- one byte came back for each location of a block that was read
 pub done_count : (unit : ℕ) (this : Block) (bytes : List ℕ) (told : List Exchange)
     → Succeeds (each_try (block_requests unit this)) (Some bytes) told → length bytes ≡ this.count
 done_count unit this bytes told done = block_count unit this bytes done.0 (was_read unit this bytes told done)
@@ -58,7 +59,7 @@ abbrev pub BlockShows : (ℕ → ℕ → Type 0) → Done → Type 0
 BlockShows shows done =
     (index byte : ℕ) → slice_get done.bytes index ≡ Some byte → shows (done.block.location + index) byte
 
--- so all that was told is shown
+-- so all bytes that came back are shown
 pub in_turn_tells : (shows : ℕ → ℕ → Type 0) (place : ℕ → Option ℕ) (unit : ℕ) (course : Course)
     → Follows course place → (done : List Done)
     → InTurn unit course done → AllByRecursion (BlockShows shows) done → Tells shows place (bytes_in done)

@@ -40,7 +40,7 @@ record HighRows (updates : List (ℕ × ℕ)) (frames last : ℕ) (more : List �
   rows_are : Rows updates rows (length found)
   suits : (rows ≡ 0) ⊎ ((format_high ≡ 0x00) × (format_low ≡ 0x03))
 
--- what was read, behind 00h, and the frames of it all
+-- the bytes that were read, after 00h, and the frames of all
 abbrev OrderSoFar : List (ℕ × ℕ) → ℕ → ℕ → List ℕ → Type 0
 OrderSoFar updates frames last more =
     ((more ≡ []) × (frames ≡ 7)) ⊎ (LowRows updates frames last more ⊎ HighRows updates frames last more)
@@ -111,7 +111,7 @@ high_step updates frames last more bytes next so is count =
       );
     }
 
--- the block behind 00h
+-- the block after 00h
 first_step : (updates : List (ℕ × ℕ)) (frames last : ℕ) (bytes : List ℕ) (next : Block) (low : Bool)
     → frames ≡ 7 → order_course updates (last ∷ []) ≡ Some next → length bytes ≡ next.count
     → nat_lt (greatest updates) 0x13 ≡ low

@@ -39,7 +39,7 @@ in_turn_sent P unit all course (newest ∷ done) in_turn =
           in_turn.0),
     )
 
--- it holds of all that a reading sent that came to its end
+-- it holds of each frame that a reading sent that came to its end
 pub ends_sent : (P : Frame → Type 0) (unit : ℕ) → OfBlocks P unit → (course : Course) (outcome : Option (List ℕ))
     (told : List Exchange) → Ends unit course outcome told → Sent P told
 ends_sent P unit all course (Some bytes) told read =

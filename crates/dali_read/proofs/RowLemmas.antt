@@ -11,7 +11,7 @@ pub row_within : (location : ℕ) (updates : List (ℕ × ℕ)) → in_a_row loc
 row_within location [] = omega arith
 row_within location (update ∷ updates) = grind (arith, row_within (suc location) updates)
 
--- behind those that are in a row with a block, and have room in it, a new one begins
+-- after those that are in a row with a block, and have room in it, a new one begins
 blocks_on : (room next : ℕ) (updates : List (ℕ × ℕ))
     → blocks_behind room next updates ≡ blocks_behind 0 0 (drop (min (in_a_row next updates) room) updates)
 blocks_on room next [] = grind arith
@@ -30,7 +30,7 @@ blocks_on (suc room) next (update ∷ updates) = by (update.0 == next) (blocks_o
         rw count rest
     by false rest = let none : min 0 (suc room) ≡ 0 = omega arith in rw none refl
 
--- so many of the updates were read, by blocks that took so many frames
+-- `count` of the updates were read, by blocks that took `frames` frames
 pub record Rows (updates : List (ℕ × ℕ)) (frames count : ℕ) : Type 0 where
   pub blocks : ℕ
   pub frames_are : frames ≡ count + 6 * blocks
@@ -82,7 +82,7 @@ no_row : (updates : List (ℕ × ℕ)) → row_of updates ≡ None → updates �
 no_row [] is = refl
 no_row (update ∷ updates) is = cc
 
--- behind the last row
+-- after the last row
 pub all_rows : (updates : List (ℕ × ℕ)) (frames count : ℕ) → Rows updates frames count
     → row_of (drop count updates) ≡ None
     → frames ≡ length updates + 6 * blocks_behind 0 0 updates

@@ -1,4 +1,4 @@
--- What readings end with on the simulated bus, where little is lost, course by course.
+-- The ends of readings on the simulated bus, if little is lost, course by course.
 use Rattle.std.proofs.Common.{◌≡◌, refl, ap, ◌∙◌, ℕ, List, [], ◌∷◌, Option, Some}
 use Rattle.std.proofs.Common.{arith}
 use Rattle.std.specs.Prelude.{slice_get}

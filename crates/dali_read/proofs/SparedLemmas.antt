@@ -99,7 +99,7 @@ went loses at course place unit (newest ∷ done) first last run keeps_power alo
       );
     }
 
--- a reading that loses little comes to its end, and tells what the bank has
+-- a reading that loses little comes to its end, and tells the bytes of the bank
 pub ends_read : (loses : ℕ → Type 0) (at : ℕ) (course : Course) (place : ℕ → Option ℕ) (unit : UnitState)
     (outcome : Option (List ℕ)) (told : List Exchange) (first last : SimState)
     (spared : SparedAlong loses at unit told first last)

@@ -44,7 +44,7 @@ turn_limit unit course (newest ∷ done) turn =
       length-append newest.told (told_in done),
     )
 
--- where no byte was read no block was
+-- if no byte was read no block was
 pub none_done : (unit : ℕ) (course : Course) (done : List Done) → InTurn unit course done → bytes_in done ≡ []
     → done ≡ []
 none_done unit course [] turn none = refl
@@ -61,7 +61,7 @@ pub added : (unit : ℕ) (course : Course) (newest : Done) (done : List Done)
     → InTurn unit course (newest ∷ done) → length newest.bytes ≡ newest.block.count
 added unit course newest done turn = done_count unit newest.block newest.bytes newest.told turn.3
 
--- each block that is next keeps the frames of all within so many
+-- each block that is next keeps the frames of all within `most`
 abbrev pub IsFew : ℕ → Course → ℕ → Type 0
 IsFew unit course most =
     (done : List Done) (next : Block) → InTurn unit course done → course (bytes_in done) ≡ Some next
@@ -72,7 +72,7 @@ few_done : (unit : ℕ) (course : Course) (most : ℕ) → IsFew unit course mos
 few_done unit course most few [] turn = omega arith
 few_done unit course most few (newest ∷ done) turn = few done newest.block turn.0 turn.2
 
--- so a reading takes no more than so many times the most tries, however it ends
+-- so a reading takes no more than `most` times the most tries, however it ends
 pub ends_limit : (unit : ℕ) (course : Course) (most : ℕ) → IsFew unit course most → (told : List Exchange)
     (outcome : Option (List ℕ))
     → Ends unit course outcome told → length told ≤ most_tries * most

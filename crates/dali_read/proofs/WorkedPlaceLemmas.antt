@@ -27,7 +27,7 @@ bank_goes_on = refl
 pub bank_ends : (bank_course (0x77 ∷ filled 112) ≡ Some (block 0x71 7)) × (bank_course (0x77 ∷ filled 119) ≡ None)
 bank_ends = (refl, refl)
 
--- FFh isn't read, and where the last location is 00h nothing more is
+-- FFh isn't read, and if the last location is 00h nothing more is
 pub up_to_feh : (bank_course (0xFF ∷ filled 240) ≡ Some (block 0xF1 14)) × (bank_course (0xFF ∷ filled 254) ≡ None)
 up_to_feh = (refl, refl)
 
@@ -37,7 +37,7 @@ fe_is_read = refl
 pub nothing_more : (bank_course (0x00 ∷ []) ≡ None) × (last_course (0x77 ∷ []) ≡ None)
 nothing_more = (refl, refl)
 
--- Which blocks of what a unit is: none behind 00h where the bank ends at 0Fh
+-- The blocks of a unit's identity: none after 00h if the bank ends at 0Fh
 
 pub identity_blocks : (identity_course [] ≡ Some (block 0x00 1)) × (identity_course (0x10 ∷ []) ≡ Some (block 0x03 14))
     × (identity_course (0xFF ∷ []) ≡ Some (block 0x03 14))
@@ -81,7 +81,8 @@ pub split_row : (order_course (row 0x20 17) (0x77 ∷ 0x00 ∷ 0x03 ∷ filled 1
     × (order_course (row 0x20 17) (0x77 ∷ 0x00 ∷ 0x03 ∷ filled 17) ≡ None)
 split_row = (refl, refl)
 
--- what was read of an order's own locations: behind the last location, and from 13h on behind the content format
+-- the bytes that were read of an order's own locations: after the last location, and from 13h on after the content
+-- format
 pub own_bytes_told : (told_bytes four_updates (0x10 ∷ 1 ∷ 2 ∷ []) ≡ 1 ∷ 2 ∷ [])
     × (told_bytes five_updates (0x13 ∷ 0x00 ∷ 0x03 ∷ 1 ∷ 2 ∷ []) ≡ 1 ∷ 2 ∷ [])
     × (told_bytes ((0x12, 7) ∷ []) (0x20 ∷ 8 ∷ []) ≡ 8 ∷ [])
@@ -126,7 +127,7 @@ so_many n are = grind (arith, miss_length n, one_miss n)
 pub many_enough : (n : ℕ) → (11 ≤ n) × (n ≤ 33) → AreSoMany 12 (after_a_miss n)
 many_enough n (least, most) = let all = miss_length n in let one = one_miss n in (omega arith, omega arith)
 
--- What is found
+-- Places that are found
 
 pub same_found : IsFound three_updates (0x13 ∷ 0x00 ∷ 0x03 ∷ 7 ∷ 8 ∷ 9 ∷ []) Same
 same_found = (0x13, omega arith, inr (7 ∷ 8 ∷ 9 ∷ [], refl, omega arith, ([], refl)))
@@ -162,7 +163,7 @@ short_found = (0x12, [], refl, omega arith)
 pub format_found : IsFound five_updates (0x13 ∷ 0x01 ∷ 0x03 ∷ []) Format
 format_found = (0x13, 0x01, 0x03, [], refl, omega arith, omega arith, λ right. omega (arith, right.0))
 
--- What isn't
+-- Places that aren't found
 
 pub reaching_isnt_short : IsFound five_updates (0x13 ∷ []) Short → ⊥
 reaching_isnt_short (last, more, is, short) = let same : 0x13 ≡ last = cc in omega arith
@@ -217,7 +218,7 @@ own_isnt_other (last, reaches, inl (more, is, near, other)) = omega arith
 own_isnt_other (last, reaches, inr (more, is, far, (before, own, behind, rest, parts, bytes, differs))) =
     grind (arith, splits before behind 0x04 own parts)
 
--- What a bank holds
+-- The bytes of a bank
 
 pub bank_finds_other : Finds (Holds other_bank) three_updates (Other 0x04 6)
 bank_finds_other = (
@@ -237,7 +238,7 @@ bank_has_no_such_byte (suits, (before, own, behind, parts, each, here, differs))
 pub own_byte_isnt_other : Finds (Holds other_bank) three_updates (Other 0x03 7) → ⊥
 own_byte_isnt_other (suits, (before, own, behind, parts, each, here, differs)) = grind (arith, splits)
 
--- a bank that names 03h as its last location doesn't suit, whatever stands behind it
+-- a bank that names 03h as its last location doesn't suit, whatever follows it
 pub named_too_short : Finds (Holds (0x03 ∷ 1 ∷ 0xFF ∷ 7 ∷ 8 ∷ [])) ((0x03, 7) ∷ (0x04, 8) ∷ []) Same → ⊥
 named_too_short (suits, each) = grind (arith, same_byte 0x03 suits.0 suits.1)
 

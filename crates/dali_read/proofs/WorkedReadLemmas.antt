@@ -38,7 +38,7 @@ all_missed this (suc misses) = (missed_try, missed_tries misses, refl, one_misse
 two_fit : Fits two_locations
 two_fit = record { some = omega arith; few = omega arith; within = omega arith }
 
--- What a reading tells
+-- The bytes that a reading tells
 
 abbrev last_done : Done
 last_done = record { block = first_block; bytes = 0x77 ∷ []; told = last_read }
@@ -164,12 +164,12 @@ silent_after_eight =
       told_are = refl;
     }
 
--- where the last location's block is next none was read
+-- if the last location's block is next none was read
 next_of_last : (unit : ℕ) (done : List Done) (next : Block) → InTurn unit last_course done
     → last_course (bytes_in done) ≡ Some next → (done ≡ []) × (first_block ≡ next)
 next_of_last unit done next turn is = grind (arith, none_done)
 
--- and then all that was told is of that block
+-- and then all exchanges are of that block
 all_of_last : (unit : ℕ) (done : List Done) (next : Block) (newer told : List Exchange) → InTurn unit last_course done
     → last_course (bytes_in done) ≡ Some next → newer ++ told_in done ≡ told → newer ≡ told
 all_of_last unit done next newer told turn is parts = grind (arith, next_of_last, append-nil)
@@ -226,7 +226,7 @@ no_other_next frame reading =
 
 -- When a byte was there
 
--- a byte that was told was at its location in a world between the first and the last
+-- a byte that came back was at its location in a world between the first and the last
 pub was_there : (loses : ℕ → Type 0) (told : List Exchange) (first last : World) (unit location byte : ℕ)
     → WhenTold loses told first last unit location byte
     → (reached : World) × (byte_at reached unit 1 location ≡ Some byte)

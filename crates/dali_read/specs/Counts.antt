@@ -7,11 +7,11 @@ use Rattle.dali_read.specs.declared.finding.Finding.{Finding}
 use Rattle.dali_read.specs.declared.finding.Finding.TheVariants.{Short, Format}
 use Rattle.dali_write.specs.Blocks.{most_locations}
 
--- the frames of a block read of so many locations
+-- the frames of a block read of this many locations
 abbrev pub block_frames : ℕ → ℕ
 block_frames count = count + 6
 
--- those of so many locations in a row
+-- those of this many locations in a row
 abbrev pub row_frames : ℕ → ℕ
 row_frames count = count + 6 * ((count + 15) / most_locations)
 
@@ -23,8 +23,8 @@ bank_frames last = block_frames 1 + row_frames (min last 0xFE)
 abbrev pub identity_frames : ℕ → ℕ
 identity_frames last = block_frames 1 + (if nat_lt last 0x10 then 0 else block_frames 14)
 
--- The blocks of these updates, where this location is next to that of the update before them, whose block has room for
--- so many more.
+-- The blocks of these updates, if this location is next to that of the update before them, whose block has room for
+-- `room` more.
 abbrev pub blocks_behind : ℕ → ℕ → List (ℕ × ℕ) → ℕ
 blocks_behind room next [] = 0
 blocks_behind zero next (update ∷ updates) = 1 + blocks_behind 15 (suc update.0) updates
@@ -37,7 +37,7 @@ order_frames updates =
     block_frames 1 + (if nat_lt (greatest updates) 0x13 then 0 else block_frames 2)
     + (length updates + 6 * blocks_behind 0 0 updates)
 
--- these are so many frames, and for each miss at most those of a whole block more
+-- these are `frames` frames, and for each miss at most those of a whole block more
 abbrev pub AreSoMany : ℕ → List Exchange → Type 0
 AreSoMany frames told =
     (frames ≤ length told) × (length told ≤ frames + block_frames most_locations * misses_in told)

@@ -1,4 +1,4 @@
--- What the bytes that were read for an order say of it.
+-- The finding that the bytes read for an order show.
 use Rattle.std.specs.Prelude.{◌≡◌, ◌≢◌, ◌⊎◌, ◌≤◌, ◌<◌, ℕ, List, ◌∷◌, ◌++◌, drop, map, nat_lt, if◌then◌else◌}
 use Rattle.dali_write.specs.Plans.{greatest}
 use Rattle.dali_read.specs.declared.finding.Finding.{Finding}
@@ -17,7 +17,7 @@ IsFirstOther updates bytes (Other location byte) =
 IsFirstOther updates bytes Short = ⊥
 IsFirstOther updates bytes Format = ⊥
 
--- The first byte is that of 00h. Where an update is at 13h or above the next two are the content format, and else what
+-- The first byte is that of 00h. If an update is at 13h or above the next two are the content format, and else what
 -- follows is that of the updates.
 abbrev pub IsFound : List (ℕ × ℕ) → List ℕ → Finding → Type 0
 IsFound updates bytes Short = (last : ℕ) × (more : List ℕ) × (bytes ≡ last ∷ more) × (last < greatest updates)
@@ -31,7 +31,7 @@ IsFound updates bytes found = (last : ℕ) × (greatest updates ≤ last) × IsB
       ⊎ ((more : List ℕ) × (bytes ≡ last ∷ 0x00 ∷ 0x03 ∷ more) × (0x13 ≤ greatest updates)
       × IsFirstOther updates more found)
 
--- What was read of the updates' own locations, one behind the other: what stands behind the last location, and where
--- an update is at 13h or above behind the content format.
+-- The bytes that were read of the updates' own locations, one after the other: those after the last location, or, if an
+-- update is at 13h or above, after the content format.
 abbrev pub told_bytes : List (ℕ × ℕ) → List ℕ → List ℕ
 told_bytes updates bytes = drop (if nat_lt (greatest updates) 0x13 then 1 else 3) bytes

@@ -26,13 +26,13 @@ bank_course (last ∷ more) =
     then Some (block (suc (length more)) (min (min last 0xFE - length more) most_locations))
     else None
 
--- 00h, and where that names 10h or a location behind it 03h to 10h, which are the GTIN and the identification number
+-- 00h, and if that names 10h or a location after it, 03h to 10h, which are the GTIN and the identification number
 abbrev pub identity_course : Course
 identity_course [] = Some first_block
 identity_course (last ∷ []) = if nat_lt last 0x10 then None else Some (block 0x03 14)
 identity_course (last ∷ byte ∷ more) = None
 
--- so many of the updates, from the first one on, are in a row from this location on
+-- how many of the updates, from the first one on, are in a row from this location on
 abbrev pub in_a_row : ℕ → List (ℕ × ℕ) → ℕ
 in_a_row location [] = 0
 in_a_row location (update ∷ updates) = if update.0 == location then suc (in_a_row (suc location) updates) else 0
@@ -42,8 +42,8 @@ abbrev pub row_of : List (ℕ × ℕ) → Option Block
 row_of [] = None
 row_of (update ∷ updates) = Some (block update.0 (min (in_a_row update.0 (update ∷ updates)) most_locations))
 
--- The last location; the content format at 11h and 12h, where an update is at 13h or above; and where these suit the
--- updates all of their locations, row by row.
+-- The last location; the content format at 11h and 12h, if an update is at 13h or above; and if these suit the updates,
+-- all of their locations, row by row.
 abbrev pub order_course : List (ℕ × ℕ) → Course
 order_course updates [] = Some first_block
 order_course updates (last ∷ more) =

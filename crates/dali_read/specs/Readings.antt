@@ -52,7 +52,7 @@ pub record IsSilent (unit : ℕ) (course : Course) (told : List Exchange) : Type
   pub fails : Misses (each_try (block_requests unit block)) most_tries missed
   pub told_are : missed ++ told_in done ≡ told
 
--- what a reading ends with: its bytes, or none where the unit was silent
+-- what a reading ends with: its bytes, or none if the unit was silent
 abbrev pub Ends : ℕ → Course → Option (List ℕ) → List Exchange → Type 0
 Ends unit course (Some bytes) told = IsRead unit course bytes told
 Ends unit course None told = IsSilent unit course told

@@ -1,4 +1,4 @@
--- What readings show. Exchanges have the newest first.
+-- The bytes that readings show. Exchanges have the newest first.
 use Rattle.std.specs.Prelude.{◌≡◌, ◌≢◌, ◌⊎◌, ◌<◌, ◌≤◌, ℕ, suc, ◌+◌, min, List, [], ◌∷◌, ◌++◌, length, slice_get}
 use Rattle.std.specs.Prelude.{Some}
 use Rattle.std.specs.List.{AllByRecursion}
@@ -40,8 +40,7 @@ pub record ShowsBank (shows : ℕ → ℕ → Type 0) (bytes : List ℕ) : Type 
   pub count : length bytes ≡ suc (min last 0xFE)
   pub bytes_are : (location byte : ℕ) → slice_get bytes location ≡ Some byte → shows location byte
 
--- These bytes are that of 00h, and where it names 10h or a location behind it those from 03h to 10h, told by block
--- reads.
+-- These bytes are that of 00h, and if it names 10h or a location after it, those from 03h to 10h, told by block reads.
 pub record ShowsIdentity (shows : ℕ → ℕ → Type 0) (bytes : List ℕ) : Type 0 where
   pub last : ℕ
   pub more : List ℕ
@@ -61,7 +60,7 @@ Finds shows updates (Other location byte) =
 Finds shows updates Short = IsTooShort shows updates
 Finds shows updates Format = HasOtherFormat shows updates
 
--- each byte that was told of the updates' own locations is shown by its location
+-- each byte that was read of the updates' own locations is shown by its location
 abbrev pub ShowsTold : (ℕ → ℕ → Type 0) → List (ℕ × ℕ) → List ℕ → Type 0
 ShowsTold shows updates bytes =
     (index byte : ℕ) (update : ℕ × ℕ) → slice_get (told_bytes updates bytes) index ≡ Some byte

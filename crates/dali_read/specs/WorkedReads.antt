@@ -4,7 +4,7 @@ use Rattle.dali_frame.specs.declared.forward.Frame.TheVariants.{Dtr0, Dtr1, AskD
 use Rattle.dali_write.specs.Exchanges.{Exchange}
 use Rattle.dali_write.specs.WorkedAccesses.{sent}
 
--- a try that misses where DTR1 is asked for, and so many of them
+-- a try that misses when DTR1 is asked for, and this many of them
 abbrev pub missed_try : List Exchange
 missed_try = sent (AskDtr1 5) None ∷ sent (Dtr1 0x01) None ∷ []
 
@@ -21,7 +21,7 @@ abbrev pub last_read : List Exchange
 last_read =
     sent (AskDtr1 5) (Some 0x01) ∷ sent (AskDtr0 5) (Some 0x01) ∷ sent (Read 5) (Some 0x77) ∷ four_frames
 
--- a reading of a whole bank that ends at 02h: the block read of 00h, and behind it that of 01h and 02h
+-- a reading of a whole bank that ends at 02h: the block read of 00h, and after it that of 01h and 02h
 abbrev pub first_part : List Exchange
 first_part =
     sent (AskDtr1 5) (Some 0x01) ∷ sent (AskDtr0 5) (Some 0x01) ∷ sent (Read 5) (Some 0x02) ∷ four_frames
@@ -39,12 +39,12 @@ four_updates = (0x03, 7) ∷ (0x04, 8) ∷ (0x05, 9) ∷ (0x10, 7) ∷ []
 abbrev pub five_updates : List (ℕ × ℕ)
 five_updates = four_updates ++ (0x13, 8) ∷ []
 
--- so many updates in a row from a location on
+-- this many updates in a row from a location on
 abbrev pub row : ℕ → ℕ → List (ℕ × ℕ)
 row location zero = []
 row location (suc count) = (location, 7) ∷ row (suc location) count
 
--- so many bytes
+-- this many bytes
 abbrev pub filled : ℕ → List ℕ
 filled count = replicate count 0xFF
 
@@ -59,7 +59,7 @@ small_bank = 0x04 ∷ 1 ∷ 0xFF ∷ 7 ∷ 8 ∷ []
 abbrev pub other_bank : List ℕ
 other_bank = 0x13 ∷ 1 ∷ 0xFF ∷ 7 ∷ 6 ∷ (replicate 12 0 ++ 0x00 ∷ 0x03 ∷ 5 ∷ [])
 
--- the bytes of a GTIN and of an identification number, and a bank that ends behind them
+-- the bytes of a GTIN and of an identification number, and a bank that ends after them
 abbrev pub known_bytes : List ℕ
 known_bytes = 0x00 ∷ 0x03 ∷ 0xA4 ∷ 0x7D ∷ 0x4E ∷ 0xC3 ∷ 1 ∷ 2 ∷ 3 ∷ 4 ∷ 5 ∷ 6 ∷ 7 ∷ 8 ∷ []
 

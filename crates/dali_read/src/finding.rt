@@ -5,7 +5,7 @@ ghost use Rattle.dali_read.specs.Findings.{IsFound, IsFirstOther, told_bytes as 
 use dali_bank::Order;
 use dali_write::greatest_location;
 
-/// How the memory bank 1 of an order's unit stands to the order (profile).
+/// How memory bank 1 of an order's unit compares with the order (profile).
 #[derive(Clone, Copy, PartialEq, Eq)]
 pub enum Finding {
     /// Each location that the order writes holds the order's byte.
@@ -18,7 +18,7 @@ pub enum Finding {
     Format,
 }
 
-/// What the bytes say of the order that were read for it, in the blocks of `Places::Order`, to the end.
+/// The finding that the bytes read for the order show, in the blocks of `Places::Order`, to the end.
 #[tactic(auto, using(crate::proofs::FindingLemmas::found_plain, crate::proofs::FindingLemmas::found_formatted))]
 pub fn compare(order: &Order, bytes: &[u8]) -> Finding
     requires { order_course order.now.updates bytes.now ≡ None }
@@ -36,8 +36,8 @@ pub fn compare(order: &Order, bytes: &[u8]) -> Finding
     }
 }
 
-/// What was read of the locations that the order writes, one behind the other as far as they were read, of all bytes
-/// that were read for it in the blocks of `Places::Order`.
+/// The bytes of the locations that the order writes, one after the other as far as they were read, of all bytes that
+/// were read for it in the blocks of `Places::Order`.
 pub fn told_bytes<'a>(order: &Order, bytes: &'a [u8]) -> &'a [u8]
     ensures { result.now ≡ told order.now.updates bytes.now }
 {

@@ -29,8 +29,8 @@ ghost use Rattle.dali_write.specs.WhenBlock.{WhenBlock};
 ghost use Rattle.dali_read.specs.Counts.{block_frames, bank_frames, identity_frames, order_frames, found_frames};
 ghost use Rattle.dali_read.specs.Counts.{AreSoMany};
 
-/// A block read of one location is the checked read, how many frames one has, and where DTR0 stands behind its reads:
-/// so many further.
+/// A block read of one location is the checked read; the count of frames of a block read; and the location that DTR0
+/// holds after its reads: as many further as there are locations.
 pub fn blocks_are_these()
     ensures place { (location count : ℕ) → location + count ≤ 0xFF → moved_on location count ≡ location + count }
     ensures one { (unit location : ℕ) → location < 0xFF
@@ -50,9 +50,9 @@ pub fn block_reads_are_true()
         → Shows (IsAmong loses) last unit (block.location + index) byte }
 {}
 
-/// What a block read told was there, each byte at its place when its read reached the unit, and from the answer to its
-/// second frame to that to its last one the unit kept its power, whichever units lose theirs before, between and
-/// behind.
+/// Each byte that a block read told was at its place when its read reached the unit. The unit kept its power from the
+/// answer to the second frame of the block read to that to its last one, whichever units lose theirs before, between
+/// and after.
 pub fn block_bytes_were_there()
     ensures { (loses : List ℕ) (newer tried older : List Exchange) (first last : World) (unit : ℕ) (block : Block)
         (bytes : List ℕ)
@@ -61,8 +61,8 @@ pub fn block_bytes_were_there()
         → WhenBlock (IsAmong loses) (newer ++ (tried ++ older)) first last unit block bytes }
 {}
 
-/// What a reading that came to its end tells: a whole bank, what a unit is, or what is found of an order and the bytes
-/// of its own locations, byte by byte by reads of blocks of its own; and when each of these bytes was there.
+/// The bytes of a reading that came to its end: a whole bank, the identity of a unit, or the finding for an order and
+/// the bytes of its own locations, byte by byte by reads of blocks of its own; and when each of these bytes was there.
 pub fn readings_are_true()
     ensures last { (told : List Exchange) (unit : ℕ) (bytes : List ℕ) → IsRead unit last_course bytes told
         → (last : ℕ) × (bytes ≡ last ∷ []) × InBlock told unit 0x00 last }
@@ -80,7 +80,7 @@ pub fn readings_are_true()
         → WhenTold (IsAmong loses) told first last unit location byte }
 {}
 
-/// A reading changes no memory and enables no unit, but for lock bytes of units that lose their power, wherever it
+/// A reading changes no memory and enables no unit, except for lock bytes of units that lose their power, wherever it
 /// ends; and each frame that it sends is proper, sets a register, asks its unit or reads it, and writes nothing.
 pub fn readings_are_quiet()
     ensures ended { (loses : List ℕ) (told : List Exchange) (first last : World) (unit : ℕ) (course : Course)
@@ -99,7 +99,7 @@ pub fn readings_are_quiet()
         → Ends unit course outcome told → AllByRecursion (λ x. IsPassive x.frame) told }
 {}
 
-/// How many frames a reading took that came to its end. However it ends it takes at most those of eight tries of each
+/// The count of frames of a reading that came to its end. However it ends it takes at most those of eight tries of each
 /// block, and while it goes on it took fewer. With those of banks of 120 and 255 locations as numbers.
 pub fn readings_take_exactly()
     ensures last { (told : List Exchange) (unit : ℕ) (bytes : List ℕ) → IsRead unit last_course bytes told
@@ -133,9 +133,9 @@ pub fn readings_take_exactly()
     ensures known { identity_frames 0x10 ≡ 27 }
 {}
 
-/// On the simulated bus, where no fate refuses, no other unit is write-enabled, and the unit keeps its power and loses
-/// less than an access has tries, a reading comes to its end, tells what bank 1 of the unit holds, and misses no more
-/// often than the unit loses. Other units may lose their power meanwhile.
+/// On the simulated bus, if no fate refuses, no other unit is write-enabled, and the unit keeps its power and loses
+/// less than an access has tries, a reading comes to its end, tells the bytes that bank 1 of the unit holds, and misses
+/// no more often than the unit loses. Other units may lose their power meanwhile.
 pub fn spared_readings_succeed()
     ensures last { (loses : List ℕ) (at : ℕ) (unit : UnitState) (outcome : Option (List ℕ)) (told : List Exchange)
         (first last : SimState) (spared : Spared (IsAmong loses) at unit told first last)

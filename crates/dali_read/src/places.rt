@@ -34,14 +34,14 @@ pub enum Places<'a> {
     Last,
     /// 00h, and all up to the location that it names, at most up to FEh.
     Bank,
-    /// 00h, and where that names 10h or a location behind it the GTIN and the identification number, 03h to 10h.
+    /// 00h, and if that names 10h or a location after it, the GTIN and the identification number, 03h to 10h.
     Identity,
-    /// 00h; 11h and 12h where the order writes from 13h on; and, where these suit it, each location that it writes.
+    /// 00h; 11h and 12h if the order writes from 13h on; and, if these suit it, each location that it writes.
     Order(&'a Order),
 }
 
 impl Places<'_> {
-    /// The block that is to be read next, where these bytes were read before: none at the end.
+    /// The next block to read, if these bytes were read before: none at the end.
     pub fn next(&self, bytes: &[u8]) -> Option<Block>
         ensures next { result ≡ course_of self.now bytes.now }
         ensures fits { IfSome result Fits }
@@ -132,7 +132,7 @@ fn row_block(updates: &[(u8, u8)], from: usize) -> Option<Block>
     })
 }
 
-// How many of the updates, at most so many, are in a row from the location on.
+// How many of the updates, at most `most`, are in a row from the location on.
 fn row_length(location: u8, most: u8, updates: &[(u8, u8)]) -> u8
     requires { location + most ≤ 255 }
     ensures value { result ≡ min (in_a_row location updates.now) most }

@@ -1,4 +1,4 @@
--- The fields that are told agree with what was found.
+-- The fields that are reported agree with what was found.
 use Rattle.std.proofs.Common.{◌≡◌, ◌<◌, ◌≤◌, ◌+◌, ◌-◌, ◌∙◌, ◌⊎◌, inl, inr, refl, sym, ap, true≢false, ℕ, Bool, true, false, cond}
 use Rattle.std.proofs.Common.{List, [], ◌∷◌, ◌++◌, drop, length, map, get_or, slice_set, arith}
 use Rattle.std.specs.Prelude.{◌≢◌, nat_lt}
@@ -20,7 +20,7 @@ use Rattle.dali_read.specs.declared.finding.Finding.TheVariants.{Same, Other}
 use Rattle.dali_read.specs.Findings.{IsFirstOther, IsFound, own_bytes, told_bytes}
 use Rattle.dali_report.specs.Differences.{AreDifferences, Difference, as_told, differs, held_bank, updated, wanted_bank}
 
--- ---- what was told of the own locations
+-- ---- the bytes read at the own locations
 
 told_near : (updates : List (ℕ × ℕ)) (bytes more : List ℕ) (last : ℕ) → bytes ≡ last ∷ more
     → greatest updates < 0x13 → told_bytes updates bytes ≡ more
@@ -45,7 +45,7 @@ first_other updates bytes location byte (last, reaches, inl (more, is, near, fir
 first_other updates bytes location byte (last, reaches, inr (more, is, far, first)) =
     rw (told_far updates bytes more last 0x00 0x03 is far) first
 
--- ---- where all is the same
+-- ---- if all is the same
 
 own_told : (updates : List (ℕ × ℕ)) (more : List ℕ) → as_told updates (own_bytes updates ++ more) ≡ updates
 own_told [] [] = refl

@@ -45,7 +45,7 @@ pub laid_next : (updates : List (ℕ × ℕ)) (told bank now : List ℕ) (i plac
 laid_next updates told bank now i place byte d within is there here =
     rw (add-one, is, there, here) (sym (laid_more updates told bank i d within))
 
--- the byte that was told at a place, and the update's own where none was
+-- the byte that was read at a place, and the update's own if none was
 pub told_at : (told : List ℕ) (i own byte : ℕ) → i < length told → byte ≡ get_or told i byte
     → byte ≡ unwrap_or (slice_get told i) own
 told_at [] i own byte within is = absurd (omega arith)

@@ -2,7 +2,7 @@
 use Rattle.std.proofs.Common.{◌≡◌, ◌∙◌, ap₂, refl, codes, ℕ, List, Result, Ok, Err, IfOk, IsOkAnd}
 use Rattle.serde_json.specs.Data.{Data, Members, member, no_members, put}
 
--- where members and a value were made, so are the members with it
+-- if members and a value were made, so are the members with it
 pub put_made : {A V E : Type 0} (members_of : A → Members) (data_of : V → Data) (made : Result A E)
     (value : Result V E) (more : Result A E) (key : List ℕ) (told : Data) (before : Members)
     → IfOk made (λ was. members_of was ≡ before) → IfOk value (λ v. data_of v ≡ told)

@@ -36,14 +36,14 @@ number_of : (id : ℕ) (order : Option Contents) → is_number id (option_map sp
 number_of id None = refl
 number_of id (Some order) = refl
 
--- where no line is wanted none is missed
+-- if no line is wanted none is missed
 pub unwanted : {W : Type 0} (contents : W → Option (List ℕ)) (report : Report W) (text : List ℕ)
     → (has_failed report ≡ true) ⊎ (report.output ≡ None) → has_failed report ≡ false
     → Appends (report_held contents report) (report_held contents report) text
 unwanted contents report text (inl failed) well = cc
 unwanted contents report text (inr none) well = rw none tt
 
--- where one is wanted, this one was written
+-- if one is wanted, this one was written
 pub wanted : {W E : Type 0} (contents : W → Option (List ℕ)) (old new : Report W) (made : Result (Vec ℕ Global) E)
     (text : List ℕ)
     → ((has_failed old ≡ false)
@@ -72,7 +72,7 @@ more_written contents first old new text line before more silent = (
       (now.0, now.1 ∙ then.1),
 )
 
--- where a line is wanted, none has failed
+-- if a line is wanted, none has failed
 pub not_both : {W A : Type 0} (report : Report W) → has_failed report ≡ false → has_failed report ≡ true → A
 not_both report well failed = absurd (true≢false (sym failed ∙ well))
 
@@ -122,7 +122,7 @@ none_yet start (Sent frame answer ∷ past) none = none_yet start past none
 none_yet start (Stopped pace ∷ past) none = none_yet start past none
 none_yet start (Powered unit ∷ past) none = none_yet start past none
 
--- and no exchange behind it
+-- and no exchange after it
 none_since : (past : List Happening) (id : ℕ) (reply : Reply) → is_last_reply (Answered id reply) ≡ true
     → exchanges (Answered id reply ∷ past) ≡ []
 none_since past id reply last = rw last refl
@@ -140,7 +140,7 @@ none_ended start past id (replies.Blocked unit) last = refl
 
 module _ {W : Type 0} (contents : W → Option (List ℕ)) (start : Start) (first old : Report W) (past : List Happening)
     (told : IsTold contents start first old past) (id : ℕ) (reply : Reply) where
-  -- what a report has in hand is what is told at the reply
+  -- the values that a report has in hand are those of the line at the reply
   pub last_is : (records : List Record) → records_of start past ≡ records → (last : LastReply)
       → last ≡ record {
         run = old.run;
@@ -167,7 +167,7 @@ module _ {W : Type 0} (contents : W → Option (List ℕ)) (start : Start) (firs
         number_of id (newly_ended start past),
       ) refl
 
-  -- and what all come to with it
+  -- and the result of all last replies with it
   pub with_last : (done now : Bool) (comes : Outcome) → done ≡ is_well reply
       → now ≡ is_number id old.ended
       → ((had every all_now : Bool) → old.outcome ≡ outcome_by had every all_now

@@ -1,4 +1,4 @@
--- An order of a year and a week at a unit that has this year and no week, and what is near what is told of it.
+-- An order of a year and a week at a unit that has this year and no week, with what is reported of it, and near misses.
 use Rattle.std.proofs.Common.{◌≡◌, ◌∙◌, ap, refl, sym, ℕ, List, [], ◌∷◌, codes, get_or, arith}
 use Rattle.std.proofs.lemmas.Fmt.{decimal_digit}
 use Rattle.std.specs.List.{filter}
@@ -51,7 +51,7 @@ week_is_told = record {
   each = (((Unknown, no_week, refl), (Number 5, fifth_week, sym (decimal_digit 5 (omega arith)))), tt);
 }
 
--- nor is the year told, nor is the week left out
+-- nor is the year reported, nor is the week left out
 abbrev year : Difference
 year = record { field = Year; has = codes "24"; wants = codes "24" }
 
@@ -61,7 +61,7 @@ same_year_is_not_told = λ are. let all = are.all in cc
 pub week_is_not_left_out : ¬ AreDifferences held wanted []
 week_is_not_left_out = λ are. let all = are.all in cc
 
--- nor is told of the unit what the order wants
+-- nor is the unit reported to hold what the order wants
 pub wanted_week_is_not_held : (text : List ℕ) → IsRowText held (Of Week) text → text ≡ codes "unknown"
 wanted_week_is_not_held text (answer, shows, is) =
     let once : answer ≡ Unknown = shown_once Week held answer Unknown shows no_week in
@@ -72,7 +72,7 @@ pub unread_unit_differs_nowhere : (held_bank order [] ≡ wanted) × (held_bank 
     × (held_bank order (0x77 ∷ 0xFF ∷ 0xFF ∷ []) ≡ wanted)
 unread_unit_differs_nowhere = (refl, refl, refl)
 
--- what was told stands in the place of the order's own bytes, as far as it goes
+-- the bytes that were read take the place of the order's own bytes, as far as they go
 pub told_as_far : as_told order.updates (1 ∷ []) ≡ (0x13, 1) ∷ (0x14, 5) ∷ []
 told_as_far = refl
 

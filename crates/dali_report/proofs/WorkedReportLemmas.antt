@@ -1,4 +1,4 @@
--- What a report tells of short traces, and what it holds, by hand, on both sides of each rule.
+-- The lines of a report on short traces, and what it holds, by hand, on both sides of each rule.
 use Rattle.std.proofs.Common.{◌≡◌, ◌∙◌, ◌⊎◌, inl, inr, refl, ℕ, true, false, List, [], ◌∷◌, Option, Some, None, length, codes}
 use Rattle.serde_json.specs.Data.{null, number, unsigned}
 use Rattle.serde_json.specs.Find.{get}
@@ -63,7 +63,7 @@ first_done = Kept (Ended Done) ∷ Kept (Opened 5) ∷ Kept (Began first 0) ∷ 
 abbrev first_said : List Happening
 first_said = Answered 1 (replies.Kept Done) ∷ first_done
 
--- and it is, where a journal had begun it
+-- and it is, if a journal had begun it
 abbrev resumed_done : List Happening
 resumed_done = Kept (Ended Done) ∷ Kept (Opened 5) ∷ []
 
@@ -73,11 +73,11 @@ resumed_said = Answered 1 (replies.Kept Done) ∷ resumed_done
 pub ended_now : (is_ended_now new_start first_done 1 ≡ true) × (is_ended_now begun_start resumed_done 1 ≡ true)
 ended_now = (refl, refl)
 
--- also where the order is taken once more between its end and its reply
+-- also if the order is taken once more between its end and its reply
 pub taken_tells_no_end : is_ended_now new_start (Answered 1 replies.Taken ∷ first_done) 1 ≡ true
 taken_tells_no_end = refl
 
--- once its reply was said, its end stood before: where it is asked again, and where it was resumed and is then asked
+-- once its reply was said, it counts as ended before: if it is asked again, and if it was resumed and is then asked
 pub ended_before :
     (is_ended_now new_start (Asked first 0 ∷ first_said) 1 ≡ false)
     × (is_ended_now begun_start (Asked first 0 ∷ resumed_said) 1 ≡ false)
@@ -121,7 +121,7 @@ one_in_doubt_is_not = refl
 pub taken_has_no_line : (text : List ℕ) → IsReportText 1 new_start (Answered 1 replies.Taken ∷ []) text → text ≡ []
 taken_has_no_line text is = is
 
--- ---- why an order came to no good end
+-- ---- why an order ended badly
 
 -- what is asked anew has no cause yet, and what ended in doubt has one until then
 pub asked_anew_has_no_cause : (past : List Happening) (cause : Option Cause)
@@ -138,7 +138,7 @@ pub cause_is_told :
     × (get (codes "byte") (cause_data (Some (Unread 4))) ≡ Some null) × (cause_data None ≡ null)
 cause_is_told = (refl, refl, refl, refl)
 
--- ---- what all last replies come to
+-- ---- the result of all last replies
 
 pub nothing_where_none_is_replied :
     (outcome_of begun_start [] ≡ Nothing)
@@ -229,7 +229,7 @@ module _ {W : Type 0} (contents : W → Option (List ℕ)) (first_report now : R
   pub nothing_where_none_is_asked : IsTold contents new_start first_report now [] → now.outcome ≡ Nothing
   nothing_where_none_is_asked told = told.outcome_is
 
-  -- though a drive breaks off behind it
+  -- though a drive breaks off after it
   pub not_done_though_broken_off : (fault : DriveFault) (frame : Frame) (text : List ℕ)
       → IsToldEnd contents new_start first_report now (Answered 1 replies.IdReused ∷ []) fault frame text
       → now.outcome ≡ NotDone

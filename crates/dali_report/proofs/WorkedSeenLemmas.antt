@@ -1,9 +1,9 @@
--- What is a line of a report, and what is near that and is none.
+-- The lines of a report, and near misses.
 use Rattle.std.proofs.Common.{◌≡◌, refl, codes, true, false, [], Some, None}
 use Rattle.serde_json.specs.Data.{Data, null, number, unsigned, string, object, array, no_items, Members, member, no_members}
 use Rattle.dali_report.specs.Seen.{begins_so, run_in}
 
--- the members of a line of a verification, behind `found`, and the value at `run`
+-- the members of a line of a verification, after `found`, and the value at `run`
 abbrev with_run : Data → Members
 with_run run =
     member (codes "found") (string (codes "same"))

@@ -19,7 +19,7 @@ abbrev pub updated : List (ℕ × ℕ) → List ℕ → List ℕ
 updated [] bank = bank
 updated (update ∷ updates) bank = updated updates (slice_set bank update.0 update.1)
 
--- the updates with the bytes that were told in the place of their own, as far as such were told
+-- the updates with the bytes that were read in the place of their own, as far as such were read
 abbrev pub as_told : List (ℕ × ℕ) → List ℕ → List (ℕ × ℕ)
 as_told updates [] = updates
 as_told [] (byte ∷ bytes) = []

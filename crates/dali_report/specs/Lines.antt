@@ -33,7 +33,7 @@ number_or_null (Some value) = number (unsigned value)
 
 -- ---- of an order at its last reply
 
--- why it came to no good end, the location of that, and the byte that was read there
+-- why it ended badly, the location of that, and the byte that was read there
 abbrev pub cause_of : List ℕ → ℕ → Data → Data
 cause_of was location byte = object (
     member (codes "byte") byte
@@ -50,11 +50,11 @@ abbrev pub ended_text : Bool → List ℕ
 ended_text true = codes "now"
 ended_text false = codes "before"
 
--- so many, told up to 2⁶⁴ - 1
+-- a count, given up to 2⁶⁴ - 1
 abbrev pub counted : ℕ → ℕ
 counted count = min count (2 ^ 64 - 1)
 
--- the members of which the values go by what was replied
+-- the members whose values depend on the reply
 abbrev pub code_data : Reply → Data
 code_data (replies.Kept code) = number (unsigned (code_number code))
 code_data other = null
@@ -83,7 +83,7 @@ last_data last = object (
 
 -- ---- of an answer that broke a drive off
 
--- a character from 20h to 7Eh but for the backslash stands for itself, each other byte by its two digits
+-- a character from 20h to 7Eh except for the backslash is written as itself, each other byte as its two digits
 abbrev pub is_plain : ℕ → Bool
 is_plain byte = nat_le 0x20 byte && nat_le byte 0x7E && not (byte == 0x5C)
 

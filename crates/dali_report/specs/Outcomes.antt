@@ -1,4 +1,4 @@
--- What all last replies of a drive come to. A trace has the newest happening first.
+-- The result of all last replies of a drive. A trace has the newest happening first.
 use Rattle.std.specs.Prelude.{◌&&◌, Bool, true, false, List, [], ◌∷◌}
 use Rattle.std.specs.List.{list_any}
 use Rattle.dali_journal.specs.declared.record.Code.TheVariants as journal

@@ -1,4 +1,4 @@
--- What a report tells of a drive: a line for each order at its last reply. A trace has the newest happening first.
+-- The report of a drive: a line for each order at its last reply. A trace has the newest happening first.
 use Rattle.std.specs.Prelude.{◌≡◌, ◌==◌, ℕ, Bool, true, false, List, [], ◌∷◌, ◌++◌, Option, Some, None, length}
 use Rattle.std.specs.Prelude.{option_map}
 use Rattle.dali_bank.specs.Order.{Contents}
@@ -53,7 +53,7 @@ newly_ended start (Answered id replies.Taken ∷ past) = newly_ended start past
 newly_ended start (Answered id reply ∷ past) = None
 newly_ended start (other ∷ past) = newly_ended start past
 
--- it is the one of this number: so an end is told once as of now, in the drive that kept it
+-- it is the one of this number: so an end is reported once as of now, in the drive that kept it
 abbrev pub is_number_of : ℕ → Option Contents → Bool
 is_number_of id None = false
 is_number_of id (Some order) = order.id == id
@@ -65,14 +65,14 @@ is_ended_now start past id = is_number_of id (newly_ended start past)
 abbrev pub exchanges : List Happening → List Exchange
 exchanges past = frames_in (since is_last_reply past)
 
--- why the order that was asked last, or the one that is resumed, came to no good end, where its end was kept
+-- why the order that was asked last, or the one that is resumed, ended badly, if its end was kept
 abbrev pub IsCauseTold : Start → List Happening → Option Cause → Type 0
 IsCauseTold start [] cause = cause ≡ None
 IsCauseTold start (Asked order moment ∷ past) cause = cause ≡ None
 IsCauseTold start (Kept (Ended code) ∷ past) cause = IsCauseBeside start past (Kept (Ended code)) cause
 IsCauseTold start (other ∷ past) cause = IsCauseTold start past cause
 
--- what is told in this run of the order of this number at this reply
+-- the line in this run for the order of this number at this reply
 abbrev pub told_at : ℕ → Start → List Happening → ℕ → Reply → Option Cause → LastReply
 told_at run start past id reply cause = record {
   run = run;

@@ -1,4 +1,4 @@
--- What a line of a file is to a report: a line of one, a first part of one, or neither.
+-- A line of a file as seen by a report: a line of one, a first part of one, or neither.
 use Rattle.std.specs.Prelude.{◌≡◌, ◌⊎◌, ◌||◌, ◌&&◌, ◌==◌, ◌+◌, ℕ, Bool, true, false, List, Option, Some, None}
 use Rattle.std.specs.Prelude.{codes, is_some, length, min, option_and_then, suc, take, if◌then◌else◌}
 use Rattle.std.specs.Option.{option_map_or}
@@ -13,14 +13,14 @@ abbrev pub count_in : Members → ℕ
 count_in no_members = 0
 count_in (member key value others) = suc (count_in others)
 
--- the value is an object of so many members
+-- the value is an object of this many members
 abbrev pub has_count : ℕ → Data → Bool
 has_count count value = option_map_or (λ members. count_in members == count) (as_object value) false
 
 abbrev pub has : Data → List ℕ → Bool
 has value key = is_some (get key value)
 
--- ---- the three kinds of lines, by their keys and so many more
+-- ---- the three kinds of lines, by their keys and `more` others
 
 abbrev pub is_last : ℕ → Data → Bool
 is_last more value =

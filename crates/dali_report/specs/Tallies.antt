@@ -1,4 +1,4 @@
--- What a report keeps of the frames since the last reply before.
+-- The counts that a report keeps of the frames since the last reply before.
 use Rattle.std.specs.Prelude.{◌≡◌, List, length}
 use Rattle.dali_write.specs.Exchanges.{Exchange}
 use Rattle.dali_write.specs.Misses.{location_in, misses_in}

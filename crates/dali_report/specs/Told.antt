@@ -1,4 +1,4 @@
--- What a report has been told, and what it holds.
+-- The events that a report has seen, and what it holds.
 use Rattle.std.specs.Prelude.{◌≡◌, ◌||◌, ◌==◌, ℕ, Bool, true, false, List, [], Option, Some, None, is_some, option_map}
 use Rattle.std.specs.Io.KnownBytes.{Appends}
 use Rattle.std.proofs.Common.{refl}
@@ -28,8 +28,7 @@ abbrev pub output_failed : {W : Type 0} → Option (Output W) → Bool
 output_failed None = false
 output_failed (Some out) = output.has_failed out
 
--- the bytes that a report holds, where they are known, whether a line couldn't be written, and whether its output
--- failed
+-- the bytes that a report holds, if they are known, whether a line couldn't be written, and whether its output failed
 abbrev pub report_held : {W : Type 0} → (W → Option (List ℕ)) → Report W → Option (List ℕ)
 report_held contents report = output_held contents report.output
 
@@ -51,7 +50,7 @@ is_watched report = is_some report.progress
 abbrev pub run_of : {W : Type 0} → Report W → ℕ
 run_of report = report.run
 
--- what all last replies came to so far
+-- the result of all last replies so far
 abbrev pub outcome_so_far : {W : Type 0} → Report W → Outcome
 outcome_so_far report = report.outcome
 
@@ -68,8 +67,8 @@ abbrev pub is_number : ℕ → Option Spoken → Bool
 is_number id None = false
 is_number id (Some one) = one.id == id
 
--- unless it has failed, this text stands behind what the first of the two held; and once that had failed nothing more
--- was written
+-- unless it has failed, this text follows what the first of the two held; and once that had failed nothing more was
+-- written
 abbrev pub HasWritten : {W : Type 0} → (W → Option (List ℕ)) → Report W → Report W → List ℕ → Type 0
 HasWritten contents first now text =
     (has_failed now ≡ false → Appends (report_held contents first) (report_held contents now) text)
@@ -79,7 +78,7 @@ HasWritten contents first now text =
 abbrev pub HasWrittenAs : {W : Type 0} → (W → Option (List ℕ)) → Report W → Report W → (List ℕ → Type 0) → Type 0
 HasWrittenAs contents first now is_so = (text : List ℕ) × is_so text × HasWritten contents first now text
 
--- since it was the first of the two, it was told this trace from that start
+-- since it was the first of the two, it has seen this trace from that start
 pub record IsTold {W : Type 0} (contents : W → Option (List ℕ)) (start : Start) (first now : Report W)
     (past : List Happening) : Type 0 where
   pub unfinished_is : now.unfinished ≡ option_map spoken (unfinished_at start past)
@@ -98,14 +97,14 @@ pub record IsToldEnd {W : Type 0} (contents : W → Option (List ℕ)) (start : 
   pub run_is : now.run ≡ first.run
   pub written : HasWrittenAs contents first now (IsBrokenText first.run start past fault frame text)
 
--- unless it has failed or goes nowhere, the lines of what was found stand behind what the first of the two held
+-- unless it has failed or goes nowhere, the lines of what was found follow what the first of the two held
 abbrev pub HasWrittenFound : {W : Type 0} → (W → Option (List ℕ)) → Report W → Report W → List Found → Type 0
 HasWrittenFound contents first now found =
     has_failed now ≡ false → has_output now ≡ true
     → (text : List ℕ) × AreFoundLines first.run found text
     × Appends (report_held contents first) (report_held contents now) text
 
--- it was told that all this was found, the newest first; and once it had failed nothing more was written
+-- it has seen that all this was found, the newest first; and once it had failed nothing more was written
 pub record IsToldFound {W : Type 0} (contents : W → Option (List ℕ)) (first now : Report W) (found : List Found)
     : Type 0 where
   pub same_run : now.run ≡ first.run

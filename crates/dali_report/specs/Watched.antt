@@ -1,4 +1,4 @@
--- What the writers of a command that a person watches hold: what they would without.
+-- The writers of a command that a person watches hold what they would hold unwatched.
 use Rattle.std.specs.Prelude.{ℕ, List, Option}
 use Rattle.dali_report.specs.declared.watched.Cleared.{Cleared}
 use Rattle.dali_report.specs.declared.watched.Counted.{Counted}

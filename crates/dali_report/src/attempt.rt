@@ -1,14 +1,14 @@
 // The try at hand of an access, by the frames that were sent.
 use dali_frame::Frame;
 
-/// What a try does, as far as its frames tell.
+/// The kind of a try, as far as its frames show.
 #[derive(Clone, Copy)]
 enum Kind {
     /// It reads, or it is a checked write.
     Whole,
-    /// It writes just behind another write, to the location after it.
+    /// It writes right after another write, to the location after it.
     Next,
-    /// It writes just behind another write, to any other location.
+    /// It writes right after another write, to any other location.
     Elsewhere,
 }
 
@@ -20,7 +20,7 @@ enum Before {
     Other,
 }
 
-/// The try at hand. One of a read begins as DTR1 is set, one of a write as its unit is enabled, or, just behind another
+/// The try at hand. One of a read begins as DTR1 is set, one of a write as its unit is enabled, or, right after another
 /// write, as it is asked for DTR1 or DTR0 is set.
 #[derive(Clone, Copy)]
 pub(crate) struct Attempt {
@@ -29,8 +29,8 @@ pub(crate) struct Attempt {
     before: Before,
 }
 
-// A checked write has so many frames more than a write to the location after the one just written, and than one to any
-// other location just behind another write.
+// A checked write has this many frames more than a write to the location after the one just written, and than one to
+// any other location right after another write.
 const MORE_THAN_NEXT: u64 = 4;
 
 const MORE_THAN_ELSEWHERE: u64 = 3;

@@ -40,7 +40,7 @@ pub(crate) fn differing_fields(
     Ok(Value::Array(values))
 }
 
-// The bank of a blank unit that has the updates, with the bytes that were told in the place of their own.
+// The bank of a blank unit that has the updates, with the bytes that were read in the place of their own.
 fn bank_told(updates: &[(u8, u8)], told: &[u8]) -> [u8; BANK_LENGTH]
     requires { AreUpdates updates.now }
     ensures { result ≡ updated (as_told updates.now told.now) blank_bank }

@@ -3,10 +3,10 @@
 use dali_bank::Order;
 use dali_write::Pace;
 
-// The lock byte stands before all updates, and is read back with them.
+// The lock byte comes before all updates, and is read back with them.
 const LOCK: u8 = 0x02;
 
-// An order that writes here or behind asks for the content format first.
+// An order that writes here or above asks for the content format first.
 const BEHIND_FORMAT: u8 = 0x13;
 
 // The most locations that are read in a row.
@@ -48,7 +48,7 @@ fn frames(each: u64, updates: u64, rows: u64, rest: u64) -> u64 {
     of_updates.saturating_add(of_rows).saturating_add(rest)
 }
 
-// Whether the last of the updates, which rise by location, stands behind the content format.
+// Whether the last of the updates, which rise by location, is past the content format.
 fn has_format(updates: &[(u8, u8)]) -> bool {
     match updates {
         [.., (location, _)] => *location >= BEHIND_FORMAT,
@@ -56,8 +56,8 @@ fn has_format(updates: &[(u8, u8)]) -> bool {
     }
 }
 
-// How many rows of at most so many neighbours there are, the first of which begins before the updates where a location
-// is named.
+// How many rows of at most `most` neighbours there are, the first of which begins before the updates if a location is
+// named.
 fn rows_from(first: Option<u8>, updates: &[(u8, u8)], most: u64) -> u64 {
     let mut before = first;
     let mut rows = u64::from(first.is_some());

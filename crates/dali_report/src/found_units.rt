@@ -17,7 +17,7 @@ const WITHDRAW: [u8; 2] = [0xAB, 0x00];
 pub(crate) struct FoundUnits {
     // Which short addresses were given: bit A is that of A.
     given: u64,
-    // How many were given, told by a line, or counted.
+    // How many were given, reported by a line, or counted.
     programmed: u64,
     told: u64,
     counted: u64,
@@ -68,7 +68,7 @@ impl FoundUnits {
         }
     }
 
-    /// A line told of one.
+    /// A line reported one.
     pub(crate) fn tell(&mut self) {
         self.told = self.told.saturating_add(1);
     }

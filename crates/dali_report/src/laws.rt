@@ -6,8 +6,8 @@ ghost use Rattle.dali_read.specs.Findings.{IsFound, told_bytes};
 ghost use Rattle.dali_read.specs.declared.finding.Finding.{Finding};
 ghost use Rattle.dali_report.specs.Differences.{AreDifferences, Difference, held_bank, wanted_bank};
 
-/// The fields that a report tells agree with what was found of an order: none where all is the same, or where none of
-/// the order's own locations was read, and at least one where another byte was found.
+/// The fields that a report tells agree with what was found of an order: none if all is the same, or if none of the
+/// order's own locations was read, and at least one if another byte was found.
 pub fn fields_agree_with_findings()
     ensures same { (order : Contents) (read : List ℕ) (found : List Difference)
         → IsFound order.updates read Finding.Same

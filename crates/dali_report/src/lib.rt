@@ -1,5 +1,7 @@
-//! The reports of drives and of verifications (profile): lines of JSON that tell what became of each order. And what a
-//! person watches of a command, where that is asked for.
+//! The reports of drives and of verifications (profile): lines of JSON that give the result of each order. And the
+//! progress of a command that a person watches, if asked for.
+//!
+//! A crate of its own: reports and progress need a drive, and the texts of a file need none.
 #![tactic(auto)]
 
 mod attempt;

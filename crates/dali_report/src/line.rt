@@ -23,17 +23,17 @@ use serde_json::{Map, Value};
 use std::alloc::{AllocError, Global};
 use std::fmt;
 
-/// What is told of an order at its last reply.
+/// The line of an order at its last reply.
 #[derive(Clone, Copy)]
 pub(crate) struct LastReply {
     pub(crate) order: u64,
-    // Its short address, where that is known.
+    // Its short address, if that is known.
     pub(crate) unit: Option<u8>,
     // The moment that the journal has kept under its number.
     pub(crate) moment: Option<u64>,
     pub(crate) reply: Reply,
     pub(crate) ended_now: bool,
-    // Why it came to no good end, where it ended in this drive.
+    // Why it ended badly, if it ended in this drive.
     pub(crate) cause: Option<Cause>,
     pub(crate) frames: u64,
     pub(crate) misses: u64,
@@ -104,7 +104,7 @@ impl LastReply {
     }
 }
 
-// Why an order came to no good end.
+// Why an order ended badly.
 fn cause_value(alloc: Global, cause: Option<Cause>) -> Result<Value, AllocError>
     ensures { IfOk result (λ value. view value ≡ cause_data cause) }
 {
@@ -140,7 +140,7 @@ pub(crate) fn with(
     Ok(members)
 }
 
-// The same, where both could be made.
+// The same, if both could be made.
 fn with_made(
     members: Result<Map<String, Value>, AllocError>,
     alloc: Global,
@@ -225,7 +225,7 @@ fn digits_of(alloc: Global, frame: &Frame) -> Result<Value, AllocError>
     Ok(Value::from(text))
 }
 
-// A text in which each byte that isn't a plain character stands by its two digits.
+// A text in which each byte that isn't a plain character is written as its two digits.
 fn escaped(alloc: Global, bytes: &[u8]) -> Result<String, AllocError>
     ensures { IfOk result (λ text. string_bytes text ≡ escaped bytes.now) }
 {

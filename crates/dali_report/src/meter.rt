@@ -1,10 +1,10 @@
-// How long the frames of a command take, by the clock where there is one.
+// How long the frames of a command take, by the clock if there is one.
 use std::time::{Duration, Instant};
 
 /// The frames so far, and the time that they took. The time in which a command waits for an order doesn't count.
 #[derive(Clone, Copy)]
 pub(crate) struct Meter {
-    // Since when time is counted; none where the clock can't be read.
+    // Since when time is counted; none if the clock can't be read.
     mark: Option<Instant>,
     busy: Duration,
     // The frames within that time, and those since it was looked at last.
@@ -57,7 +57,7 @@ impl Meter {
         }
     }
 
-    /// The seconds that so many more should take, where enough came to tell.
+    /// The seconds that this many more frames should take, if there were enough to tell.
     pub(crate) fn seconds_for(&self, frames: u64) -> Option<u64> {
         if self.mark.is_none() || self.timed < ENOUGH {
             return None;

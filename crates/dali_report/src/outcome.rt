@@ -1,8 +1,8 @@
-// What all last replies of a drive come to.
+// The result of all last replies of a drive.
 ghost use Rattle.std.specs.Prelude.{◌≡◌, ◌&&◌, Bool, false, true};
 ghost use Rattle.dali_report.specs.Outcomes.{outcome_by};
 
-/// What the last replies of a drive come to.
+/// The result of the last replies of a drive.
 #[derive(Clone, Copy, PartialEq, Eq)]
 pub enum Outcome {
     /// No order had its last reply.

@@ -1,5 +1,5 @@
-// What a person watches of a command over a link: one line on standard error, drawn again in place. Nothing hangs on
-// it, and no contract tells what it shows.
+// The progress of a command over a link, as a person sees it: one line on standard error, drawn again in place. Nothing
+// depends on it, and no contract says what it shows.
 ghost use Rattle.std.specs.Prelude.{◌≡◌, is_some};
 
 use crate::expected::{drive_frames, verify_frames};
@@ -14,16 +14,16 @@ use std::alloc::{AllocError, Global};
 use std::cell::Cell;
 use std::io::{IsTerminal, Write};
 
-// The line is drawn again at most every so many frames.
+// The line is drawn again at most every 16 frames.
 const FRAMES_BETWEEN: u64 = 16;
 
-// The columns of a terminal of which no number is told.
+// The columns of a terminal whose width isn't known.
 const COLUMNS: usize = 80;
 
 // The cursor goes to the beginning of its line, and the line is cleared.
 const CLEARED: &str = "\r\x1B[K";
 
-// What is written behind the last column stays there, and doesn't go to the next line; and again as it was.
+// Text past the last column stays there, and doesn't go to the next line; `WRAPPED` undoes that.
 const UNWRAPPED: &str = "\x1B[?7l";
 
 const WRAPPED: &str = "\x1B[?7h";
@@ -31,7 +31,7 @@ const WRAPPED: &str = "\x1B[?7h";
 // How a line begins that tells of a unit and its random address.
 const UNIT_LINE: &str = "unit ";
 
-/// Of what a person watches how far it is.
+/// The kind of progress that is shown.
 #[derive(Clone, Copy, PartialEq, Eq)]
 pub enum Watched {
     /// Orders are carried out by this plan.
@@ -42,36 +42,36 @@ pub enum Watched {
     Read,
     /// So many addresses are asked whether a unit answers.
     Scan(u64),
-    /// Units are found: so many, or 0 where it isn't known how many there are.
+    /// Units are found: this many, or 0 if it isn't known how many there are.
     Address(u64),
     /// The 64 short addresses are asked who has them.
     List,
 }
 
-/// What a person watches of a command over a link. On a terminal it is one line, drawn again in place at most every 16
-/// frames and never wider than the terminal; there and elsewhere, at the end, it is a line of totals.
+/// The progress of a command over a link. On a terminal it is one line, drawn again in place at most every 16 frames
+/// and never wider than the terminal; there and elsewhere, at the end, it is a line of totals.
 #[derive(Drop)]
 pub struct Progress {
     rt: HostRuntime,
     watched: Watched,
-    // How wide the terminal is, where standard error is one.
+    // The terminal's width, if standard error is one.
     columns: Option<usize>,
     state: Cell<WatchState>,
     screen: Cell<Screen>,
 }
 
-// What stands on the screen.
+// The state of the screen.
 #[derive(Clone, Copy)]
 struct Screen {
     // Whether the line does.
     is_drawn: bool,
     // The frames since it was drawn last.
     since: u64,
-    // Whether the command came to its work, so that there are totals.
+    // Whether the command reached its work, so that there are totals.
     has_begun: bool,
 }
 
-/// What a person watches, where that is asked for.
+/// The progress that a person watches, if asked for.
 pub fn progress_of(rt: HostRuntime, asked: bool, watched: Watched) -> Option<Progress>
     ensures { is_some result ≡ asked }
 {
@@ -123,7 +123,7 @@ impl Progress {
         }
     }
 
-    // The command came to its work.
+    // The command reached its work.
     fn begin(&self) {
         let mut screen = self.screen.get();
         screen.has_begun = true;
@@ -139,7 +139,7 @@ impl Progress {
         self.begin();
     }
 
-    // This happened in a drive, and the journal stands so after it.
+    // This happened in a drive, and this is the journal after it.
     pub(crate) fn see(&self, happening: &Happening, journal: &Journal) {
         let Watched::Drive(pace) = self.watched else {
             return;
@@ -173,7 +173,7 @@ impl Progress {
         self.state.set(state);
     }
 
-    // These bytes of frames went to the link. What a drive sends it is told by its report.
+    // These bytes of frames went to the link. The frames of a drive are passed on by its report.
     pub(crate) fn send(&self, bytes: &[u8]) {
         if let Watched::Drive(_) = self.watched {
             return;
@@ -206,7 +206,7 @@ impl Progress {
         }
     }
 
-    // Draws the line, where there is a terminal, and memory for it.
+    // Draws the line, if there is a terminal, and memory for it.
     fn draw(&self) {
         let Some(columns) = self.columns else {
             return;
@@ -226,7 +226,7 @@ impl Progress {
         }
     }
 
-    // These bytes of lines come in the place of the one that is drawn. A unit that they tell of is one that was found.
+    // These bytes of lines take the place of the one that is drawn. A unit that they name is one that was found.
     pub(crate) fn tell(&self, bytes: &[u8]) {
         self.clear();
         if bytes.starts_with(UNIT_LINE.as_bytes()) {
@@ -236,7 +236,7 @@ impl Progress {
         }
     }
 
-    // Clears the line, where it is drawn: another one takes its place.
+    // Clears the line, if it is drawn: another one takes its place.
     fn clear(&self) {
         let mut screen = self.screen.get();
         if screen.is_drawn {
@@ -246,7 +246,7 @@ impl Progress {
         }
     }
 
-    /// The command has ended: its line is cleared, and where it came to its work a line of totals is written.
+    /// The command has ended: its line is cleared, and if it reached its work a line of totals is written.
     pub fn end(&self) {
         self.clear();
         if !self.screen.get().has_begun {
@@ -286,7 +286,7 @@ fn unit_in([address, _]: [u8; 2]) -> Option<u8> {
     (address < 0x80 && address % 2 == 1).then_some(address / 2)
 }
 
-// What draws a line in the place of the one before.
+// The characters that draw a line in the place of the one before.
 fn drawn(alloc: Global, line: Now, columns: usize) -> Result<Vec<u8>, AllocError> {
     let line = format!(in alloc; "{line}")?;
     let mut text = Vec::new(alloc);

@@ -115,7 +115,7 @@ impl Now {
         write!(f, "frame {frames}")
     }
 
-    // The time that so many more frames should take.
+    // The time that this many more frames should take.
     fn write_left<W: fmt::Write>(&self, f: &mut fmt::Formatter<W>, frames: u64) -> fmt::Result {
         match self.state.meter.seconds_for(frames) {
             Some(seconds) => {
@@ -127,7 +127,7 @@ impl Now {
     }
 }
 
-/// What a command came to.
+/// The totals of a command.
 #[derive(Clone, Copy)]
 pub(crate) struct Totals {
     pub(crate) watched: Watched,
@@ -184,7 +184,7 @@ impl Totals {
         write!(f, "the same {good}, frames {frames}")
     }
 
-    // How many orders are so, which ones, and how many weren't reached.
+    // The count of orders under this name, which ones, and how many weren't reached.
     fn write_undone<W: fmt::Write>(&self, f: &mut fmt::Formatter<W>, name: &str) -> fmt::Result {
         let count = self.state.undone.count;
         write!(f, "{name} {count}")?;

@@ -46,11 +46,11 @@ impl Spoken {
 }
 
 /// The report of a drive (profile): a line of JSON for each order at its last reply, and one for an answer that broke
-/// the drive off, each with the number of the run. With no output it keeps in mind alone what all of them came to.
+/// the drive off, each with the number of the run. With no output it only keeps the result of all of them.
 ///
-/// A line is flushed before more happens. Where one can't be written, no more is.
+/// A line is flushed before more happens. If one can't be written, no more is.
 ///
-/// What a person watches of it is told all of it too, and changes nothing in it.
+/// All of it is passed on to the progress that a person watches, which changes nothing in it.
 #[derive(Drop)]
 pub struct Report<'a, W> {
     alloc: Global,
@@ -64,7 +64,7 @@ pub struct Report<'a, W> {
     spoken: Option<Spoken>,
     // The order whose end was kept since the last reply before.
     ended: Option<Spoken>,
-    // Why the order that is spoken of came to no good end, if it did.
+    // Why the order that is spoken of ended badly, if it did.
     cause: Option<Cause>,
     tally: Tally,
     outcome: Outcome,
@@ -72,7 +72,7 @@ pub struct Report<'a, W> {
 }
 
 impl<'a, W: Write> Report<'a, W> {
-    /// This run of a report, into an output where one is wanted, and beside what is watched, if that is.
+    /// This run of a report, into an output if one is wanted, and beside what is watched, if that is.
     pub fn new(
         alloc: Global,
         run: u64,
@@ -101,35 +101,35 @@ impl<'a, W: Write> Report<'a, W> {
         }
     }
 
-    /// These are all orders that are to come, for whoever watches.
+    /// These are all orders that are to come, for the progress that is shown.
     pub fn expect(&self, orders: &[Order]) {
         if let Some(progress) = self.progress {
             progress.expect(orders);
         }
     }
 
-    // A drive begins with this journal, for whoever watches.
+    // A drive begins with this journal, for the progress that is shown.
     fn show_begun(&self, journal: &Journal) {
         if let Some(progress) = self.progress {
             progress.resume(journal);
         }
     }
 
-    // This happened, for whoever watches.
+    // This happened, for the progress that is shown.
     fn show(&self, happening: &Happening, journal: &Journal) {
         if let Some(progress) = self.progress {
             progress.see(happening, journal);
         }
     }
 
-    // This was found, for whoever watches.
+    // This was found, for the progress that is shown.
     fn show_found(&self, order: &Order, found: Option<Finding>) {
         if let Some(progress) = self.progress {
             progress.find(order, found);
         }
     }
 
-    /// What all last replies came to.
+    /// The result of all last replies.
     pub fn outcome(&self) -> Outcome
         ensures { result ≡ outcome_so_far self.now }
     {
@@ -143,7 +143,7 @@ impl<'a, W: Write> Report<'a, W> {
         self.starved || self.cause().is_some()
     }
 
-    /// Of what kind the failure of its output was, where that has failed; none where it was want of memory.
+    /// The kind of its output's failure, if that has failed; none if it was want of memory.
     pub fn cause(&self) -> Option<ErrorKind>
         ensures { is_some result ≡ has_failed_output self.now }
     {
@@ -197,7 +197,7 @@ impl<'a, W: Write> Report<'a, W> {
         }
     }
 
-    // Writes what is told of an order.
+    // Writes the line of an order.
     fn write_last(&mut self, last: &LastReply)
         ensures same { self.new ≡ record self.old { output = self.new.output; starved = self.new.starved } }
         ensures written { report_failed self.new ≡ false → (report_failed self.old ≡ false)

@@ -1,4 +1,4 @@
-// What a line of a file is to a report.
+// A line of a file as seen by a report.
 ghost use Rattle.std.specs.Prelude.{◌≡◌, ◌+◌, ◌-◌, ◌^◌, ◌≤◌, IfOk, min};
 ghost use Rattle.serde_json.specs.View.{view};
 ghost use Rattle.dali_report.specs.Seen.{IsSeen, begin_alike, begins_so as beginning, has as has_key, has_count};
@@ -13,10 +13,10 @@ use std::alloc::{AllocError, Global};
 /// field, has 1276.
 pub const LINE_LIMIT: usize = 2048;
 
-/// What a line of a file is to a report.
+/// A line of a file as seen by a report.
 #[derive(Clone, Copy, PartialEq, Eq)]
 pub enum Seen {
-    /// A line of this run; 0 where it tells none, as one of an earlier version.
+    /// A line of this run; 0 if it tells none, as one of an earlier version.
     Line(u64),
     /// A first part of a line, which a kill or a full disk left: also one of no byte.
     Torn,
@@ -24,7 +24,7 @@ pub enum Seen {
     Other,
 }
 
-/// What a line is, without its line feed.
+/// A line as seen, without its line feed.
 pub fn look_at(alloc: Global, line: &[u8]) -> Result<Seen, AllocError>
     ensures { IfOk result (IsSeen line.now) }
 {
@@ -36,14 +36,14 @@ pub fn look_at(alloc: Global, line: &[u8]) -> Result<Seen, AllocError>
     }
 }
 
-/// The run behind the last one: the first is 1.
+/// The run after the last one: the first is 1.
 pub fn run_behind(last: u64) -> u64
     ensures { result ≡ min (last + 1) (2 ^ 64 - 1) }
 {
     last.saturating_add(1)
 }
 
-// What a line of JSON is.
+// A line of JSON as seen.
 fn seen_in(value: &Value) -> Seen
     ensures { result ≡ seen_by (run_told (view value.now)) }
 {
@@ -76,7 +76,7 @@ fn told_run(value: &Value) -> Option<u64>
     }
 }
 
-// Whether it has the keys of a kind of lines, and so many more.
+// Whether it has the keys of a kind of lines, and `more` others.
 fn is_line(value: &Value, more: usize) -> bool
     requires { more ≤ 1 }
     ensures { result ≡ line_with more (view value.now) }
@@ -131,7 +131,7 @@ fn is_found(value: &Value, more: usize) -> bool
         && has(value, "unit")
 }
 
-// Whether it is an object of so many members.
+// Whether it is an object of this many members.
 fn counts(value: &Value, count: usize) -> bool
     ensures { result ≡ has_count count (view value.now) }
 {

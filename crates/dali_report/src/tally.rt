@@ -12,7 +12,7 @@ use dali_write::Wish;
 pub(crate) struct Tally {
     pub(crate) frames: u64,
     pub(crate) misses: u64,
-    /// Where DTR0 should stand.
+    /// The value that DTR0 should have.
     pub(crate) location: u8,
 }
 
@@ -41,7 +41,7 @@ impl Tally {
     }
 }
 
-// Where DTR0 should stand after a frame.
+// The value that DTR0 should have after a frame.
 fn next_location(frame: &Frame, location: u8) -> u8
     ensures { result ≡ location_after frame.now location }
 {
@@ -52,7 +52,7 @@ fn next_location(frame: &Frame, location: u8) -> u8
     }
 }
 
-// What a frame asks for, where DTR0 should stand so.
+// The answer that a frame asks for, if DTR0 should have this value.
 fn wish_of(frame: &Frame, location: u8) -> Wish
     ensures { result ≡ wish_for frame.now location }
 {

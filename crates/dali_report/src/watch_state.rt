@@ -9,7 +9,7 @@ use dali_frame::Frame;
 use dali_journal::{Journal, Standing};
 use dali_write::Pace;
 
-// So many orders that aren't done are told by their numbers.
+// At most this many orders that aren't done are listed by their numbers.
 const MOST_NAMED: usize = 8;
 
 /// Orders that aren't done: how many, and the numbers of the first ones.
@@ -55,7 +55,7 @@ pub(crate) struct AtHand {
     pub(crate) has_ended: bool,
     pub(crate) tally: Tally,
     attempt: Attempt,
-    /// The frames that it should take, where that is known.
+    /// The frames that it should take, if that is known.
     pub(crate) expected: Option<u64>,
 }
 
@@ -94,11 +94,11 @@ impl AtHand {
 /// How far a command is.
 #[derive(Clone, Copy)]
 pub(crate) struct WatchState {
-    /// How many orders there are, where that is known.
+    /// How many orders there are, if that is known.
     pub(crate) orders: Option<u64>,
     /// How many of them came so far.
     pub(crate) given: u64,
-    /// The frames that those behind the one at hand should take.
+    /// The frames that the orders after the one at hand should take.
     pub(crate) ahead: u64,
     pub(crate) at_hand: Option<AtHand>,
     /// The unit that was asked last, and how many were, one after the other.
@@ -213,7 +213,7 @@ impl WatchState {
         }
     }
 
-    /// The order was compared: its unit has just what it writes, or not.
+    /// The order was compared: its unit has exactly what it writes, or not.
     pub(crate) fn compare(&mut self, order: &Order, is_same: bool) {
         self.given = self.given.saturating_add(1);
         self.ahead = self.ahead.saturating_sub(verify_frames(order));

@@ -1,4 +1,4 @@
-// Where the lines and the frames of a command go that a person watches. With nobody who does, each is the writer that
+// The outputs for the lines and the frames of a command that a person watches. If nobody does, each is the writer that
 // it has.
 ghost use Rattle.std.specs.Prelude.{◌≡◌};
 ghost use Rattle.dali_report.specs.Watched.{cleared_held, counted_held};

@@ -1,4 +1,6 @@
-//! What the crates of tests share.
+//! The shared part of the test crates.
+//!
+//! A crate of its own: both crates of tests use it.
 #![tactic(auto)]
 
 ghost use Rattle.std.specs.Prelude.{◌≡◌, IfOk, IfErr, true, false};
@@ -12,8 +14,7 @@ use std::test::Fail;
 /// As many steps as any order of the tests takes, and more.
 pub const ENOUGH: usize = 1_700;
 
-/// Fails a test where something isn't so, and tells what was wanted. It is proved once, and an `assert_eq` at each
-/// place.
+/// Fails a test if something isn't so, and prints what was wanted. It is proved once, and an `assert_eq` at each place.
 pub fn expect_that(is_so: bool, wanted: &str) -> Result<(), Fail>
     ensures ok { IfOk result (λ done. is_so ≡ true) }
     ensures err { IfErr result (λ fail. is_so ≡ false) }

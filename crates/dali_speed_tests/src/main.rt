@@ -1,6 +1,8 @@
 //! How long the calls of a journal and of a writer over it take: it loads the file named first, looks orders up,
 //! submits known ones again, and carries out new ones for a unit that isn't there, and prints the times. Without a file
 //! it does nothing.
+//!
+//! A crate of its own: it is a program of the benchmarks, and not a test.
 #![tactic(auto)]
 
 use anyhow::Result;

@@ -9,7 +9,7 @@ use Rattle.std.proofs.KnownBytes.{Appends-trans}
 use Rattle.dali_store.specs.Stores.{IsDurable, IsBetween, MayAlso, Elapses, LeavesOnly}
 use Rattle.dali_store.proofs.Moments.{goes_on, so_too}
 
--- the first so many bytes
+-- the first `len` bytes
 pub is_behind : (len : ℕ) (bytes c : List ℕ) → len ≤ length bytes → c ≡ take len bytes
     → (len ≤ length c) × (rest : List ℕ) × (bytes ≡ c ++ rest)
 is_behind len bytes c within is = (
@@ -18,7 +18,7 @@ is_behind len bytes c within is = (
   sym (take-append-drop len bytes) ∙ ap (λ (l : List ℕ). l ++ drop len bytes) (sym is),
 )
 
--- where a stop leaves what is known, that is between it and it
+-- if a stop leaves what is known, that is between it and it
 pub settled_between : (known : Option (List ℕ)) (outcomes : List ℕ → Type 0) → IsDurable known outcomes
     → (c : List ℕ) → outcomes c → IsBetween known known c
 settled_between None outcomes settled c left = tt
@@ -61,7 +61,7 @@ pub put_more : (a b c : Option (List ℕ)) (bytes : List ℕ) (done count : ℕ)
 put_more a b c bytes done count before next =
     subst (Appends a c) (take_more bytes done count) (Appends-trans a b c _ _ before next)
 
--- what a stop may leave behind one call more that puts bytes
+-- the bytes that a stop may leave after one more call that puts bytes
 
 pub left_more : (a b d : Option (List ℕ)) (x y : List ℕ) (mid new : List ℕ → Type 0) → Appends a b x → Appends b d y
     → ((c : List ℕ) → mid c → IsBetween a b c) → MayAlso (IsBetween b d) mid new

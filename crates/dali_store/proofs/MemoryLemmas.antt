@@ -39,7 +39,7 @@ put_left unsynced old new c (inl now) = inr now
 put_left unsynced old new c (inr had) =
     ⊎_elim (λ before. inl (inr before)) (λ last. inl (inl last)) (splits unsynced old c had)
 
--- behind a put a stop leaves what it might have left before, or what was put
+-- after a put a stop leaves what it might have left before, or the bytes that were put
 pub put_stop : (unsynced then : Contents) (old : Vec ℕ Global) (new next : List ℕ) → then ≡ unsynced ++ old ∷ []
     → new ≡ next → MayAlso (λ c. c ≡ next) (MayBeLeft old.items unsynced) (MayBeLeft new then)
 put_stop unsynced then old new next same is = rw (same, is) (put_left unsynced old next)

@@ -137,7 +137,7 @@ stays limit None (Some now) records bytes c shown one other becomes = tt
 stays limit (Some known) (Some now) records bytes c shown one other becomes =
     alike limit (Some known) records bytes now shown one (subst (Loads limit records) (sym becomes) other)
 
--- what is behind a journal that is shown
+-- the bytes after a journal that is shown
 behind_alike : (limit : ℕ) (seen : Option (List ℕ)) (records : List Record) (bytes : List ℕ) (len : ℕ)
     → Shows seen bytes → Loads limit records bytes → AreKept Two limit records → IsTorn Two bytes records len
     → (c : List ℕ) → IsBehind len seen c → LoadsAlike limit seen c
@@ -159,7 +159,7 @@ module _ {S : Type 0} (moment : S → ℕ) (left_since : S → ℕ → List ℕ 
   one_call old new P now here time then =
       goes_on moment left_since old old new P now (started moment left_since old P here) time then
 
-  -- and one behind it, after which a stop leaves no more
+  -- and one after it, after which a stop leaves no more
   pub two_calls : (old mid new : S) (P between now : List ℕ → Type 0)
       → ((c : List ℕ) → left_since old (moment old) c → P c)
       → Elapses (moment old) (moment mid) (left_since old) (left_since mid) between → ((c : List ℕ) → between c → P c)

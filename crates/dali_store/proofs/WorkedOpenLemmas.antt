@@ -1,4 +1,4 @@
--- What the bytes of a small journal load to and what opening them does, and what is near it and isn't so.
+-- The journal that the bytes of a small journal load to and the effect of opening them, and near cases that aren't so.
 use Rattle.std.proofs.Common.{◌≡◌, inl, inr, refl, arith, ap, ℕ, List, [], ◌∷◌, Some, length}
 use Rattle.dali_journal.specs.declared.fault.JournalFault.TheVariants as faults
 use Rattle.dali_journal.specs.declared.record.Record.{Record}
@@ -14,7 +14,7 @@ use Rattle.dali_store.specs.Opened.{Loads, IsOpened, LoadsAlike, StaysAlike, Lea
 use Rattle.dali_store.specs.WorkedStores.{order, begun_at, journal_of, whole, with_cut, bare, old, anew}
 use Rattle.dali_store.proofs.OpenLemmas.{whole_loads, kept_two}
 
--- What bytes load to
+-- The journal that bytes load to
 
 is_record : IsRecord Two (Began order 7)
 is_record = (
@@ -125,7 +125,7 @@ pub leaves_no_fewer : LeavesAlike 1 (Some with_cut) (λ c. c ≡ with_cut) bare 
 leaves_no_fewer (inl before) = omega (arith, ap (λ (l : List ℕ). length l) before)
 leaves_no_fewer (inr alike) = not_alike_fewer alike
 
--- What is opened
+-- The journal that is opened
 
 pub cut_opened : IsOpened 1 100 (Some with_cut) (journal_of (begun_at 7))
 cut_opened = record {

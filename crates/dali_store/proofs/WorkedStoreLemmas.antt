@@ -1,11 +1,12 @@
--- What the calls of a store do to small bytes and what a stop may leave of them, and what is near it and isn't so.
+-- The effect of the calls of a store on small bytes and the bytes that a stop may leave of them, and near cases that
+-- aren't so.
 use Rattle.std.proofs.Common.{◌≡◌, ◌⊎◌, inl, inr, refl, arith, ℕ, List, [], ◌∷◌, Some, None, Vec, true, false}
 use Rattle.std.specs.declared.alloc.Global.{Global}
 use Rattle.dali_store.specs.Stores.{Shows, IsDurable, IsBetween, IsBehind, MayAlso, Elapses, LeavesOnly}
 use Rattle.dali_store.specs.Stores.{Takes, is_refusal, IsWithin, IsLonger, CutsTo, Becomes, KeepsOrBecomes}
 use Rattle.dali_store.specs.Memory.{MayBeLeft, MightBeLeft}
 
--- What a stop leaves
+-- The bytes that a stop leaves
 
 -- it leaves these bytes, and these alone
 abbrev Just : List ℕ → List ℕ → Type 0
@@ -85,7 +86,7 @@ leaves_no_other only = let left = only.each (2 ∷ []) (inr refl) in cc
 pub leaves_nothing_before : LeavesOnly (λ s. s) (λ s t. Just (1 ∷ [])) 1 0 (Just (1 ∷ [])) → ⊥
 leaves_nothing_before only = omega (arith, only.later)
 
--- What the calls do
+-- The effect of the calls
 
 pub takes_a_part : Takes (Some (1 ∷ [])) (Some (1 ∷ 2 ∷ [])) (Some 1) (2 ∷ 3 ∷ [])
 takes_a_part = (omega arith, refl)
@@ -137,7 +138,7 @@ half_isnt_replaced (inr becomes) = cc
 pub become_unknown_isnt_become : Becomes (Some (1 ∷ [])) None (2 ∷ []) → ⊥
 become_unknown_isnt_become forgotten = forgotten
 
--- What a store in memory may leave
+-- The bytes that a store in memory may leave
 
 pub unsynced_may_be_left : (v : Vec ℕ Global) → v.items ≡ 1 ∷ [] → MayBeLeft (1 ∷ 2 ∷ []) (v ∷ []) (1 ∷ [])
 unsynced_may_be_left v is = inr (inl (grind arith))

@@ -1,4 +1,4 @@
--- What a contract says of a store in a file.
+-- The contract of a store in a file.
 use Rattle.std.specs.Prelude.{◌≡◌, ℕ, Bool, List, true, false}
 use Rattle.dali_store.specs.declared.file_store.FileStore.{FileStore}
 use Rattle.dali_store.specs.declared.file_store.Kind.{Kind}
@@ -15,8 +15,8 @@ abbrev pub is_made : Kind → Bool
 is_made (Journal file) = file.is_made
 is_made Text = true
 
--- it is in the file of this name, as the store of a journal or else of a text, which is made where there is none or
--- not, and hasn't failed
+-- it is in the file of this name, as the store of a journal or else of a text, which is made if there is none or not,
+-- and hasn't failed
 abbrev pub IsIn : {R : Type 0} → Bool → Bool → List ℕ → FileStore R → Type 0
 IsIn of_journal made name store =
     (is_of_journal store.kind ≡ of_journal) × (is_made store.kind ≡ made) × (store.name.now ≡ name)

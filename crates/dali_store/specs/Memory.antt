@@ -1,4 +1,4 @@
--- What a store in memory shows, and what a stop may leave of it or might have left.
+-- The bytes that a store in memory shows, and those that a stop may leave of it or might have left.
 use Rattle.std.specs.Prelude.{◌≡◌, ◌⊎◌, ℕ, List, [], ◌∷◌, Some, length, drop, Vec, Bool}
 use mathlib.Core.Logic.{inl, inr}
 use Rattle.std.proofs.Common.{sym}

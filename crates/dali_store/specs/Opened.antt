@@ -1,4 +1,4 @@
--- What a store's bytes are as a journal, and what opening it does.
+-- A store's bytes as a journal, and the effect of opening it.
 use Rattle.std.specs.Prelude.{◌≡◌, ◌⊎◌, ◌≤◌, ℕ, List, Option, Some, None, length, ⊤, Bool, true, false}
 use Rattle.std.specs.Io.KnownBytes.{Keeps}
 use Rattle.dali_journal.specs.declared.record.Record.{Record}
@@ -17,7 +17,7 @@ pub record Loads (limit : ℕ) (records : List Record) (bytes : List ℕ) : Type
   pub kept : AreKept version limit records
   pub loadable : IsLoadable version bytes records len
 
--- the journal of what a store shows: of at most so many bytes, of which so many count, in this version
+-- the journal of the bytes that a store shows: at most `most` bytes, of which `counted` count, in this version
 pub record IsFound (limit most : ℕ) (seen : Option (List ℕ)) (journal : JournalState) (version : Version)
     (counted total : ℕ) : Type 0 where
   pub bytes : List ℕ
@@ -47,8 +47,8 @@ StaysAlike limit old (Some bytes) = LoadsAlike limit old bytes
 abbrev pub LeavesAlike : ℕ → Option (List ℕ) → (List ℕ → Type 0) → List ℕ → Type 0
 LeavesAlike limit seen before c = before c ⊎ LoadsAlike limit seen c
 
--- Why a journal isn't opened. Nothing is changed where the bytes are no journal's, or too many, or there was no memory;
--- a store that failed holds the same bytes, or bytes of the same records.
+-- Why a journal isn't opened. Nothing is changed if the bytes are no journal's, or too many, or there was no memory; a
+-- store that failed holds the same bytes, or bytes of the same records.
 abbrev pub IsOpenFault : ℕ → ℕ → Option (List ℕ) → Option (List ℕ) → OpenFault → Type 0
 IsOpenFault limit most old new (Journal fault) =
     ((bytes : List ℕ) × Shows old bytes × (length bytes ≤ most) × IsLoadFault HoldsOrders limit bytes fault)

@@ -1,12 +1,12 @@
--- What the calls of a store do to its bytes, and what a stop may leave of them. Nothing is said where those are not
--- known.
+-- The effect of the calls of a store on its bytes, and the bytes that a stop may leave of them. Nothing is said if
+-- those are not known.
 use Rattle.std.specs.Prelude.{◌≡◌, ◌⊎◌, ◌<◌, ◌≤◌, ◌==◌, ℕ, Bool, true, false, List, ◌++◌, Option, Some, None, length}
 use Rattle.std.specs.Prelude.{take, ⊤, Result, Err}
 use Rattle.std.specs.Io.KnownBytes.{Appends, Keeps}
 use Rattle.dali_store.specs.declared.store.StoreFault.{StoreFault}
 use Rattle.dali_store.specs.declared.store.StoreFault.TheVariants.{Failed}
 
--- What a stop leaves
+-- The bytes that a stop leaves
 
 -- the known bytes are these
 abbrev pub Shows : Option (List ℕ) → List ℕ → Type 0
@@ -23,7 +23,7 @@ abbrev pub IsBetween : Option (List ℕ) → Option (List ℕ) → List ℕ → 
 IsBetween (Some short) (Some long) c = (more : List ℕ) × (rest : List ℕ) × (c ≡ short ++ more) × (long ≡ c ++ rest)
 IsBetween short long c = ⊤
 
--- these bytes are a first part of the known ones, and so many or more
+-- these bytes are a first part of the known ones, and `len` or more
 abbrev pub IsBehind : ℕ → Option (List ℕ) → List ℕ → Type 0
 IsBehind len None c = ⊤
 IsBehind len (Some bytes) c = (len ≤ length c) × (rest : List ℕ) × (bytes ≡ c ++ rest)
@@ -46,9 +46,9 @@ pub record LeavesOnly {S : Type 0} (moment : S → ℕ) (left_since : S → ℕ 
   -- for a run that began earlier
   pub before : (t : ℕ) (c : List ℕ) → t ≤ moment old → left_since new t c → left_since old t c ⊎ P c
 
--- What the calls do
+-- The effect of the calls
 
--- what putting bytes does; where it fails a first part may have been put
+-- what putting bytes does; if it fails a first part may have been put
 abbrev pub Takes : Option (List ℕ) → Option (List ℕ) → Option ℕ → List ℕ → Type 0
 Takes old new (Some k) bytes = (k ≤ length bytes) × Appends old new (take k bytes)
 Takes old new None bytes = (k : ℕ) × (k ≤ length bytes) × Appends old new (take k bytes)
@@ -67,7 +67,7 @@ abbrev pub IsLonger : ℕ → Option (List ℕ) → Type 0
 IsLonger limit None = ⊤
 IsLonger limit (Some bytes) = limit < length bytes
 
--- the known bytes are the first so many
+-- the known bytes are the first `len`
 abbrev pub AreFirst : ℕ → Option (List ℕ) → Option (List ℕ) → Type 0
 AreFirst len None new = ⊤
 AreFirst len (Some bytes) None = ⊥

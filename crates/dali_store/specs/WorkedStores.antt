@@ -17,7 +17,7 @@ begun_at moment = Began order moment ∷ []
 abbrev pub journal_of : List Record → JournalState
 journal_of records = record { records = records; limit = 1; room = 0; numbers = 1 ∷ []; index_room = 0 }
 
--- its journal in version 2, the same with the first byte of another record behind it, and with one byte less
+-- its journal in version 2, the same with the first byte of another record after it, and with one byte less
 abbrev pub whole : List ℕ
 whole = journal_spelling Two (begun_at 7)
 
@@ -27,7 +27,7 @@ with_cut = whole ++ 79 ∷ []
 abbrev pub bare : List ℕ
 bare = header Two
 
--- its journal in version 1, in which no moment stands, and the same written anew
+-- its journal in version 1, in which no moment is written, and the same written anew
 abbrev pub old : List ℕ
 old = journal_spelling One (begun_at 0)
 

@@ -21,7 +21,7 @@ pub struct FileStore<'a, R> {
     name: &'a str,
     kind: Kind,
     failed: bool,
-    // The first failure, in words for a person, where there was memory for them.
+    // The first failure, in words for a person, if there was memory for them.
     cause: Option<String>,
 }
 
@@ -32,15 +32,15 @@ enum Kind {
 }
 
 impl<'a, R: Files<File = File> + AllocGlobal> FileStore<'a, R> {
-    /// The store in the file of a journal, of this name. The first call has to be `read`, which opens the file, made
-    /// where there is none, and locks it for as long as the store lasts; any other fails before it.
+    /// The store in the file of a journal, of this name. The first call has to be `read`, which opens the file, made if
+    /// there is none, and locks it for as long as the store lasts; any other fails before it.
     pub fn journal(rt: &'a R, name: &'a str) -> FileStore<'a, R>
         ensures { IsIn true true name.now result }
     {
         FileStore::of_kind(rt, name, Kind::Journal(JournalFile::new(true)))
     }
 
-    /// The same, of a file that is there and has a byte: where there is none, `read` makes none and fails.
+    /// The same, of a file that is there and has a byte: if there is none, `read` makes none and fails.
     pub fn found_journal(rt: &'a R, name: &'a str) -> FileStore<'a, R>
         ensures { IsIn true false name.now result }
     {

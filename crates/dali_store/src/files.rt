@@ -1,4 +1,4 @@
-// What the calls on the files of a store share: why one fails, a lock, all bytes of a file.
+// The shared parts of the calls on the files of a store: why one fails, a lock, all bytes of a file.
 ghost use Rattle.std.specs.Prelude.{◌≤◌, IfOk, length};
 
 use crate::new_file::Writer;
@@ -10,7 +10,7 @@ use std::io::{ErrorKind, Read};
 // How many bytes are read at a time.
 const CHUNK: usize = 65536;
 
-// Why a call doesn't do what is asked: with the words for a person, where it fails.
+// Why a call doesn't do what is asked: with the words for a person, if it fails.
 #[derive(Drop)]
 pub(crate) enum Hindrance {
     Failed(Option<String>),
@@ -18,7 +18,7 @@ pub(crate) enum Hindrance {
     NoMemory,
 }
 
-// What a failure of the system means for a file.
+// The meaning of a failure of the system for a file.
 pub(crate) fn unusable(alloc: Global, name: &str, cause: io::Error) -> Hindrance {
     if cause.kind() == ErrorKind::OutOfMemory {
         return Hindrance::NoMemory;
@@ -30,7 +30,7 @@ pub(crate) fn refused(alloc: Global, why: &str, name: &str) -> Hindrance {
     Hindrance::Failed(format!(in alloc; "{why}: {name}").ok())
 }
 
-// What the system gives, or what its failure means for a file.
+// The result that the system gives, or the meaning of its failure for a file.
 pub(crate) fn given<T: Drop>(
     alloc: Global,
     name: &str,
@@ -67,7 +67,7 @@ pub(crate) enum Unread {
     Failed(io::Error),
 }
 
-// All the bytes that a file gives from here on, where there are no more than the limit.
+// All the bytes that a file gives from here on, if there are no more than the limit.
 pub(crate) fn bytes_up_to(alloc: Global, file: &mut File, limit: usize) -> Result<Vec<u8>, Unread>
     ensures { IfOk result (λ bytes. length bytes.items ≤ limit) }
 {
@@ -92,7 +92,7 @@ pub(crate) fn bytes_up_to(alloc: Global, file: &mut File, limit: usize) -> Resul
     Ok(bytes)
 }
 
-// The same of the file of this name, with the words for a person where that fails.
+// The same of the file of this name, with the words for a person if that fails.
 pub(crate) fn read_up_to(
     alloc: Global,
     name: &str,

@@ -10,13 +10,13 @@ use std::io;
 use std::io::{ErrorKind, Seek, SeekFrom, Write};
 use std::os::unix::fs::FileTypeExt;
 
-// The file of a journal: `read` opens it, made where there is none or not, and locks it for as long as this lasts. Any
+// The file of a journal: `read` opens it, made if there is none or not, and locks it for as long as this lasts. Any
 // other call fails before that.
 #[derive(Drop)]
 pub(crate) struct JournalFile {
-    // The file of the orders, where one is known: the journal can't be that one.
+    // The file of the orders, if one is known: the journal can't be that one.
     orders: Option<FileId>,
-    // Whether it is made where there is none.
+    // Whether it is made if there is none.
     is_made: bool,
     opened: Option<Opened>,
 }
@@ -46,7 +46,7 @@ impl JournalFile {
         self.orders = Some(id_of(orders));
     }
 
-    // Opens the file where it isn't open yet, and reads all that it has, where that are no more bytes than the limit.
+    // Opens the file if it isn't open yet, and reads all its bytes, if they are no more than the limit.
     pub(crate) fn read<R: Files<File = File>>(
         &mut self,
         rt: &R,
@@ -137,7 +137,7 @@ impl JournalFile {
     }
 }
 
-// Opens a file to read it and to append to it, made where there is none or not, and locks it.
+// Opens a file to read it and to append to it, made if there is none or not, and locks it.
 fn open<R: Files<File = File>>(
     rt: &R,
     alloc: Global,

@@ -1,4 +1,6 @@
 //! The place where the bytes of a journal are kept, and what a stop may leave of them at any moment.
+//!
+//! A crate of its own: only it calls the system for a journal, and a drive takes any store.
 #![tactic(auto)]
 
 mod file_store;

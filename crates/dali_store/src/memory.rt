@@ -38,21 +38,21 @@ impl MemoryStore {
         }
     }
 
-    /// What is there.
+    /// The bytes that are there.
     pub fn bytes(&self) -> &[u8]
         ensures { result.now ≡ memory_bytes self.now }
     {
         &self.bytes
     }
 
-    /// What was there since the last sync, the oldest first. A stop may leave each of them.
+    /// The bytes that were there since the last sync, the oldest first. A stop may leave each of them.
     pub fn unsynced(&self) -> &[Vec<u8>]
         ensures { result.now ≡ memory_unsynced self.now }
     {
         &self.unsynced
     }
 
-    /// What was unsynced before each sync that found any, the oldest first.
+    /// The unsynced bytes before each sync that found any, the oldest first.
     pub fn past(&self) -> &[Vec<Vec<u8>>]
         ensures { result.now ≡ memory_past self.now }
     {
@@ -104,7 +104,7 @@ impl MemoryStore {
     }
 }
 
-// These bytes, and one more behind them.
+// These bytes, and one more after them.
 fn with_byte(alloc: Global, bytes: &[u8], byte: u8) -> Result<Vec<u8>, AllocError>
     ensures { IfOk result (λ more. more.items ≡ bytes.now ++ byte ∷ []) }
 {
@@ -188,7 +188,7 @@ impl Store for MemoryStore {
         self.put(next) && self.settle()
     }
 
-    // Where nothing is new all stays as it is, so that a sync takes no memory then.
+    // If nothing is new all stays as it is, so that a sync takes no memory then.
     fn sync(&mut self) -> bool
         ensures still { self.old.unsynced.items ≡ [] → self.new ≡ self.old }
         ensures same { self.new.bytes.items ≡ self.old.bytes.items }

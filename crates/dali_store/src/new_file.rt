@@ -12,7 +12,7 @@ use std::{fs, io};
 // How many bytes are read at a time.
 const CHUNK: usize = 65536;
 
-// Who writes a file.
+// The writer of a file.
 #[derive(Clone, Copy)]
 pub(crate) enum Writer {
     // A drive, its journal.
@@ -70,7 +70,7 @@ fn fill<R: Files<File = File>>(
     fs::rename(rt, place.new_name.as_str(), place.name.as_str())
 }
 
-// The new file, locked, made where there is none.
+// The new file, locked, made if there is none.
 fn new_file<R: Files<File = File> + AllocGlobal>(
     rt: &R,
     name: &str,

@@ -27,8 +27,8 @@ struct Found {
     total: usize,
 }
 
-/// Opens the journal that a store holds, for at most so many orders, of at most so many bytes. The store holds it in
-/// version 2 then, with nothing behind what counts, and a stop leaves that.
+/// Opens the journal that a store holds, for at most `limit` orders, of at most `most` bytes. The store holds it in
+/// version 2 then, with nothing after the bytes that count, and a stop leaves that.
 ///
 /// At each moment a stop leaves what it might have left before, or bytes of the same records.
 pub fn open<S: Store>(
@@ -92,7 +92,7 @@ fn found_in<S: Store>(
     }
 }
 
-// Sees to it that a store holds a journal in version 2 and nothing behind it.
+// Sees to it that a store holds a journal in version 2 and nothing after it.
 fn ready<S: Store>(
     alloc: Global,
     store: &mut S,
@@ -154,7 +154,7 @@ fn write_anew<S: Store>(
     }
 }
 
-// Cuts away what is behind the bytes that count.
+// Cuts away the bytes after those that count.
 fn cut_behind<S: Store>(
     store: &mut S,
     limit: u32,

@@ -1,4 +1,4 @@
-// Where a file stands that another may replace. No contract tells of a real file: this is trusted.
+// The place of a file that another may replace. No contract tells of a real file: this is trusted.
 use crate::files::{Hindrance, given, refused, unusable};
 use crate::new_file::Writer;
 use std::alloc::Global;
@@ -15,7 +15,7 @@ pub(crate) struct FileId {
     ino: u64,
 }
 
-// Where a regular file stands, by its canonical name, its folder, and how it was found there, or where none stands yet.
+// The place of a regular file, by its canonical name, its folder, and how it was found there, or if there is none yet.
 #[derive(Drop)]
 pub(crate) struct Place {
     pub(crate) found: Option<Metadata>,
@@ -32,7 +32,7 @@ pub(crate) fn id_of(found: &Metadata) -> FileId {
     }
 }
 
-// Where a locked file stands. The name has to mean it still: another drive may have replaced it before the lock.
+// The place of a locked file. The name has to mean it still: another drive may have replaced it before the lock.
 pub(crate) fn place_of<R: Files<File = File>>(
     rt: &R,
     alloc: Global,
@@ -76,7 +76,7 @@ pub(crate) fn names_of<R: Files<File = File>>(
     names_at(alloc, path.as_path())
 }
 
-// The same of a path as it stands, where no file needs to be.
+// The same of a path as given, if no file needs to be there.
 pub(crate) fn names_at(alloc: Global, path: Path<'_>) -> io::Result<(String, String, String)> {
     let shown = path.display();
     let folder = match path.parent() {
@@ -91,7 +91,7 @@ pub(crate) fn names_at(alloc: Global, path: Path<'_>) -> io::Result<(String, Str
     ))
 }
 
-// Opens a file so that it is made where there is none. Where the folder lets none be made, that is what is told.
+// Opens a file so that it is made if there is none. If the folder lets none be made, that is reported.
 pub(crate) fn opened_or_made<R: Files<File = File>>(
     rt: &R,
     alloc: Global,

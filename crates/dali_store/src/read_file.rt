@@ -16,7 +16,7 @@ pub struct ReadFile {
     alloc: Global,
     file: File,
     failed: bool,
-    // The first failure, in words for a person, where there was memory for them.
+    // The first failure, in words for a person, if there was memory for them.
     cause: Option<String>,
 }
 
@@ -48,7 +48,7 @@ impl ReadFile {
         self.note(&io::Error::from(ErrorKind::PermissionDenied));
     }
 
-    // All that the file has, where that are no more bytes than the limit.
+    // All the bytes of the file, if they are no more than the limit.
     fn bytes(&mut self, alloc: Global, limit: usize) -> Result<Vec<u8>, Unread>
         ensures within { IfOk result (λ bytes. length bytes.items ≤ limit) }
         ensures failed { self.new.failed ≡ self.old.failed }
@@ -128,8 +128,8 @@ impl Store for ReadFile {
     }
 }
 
-/// Waits until what a file gives is on the disk (profile). What can't be synced, as a pipe or a disk that is only read,
-/// has nothing to lose.
+/// Waits until the bytes that a file gives are on the disk (profile). A file that can't be synced, such as a pipe or
+/// one on a read-only disk, has nothing to lose.
 pub fn settle_read(file: &File) -> io::Result<()> {
     match file.sync_all() {
         Err(cause)

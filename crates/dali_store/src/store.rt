@@ -43,22 +43,22 @@ impl<T: Drop> From<AllocFailed<T>> for StoreFault {
 /// The place where the bytes of one journal are kept (profile). A stop, of the program or of the computer, may come
 /// at any moment, and what is kept then is what the store left.
 pub trait Store {
-    /// The bytes that a read gives, where they are known.
+    /// The bytes that a read gives, if they are known.
     ghost seen: { Self → Option (List ℕ) };
 
-    /// What a stop at this moment may leave.
+    /// The bytes that a stop at this moment may leave.
     ghost may_leave: { Self → List ℕ → Type 0 };
 
     /// The moment, as a number that doesn't fall.
     ghost moment: { Self → ℕ };
 
-    /// What a stop at some moment from that one on might have left, during a call or between two.
+    /// The bytes that a stop at some moment from that one on might have left, during a call or between two.
     ghost left_since: { Self → ℕ → List ℕ → Type 0 };
 
     /// Whether a call has failed.
     ghost failed: { Self → Bool };
 
-    /// All the bytes, where there are no more than so many.
+    /// All the bytes, if there are no more than `limit`.
     fn read(&mut self, alloc: Global, limit: usize) -> Result<Vec<u8>, StoreFault>
         ensures bytes { IfOk result (λ bytes. Shows (seen self.old) bytes.items × (length bytes.items ≤ limit)) }
         ensures too_big { IsErrOf result TooBig → IsLonger limit (seen self.old) }
@@ -68,7 +68,7 @@ pub trait Store {
             (may_leave self.new) }
         ensures failed { failed self.new ≡ (failed self.old || is_failure result) };
 
-    /// Puts some bytes behind those that are there: `Some(k)` where just the first `k` of them were put. `None` and
+    /// Puts some bytes after those that are there: `Some(k)` if just the first `k` of them were put. `None` and
     /// `Some(0)` are failures, and at `None` a first part of them may have been put.
     ///
     /// There has to be a byte. A stop leaves what it might have left before, or a first part of what is there then,
@@ -81,7 +81,7 @@ pub trait Store {
             (may_leave self.new) }
         ensures failed { failed self.new ≡ (failed self.old || is_refusal result) };
 
-    /// Cuts away what is behind the first so many bytes. Where it fails nothing is cut away.
+    /// Cuts away the bytes after the first `len`. If it fails nothing is cut away.
     ///
     /// A stop leaves what it might have left before, or a first part of what was there, with all that is there then.
     fn cut(&mut self, len: usize) -> bool
@@ -92,8 +92,7 @@ pub trait Store {
             (may_leave self.new) }
         ensures failed { failed self.new ≡ (failed self.old || not result) };
 
-    /// Puts these bytes in the place of all that is there, whole or not at all. Where that succeeds a stop leaves
-    /// them.
+    /// Puts these bytes in the place of all that is there, whole or not at all. If that succeeds a stop leaves them.
     fn replace(&mut self, bytes: &[u8]) -> bool
         ensures bytes { result ≡ true → Becomes (seen self.old) (seen self.new) bytes.now }
         ensures whole { result ≡ false → KeepsOrBecomes (seen self.old) (seen self.new) bytes.now }
@@ -103,7 +102,7 @@ pub trait Store {
             (may_leave self.new) }
         ensures failed { failed self.new ≡ (failed self.old || not result) };
 
-    /// After it a stop leaves what a read gives. `false` where that failed.
+    /// After it a stop leaves what a read gives. `false` if that failed.
     fn sync(&mut self) -> bool
         ensures same { seen self.new ≡ seen self.old }
         ensures settled { result ≡ true → IsDurable (seen self.new) (may_leave self.new) }
@@ -116,7 +115,7 @@ pub trait Store {
     fn has_failed(&self) -> bool
         ensures { result ≡ failed self.now };
 
-    /// What failed, in words for a person, where there are any.
+    /// The failure, in words for a person, if there are any.
     fn cause(&self) -> Option<&str>
         ensures { IfSome result (λ words. failed self.now ≡ true) };
 
@@ -124,16 +123,16 @@ pub trait Store {
     ghost counts_now: { (store : Self) (t : ℕ) (c : List ℕ) → t ≤ moment store → may_leave store c
         → left_since store t c };
 
-    /// What is seen may be left.
+    /// Bytes that are seen may be left.
     ghost leaves_what_is_seen: { (store : Self) (c : List ℕ) → seen store ≡ Some c → may_leave store c };
 
     /// Since this moment there is no other.
     ghost only_now: { (store : Self) (c : List ℕ) → left_since store (moment store) c → may_leave store c };
 }
 
-/// Puts all the bytes behind those that are there. Where that fails a first part of them was put.
+/// Puts all the bytes after those that are there. If that fails a first part of them was put.
 ///
-/// Where a stop left all that was there before, at each moment it leaves that with a first part of what was put.
+/// If a stop left all that was there before, at each moment it leaves that with a first part of what was put.
 pub fn append_all<S: Store>(store: &mut S, bytes: &[u8]) -> bool
     ensures whole { result ≡ true → Appends (S.seen store.old) (S.seen store.new) bytes.now }
     ensures cut { result ≡ false

@@ -13,7 +13,7 @@ use std::{fs, io};
 const MOST_TEXT: usize = 4096;
 
 // Has a new file with these bytes take the place of a regular one, or of none. A regular one that is no text is left
-// alone: it may be a journal. What is no regular file is written to.
+// alone: it may be a journal. A file that isn't regular is written to.
 pub(crate) fn put_text<R: Files<File = File> + AllocGlobal>(
     rt: &R,
     name: &str,

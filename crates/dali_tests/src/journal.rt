@@ -11,7 +11,7 @@ use dali_shared_tests::{GTIN, expect_that};
 use std::alloc::Global;
 use std::test::Fail;
 
-// What a journal of version 2 begins with.
+// The beginning of a journal of version 2.
 static HEADER: [u8; 4] = [0x44, 0x42, 0x31, 0x02];
 
 // The moment of order 1, 65 53 F1 00 in hexadecimal digits, and that of order 2.
@@ -45,7 +45,7 @@ fn order_of(id: u64, unit: u8) -> Result<Order, Fail>
     Ok(Order::from_pairs(id, unit, &GTIN).ok_or("an order")?)
 }
 
-// Makes room, at the second call where the first is refused, and tells whether it was.
+// Makes room, at the second call if the first is refused, and tells whether it was.
 fn reserve_again(journal: &mut Journal, order: &Order) -> Result<bool, NoMemory>
     ensures records { journal.new.records ≡ journal.old.records }
     ensures limit { journal.new.limit ≡ journal.old.limit }
@@ -60,7 +60,7 @@ fn reserve_again(journal: &mut Journal, order: &Order) -> Result<bool, NoMemory>
     }
 }
 
-// The journal's bytes, at the second call where the first is refused, and whether it was.
+// The journal's bytes, at the second call if the first is refused, and whether it was.
 fn bytes_again(alloc: Global, journal: &Journal) -> Result<(Vec<u8>, bool), NoMemory> {
     match journal.to_bytes(alloc) {
         Ok(bytes) => Ok((bytes, false)),
@@ -68,7 +68,7 @@ fn bytes_again(alloc: Global, journal: &Journal) -> Result<(Vec<u8>, bool), NoMe
     }
 }
 
-// How many of these bytes are loaded, at the second call where there is no memory at the first, and whether there was
+// How many of these bytes are loaded, at the second call if there is no memory at the first, and whether there was
 // none.
 fn load_again(alloc: Global, bytes: &[u8]) -> Result<(usize, bool), JournalFault> {
     match Journal::load(alloc, 2, bytes) {
@@ -93,7 +93,8 @@ fn begin_both(journal: &mut Journal, order: &Order, next: Order) -> Result<bool,
     Ok(first || second)
 }
 
-// `./test` runs this one again and again, with each allocation refused in turn. What is refused changes
+// `./test` runs this one again and again, with each allocation refused in turn. A refused call changes nothing, and is
+// done when it is called again.
 // nothing, and is done when it is called again.
 #[test]
 fn a_refused_growth_changes_nothing(rt: HostRuntime) -> Result<(), Fail> {

@@ -32,7 +32,7 @@ fn finish<B: Bus>(bus: &mut B, session: &mut Session) -> (u32, Option<Verdict>) 
     (15_000, None)
 }
 
-// Reads a bank in so many frames.
+// Reads a bank in `frames` frames.
 fn judge_reading(alloc: Global, bank: &[u8], frames: u32) -> Result<(), Fail> {
     let mut bus = bus_of(alloc, bank)?;
     let mut session = Session::reading(5);

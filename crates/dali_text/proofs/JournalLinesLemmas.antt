@@ -1,4 +1,4 @@
--- Lemmas on what is told of a journal.
+-- Lemmas on how a journal is printed.
 use Rattle.std.proofs.Common.{◌≡◌, ◌∙◌, Bool, true, OnOk, Result, Ok, Err, ℕ, List, [], ◌∷◌, ◌++◌, Option, length, drop, reverse}
 use Rattle.std.proofs.Common.{length-append, append_assoc, append-nil, ap, sym, subst, refl, arith}
 use Rattle.std.specs.List.{AllByRecursion, flat_map}
@@ -35,7 +35,7 @@ all_forward (newest ∷ older) all =
     subst (AllByRecursion (IsRecord Two)) (sym (reverse-append (newest ∷ []) older))
     (all_one_more (IsRecord Two) (reverse older) newest (all_forward older all.1) all.0)
 
--- the updates of an order behind the record that begins it
+-- the updates of an order after the record that begins it
 pub updates_behind : {A E : Type 0} (r : Result A E) (with_updates : Bool) (entry : Record) (order : Contents)
     (moment : ℕ)
     (updates : List (ℕ × ℕ)) (before mid now : Option (List ℕ))
@@ -49,7 +49,7 @@ updates_behind (Ok _) with_updates entry order moment updates before mid now wan
     (subst (λ those. Appends mid now (flat_map update_line those)) same behind))
 updates_behind (Err error) with_updates entry order moment updates before mid now wanted is same line behind = tt
 
--- so many of the records are told, and the rest of the bytes are those of the others
+-- some of the records are printed, and the rest of the bytes are those of the others
 pub record WrittenSoFar (with_updates : Bool) (records : List Record) (rest : List ℕ) (before now : Option (List ℕ)) :
     Type 0 where
   pub done : List Record
@@ -66,7 +66,7 @@ pub none_told : (with_updates : Bool) (records : List Record) (bytes : List ℕ)
 none_told with_updates records bytes before all are =
     record { done = []; left = records; split = refl; in_range = all; bytes = are; appended = Appends-nil before }
 
--- a record is read off the rest, and told
+-- a record is read off the rest, and printed
 read_off : (with_updates : Bool) (records done left : List Record) (rest : List ℕ) (entry : Record) (len : ℕ)
     (before mid now : Option (List ℕ))
     → IsRead Two rest (Whole entry len)
@@ -107,7 +107,7 @@ told_more with_updates records rest entry len before mid now reads told line =
     told.bytes
     told.appended line
 
--- where the rest begins with no record, all are told
+-- if the rest begins with no record, all are printed
 none_left : (with_updates : Bool) (records done left : List Record) (rest : List ℕ) (piece : Piece)
     (before now : Option (List ℕ))
     → IsRead Two rest piece → ((entry : Record) (len : ℕ) → ¬ (piece ≡ Whole entry len))

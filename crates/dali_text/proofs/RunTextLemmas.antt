@@ -32,7 +32,7 @@ proper_forward (oldest ∷ trace) all =
 
 -- ---- groups
 
--- so many groups
+-- the first `count` groups
 abbrev pub groups : ℕ → List ℕ → ℕ → List ℕ
 groups address bytes count = flat_map (λ number. group_line address number bytes) (range_with_len 0 count)
 
@@ -44,8 +44,8 @@ groups_more address bytes n =
 
 -- ---- runs of frames
 
--- what is left to tell of a trace: where so many frames of a run aren't told yet, the line of this run, and then the
--- rest
+-- the part of a trace that isn't printed yet: if some frames of a run aren't printed yet, the line of this run, and
+-- then the rest
 abbrev pub left_text : ℕ → List Happening → List ℕ
 left_text zero rest = summary false rest
 left_text (suc k) rest = frames_line (frames_ahead rest + suc k) ++ summary true rest
@@ -65,7 +65,7 @@ left_other frames (Sent frame answer) rest other = cc
 left_other zero _ rest other = refl
 left_other (suc k) happening rest other = told_before k (happening_line happening) (summary false rest)
 
--- so much of a trace is told, and so many frames of a run that stands before the rest are not
+-- the trace is printed up to an index, except for the frames of a run right before it
 pub record Summing (trace : List Happening) (index frames : ℕ) (before now : Option (List ℕ)) : Type 0 where
   pub few : frames ≤ index
   pub text : List ℕ

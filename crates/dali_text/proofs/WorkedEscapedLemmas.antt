@@ -24,7 +24,7 @@ pub line_feed_in_words : shown_letters (codes "x\nreply") ≡ codes "x\\u{a}repl
 unfolding digits
 line_feed_in_words = refl
 
--- so many characters are shown alone, and of more the first ones with dots
+-- this many characters are shown alone, and of more the first ones with dots
 pub as_many_shown : shown_front 2 (codes "ab") ≡ codes "ab"
 as_many_shown = refl
 

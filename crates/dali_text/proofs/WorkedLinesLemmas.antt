@@ -1,4 +1,4 @@
--- What is told of a bank's end, of an output and of runs of frames, by hand, on both sides of each rule.
+-- How a bank's end, an output and runs of frames are printed, by hand, on both sides of each rule.
 use Rattle.std.proofs.Common.{◌≡◌, refl, ap, inl, inr, ℕ, true, false, List, [], ◌∷◌, Some, None, Ok, Err, codes}
 use Rattle.std.proofs.Common.{arith, get_or}
 use Rattle.std.proofs.lemmas.Fmt.{decimal_digit}
@@ -34,7 +34,7 @@ no_other_byte_told = λ says. by says where
   by (inl (short, is)) = omega (arith, short)
   by (inr (long, is)) = let first : 48 ≡ 65 = ap (λ (text : List ℕ). get_or text 0 0) is in omega (arith, first)
 
--- of two bytes of which the bank has one, none is told
+-- of two bytes of which the bank has one, none is printed
 pub absent_behind_the_end : IsPlainText bank 2 2 (codes "absent")
 absent_behind_the_end = inl (omega arith, refl)
 

@@ -1,4 +1,4 @@
--- How the bytes of a memory bank 1 are told.
+-- How the bytes of a memory bank 1 are printed.
 use Rattle.std.specs.Prelude.{◌≡◌, ◌⊎◌, ◌+◌, ◌-◌, ◌<◌, ◌≤◌, ℕ, List, [], ◌∷◌, ◌++◌, codes, decimal, drop, length, map}
 use Rattle.std.specs.Prelude.{replicate, take}
 use Rattle.std.specs.List.{AllByRecursion, flat_map}
@@ -49,7 +49,7 @@ shown_text field bytes shown.Hex = bytes_digits bytes
 shown_text field bytes (shown.Text count) = codes "text " ++ take count bytes
 shown_text field bytes shown.Raw = codes "raw " ++ bytes_digits bytes
 
--- so many bytes from a location on, as they are, or absent where the bank ends before the last of them
+-- the `count` bytes from a location on, as they are, or absent if the bank ends before the last of them
 abbrev pub IsPlainText : List ℕ → ℕ → ℕ → List ℕ → Type 0
 IsPlainText bank first count text = ((length bank < first + count) × (text ≡ codes "absent"))
     ⊎ ((first + count ≤ length bank) × (text ≡ bytes_digits (take count (drop first bank))))

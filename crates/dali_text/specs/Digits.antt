@@ -1,4 +1,4 @@
--- How bytes are told.
+-- How bytes are printed.
 use Rattle.std.specs.Prelude.{ℕ, List}
 use Rattle.std.specs.List.{flat_map}
 use Rattle.dali_frame.specs.Hex.{byte_digits}

@@ -22,7 +22,7 @@ shown_letters letters = flat_map shown_letter letters
 abbrev pub shown_text : List ℕ → List ℕ
 shown_text text = shown_letters (chars text)
 
--- the first of these characters so, and three dots where there are more
+-- the first of these characters as they are shown, and three dots if there are more
 abbrev pub shown_front : ℕ → List ℕ → List ℕ
 shown_front most letters =
     shown_letters (take most letters) ++ (if nat_lt most (length letters) then codes "..." else [])

@@ -1,4 +1,4 @@
--- How faults are told, each by its number and its name.
+-- How faults are printed, each by its number and its name.
 use Rattle.std.specs.Prelude.{ℕ, List, ◌++◌, codes, decimal}
 
 -- a fault of a whole input

@@ -1,4 +1,4 @@
--- How a journal is told: its records, and then how much of a file they are and what they leave to be done.
+-- How a journal is printed: its records, and then how much of a file they are and what they leave to be done.
 use Rattle.std.specs.Prelude.{Bool, true, ℕ, List, ◌++◌, codes, decimal, length, reverse}
 use Rattle.std.specs.List.{flat_map}
 use Rattle.dali_journal.specs.declared.record.Record.{Record}
@@ -16,7 +16,7 @@ use Rattle.dali_text.specs.RecordText.{record_text}
 abbrev pub record_line : Record → List ℕ
 record_line entry = record_text entry ++ codes "\n"
 
--- a record, and where updates are wanted and it begins an order, that order's updates behind it
+-- a record, and if updates are wanted and it begins an order, that order's updates after it
 abbrev pub record_lines : Bool → Record → List ℕ
 record_lines true (records.Began order moment) = record_line (records.Began order moment) ++ update_lines order
 record_lines with_updates entry = record_line entry

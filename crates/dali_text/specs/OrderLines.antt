@@ -1,4 +1,4 @@
--- How orders are told, and how many there were.
+-- How orders are printed, and how many there were.
 use Rattle.std.specs.Prelude.{ℕ, List, ◌++◌, codes, decimal, length}
 use Rattle.std.specs.List.{flat_map}
 use Rattle.dali_bank.specs.Order.{Contents}

@@ -1,4 +1,4 @@
--- How a run is told.
+-- How a run is printed.
 use Rattle.std.specs.Prelude.{ℕ, ◌+◌, ◌==◌, Bool, true, false, List, [], ◌∷◌, ◌++◌, Option, Some, None, codes, count_by}
 use Rattle.std.specs.Prelude.{decimal, if◌then◌else◌}
 use Rattle.std.specs.List.{flat_map}
@@ -43,11 +43,11 @@ frames_ahead (other ∷ rest) = 0
 abbrev pub frames_line : ℕ → List ℕ
 frames_line count = codes "frames " ++ decimal count ++ codes "\n"
 
--- so many frames, or nothing where there are none
+-- this many frames, or nothing if there are none
 abbrev pub run_line : ℕ → List ℕ
 run_line count = if count == 0 then [] else frames_line count
 
--- what is told of a trace, and whether the happening just before it was a sent frame: a run of frames is told where it
+-- the lines of a trace, by whether the happening just before it was a sent frame: a run of frames is printed where it
 -- begins, and the others of it add nothing
 abbrev pub summary : Bool → List Happening → List ℕ
 summary in_run [] = []

@@ -1,4 +1,4 @@
--- How a unit is told.
+-- How a unit is printed.
 use Rattle.std.specs.Prelude.{ℕ, ◌*◌, ◌==◌, Bool, List, [], ◌++◌, codes, decimal, drop, take, if◌then◌else◌}
 use Rattle.std.specs.List.{flat_map, list_all, range_with_len}
 use Rattle.dali_frame.specs.Hex.{byte_digits}

@@ -10,7 +10,7 @@ use crate::output::{Output, OutputFailed};
 use dali_bank::{Field, Shown, read_field};
 use std::io::Write;
 
-/// A row of what is told of a memory bank.
+/// A row of a printed memory bank.
 #[derive(Clone, Copy, PartialEq, Eq)]
 pub enum Row {
     /// The last location of the bank, as the bank tells it.
@@ -102,7 +102,7 @@ fn write_text<W: Write>(output: &mut Output<W>, bank: &[u8], row: Row) -> Result
     }
 }
 
-// Writes so many bytes of the bank as they are.
+// Writes `count` bytes of the bank as they are.
 fn write_plain<W: Write>(
     output: &mut Output<W>,
     bank: &[u8],

@@ -4,7 +4,7 @@ ghost use Rattle.dali_text.specs.Escaped.{shown_front, shown_text};
 
 use std::fmt;
 
-// The most characters that are told of a value.
+// The most characters that are printed of a value.
 const MOST: usize = 40;
 
 /// A character as a terminal may show it: one that isn't from 20h to 7Eh by its number.
@@ -33,7 +33,7 @@ impl fmt::Display for Letter {
 pub enum Escaped<'a> {
     /// All of it.
     Whole(&'a str),
-    /// Its first 40 characters; where there are more, three dots stand for them.
+    /// Its first 40 characters; if there are more, three dots stand for them.
     Cut(&'a str),
 }
 

@@ -14,7 +14,7 @@ use dali_journal::{Journal, Piece, Record, Standing, Version};
 use std::fmt;
 use std::io::Write;
 
-// A standing as a program tells it.
+// A standing as a program prints it.
 #[derive(Clone, Copy)]
 struct StandingText<'a>(&'a Standing);
 
@@ -34,9 +34,9 @@ impl fmt::Display for StandingText<'_> {
     }
 }
 
-/// Writes a journal (profile): the version of its file, a line for each record, the oldest first, and
-/// then how many bytes count of all that the file has, how many orders were begun, and the standing.
-/// `with_updates`, the line of a record that begins an order has that order's updates behind it, as
+/// Writes a journal (profile): the version of its file, a line for each record, the oldest first, and then how many
+/// bytes count of all that the file has, how many orders were begun, and the standing. With
+/// `with_updates`, the line of a record that begins an order is followed by that order's updates, as
 /// `write_order` writes them.
 #[tactic(auto, using(crate::proofs::StreamLemmas::appends_both))]
 pub fn write_journal<W: Write>(
@@ -116,7 +116,7 @@ fn write_each<W: Write>(
     Ok(())
 }
 
-// The bytes behind so many.
+// The bytes after the first `count`.
 fn behind(bytes: &[u8], count: usize) -> &[u8]
     requires { count ≤ length bytes.now }
     ensures { result.now ≡ drop count bytes.now }
@@ -124,7 +124,7 @@ fn behind(bytes: &[u8], count: usize) -> &[u8]
     &bytes[count..]
 }
 
-// Writes a record, and where updates are wanted and it begins an order, that order's updates behind it.
+// Writes a record, and if updates are wanted and it begins an order, that order's updates after it.
 #[tactic(auto, using(crate::proofs::StreamLemmas::appends_both))]
 fn write_record<W: Write>(
     output: &mut Output<W>,

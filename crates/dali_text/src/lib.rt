@@ -1,8 +1,10 @@
-//! How things are told (profile): the lines of orders, of faults, of frames, of a memory bank, of
-//! a journal and its records, and of runs and the units after them; and words of others, as a terminal may show them.
+//! How things are printed (profile): the lines of orders, of faults, of frames, of a memory bank, of a journal and its
+//! records, and of runs and the units after them; and words of others, as a terminal may show them.
 //!
 //! Each call writes to an `Output`, a writer that knows whether it has failed. It doesn't flush it, and answers only
 //! that it has failed. No call takes memory.
+//!
+//! A crate of its own: lines are defined once for all commands, beside the writer that they tell of.
 #![tactic(auto)]
 
 mod bank_lines;

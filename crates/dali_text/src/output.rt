@@ -51,7 +51,7 @@ impl<W: Write> Output<W> {
     }
 
     /// Writes some of the bytes, at least one, and says how many. A write that a signal interrupts is made again, so
-    /// often that no program lives to see the end of it. Where the output has failed before, it stays as it is.
+    /// often that no program lives to see the end of it. If the output has failed before, it stays as it is.
     ///
     /// There has to be a byte.
     pub fn write(&mut self, bytes: &[u8]) -> Result<usize, OutputFailed>
@@ -79,7 +79,7 @@ impl<W: Write> Output<W> {
         Err(OutputFailed)
     }
 
-    /// Writes all the bytes. Where the output has failed before, it stays as it is.
+    /// Writes all the bytes. If the output has failed before, it stays as it is.
     pub fn write_all(&mut self, bytes: &[u8]) -> Result<(), OutputFailed>
         ensures bytes { OnOk result (Takes W.contents self.old self.new bytes.now) }
         ensures failed { TellsFailure result self.old self.new }
@@ -91,7 +91,7 @@ impl<W: Write> Output<W> {
         self.note(written)
     }
 
-    /// Writes a text, which is what `write!` calls. Where the output has failed before, it stays as it is.
+    /// Writes a text, which is what `write!` calls. If the output has failed before, it stays as it is.
     pub fn write_fmt<D: Display + Drop>(&mut self, text: D) -> Result<(), OutputFailed>
         ensures bytes { OnOk result (IfSome (D.output text) (Takes W.contents self.old self.new)) }
         ensures failed { TellsFailure result self.old self.new }
@@ -103,8 +103,8 @@ impl<W: Write> Output<W> {
         self.note(written)
     }
 
-    /// Writes a text and a line feed, which is what `writeln!` calls. Where the output has failed before, it stays as
-    /// it is.
+    /// Writes a text and a line feed, which is what `writeln!` calls. If the output has failed before, it stays as it
+    /// is.
     pub fn writeln<D: Display + Drop>(&mut self, text: D) -> Result<(), OutputFailed>
         ensures bytes { OnOk result (IfSome (with_newline (D.output text))
             (Takes W.contents self.old self.new)) }
@@ -117,7 +117,7 @@ impl<W: Write> Output<W> {
         self.note(written)
     }
 
-    /// Flushes what was written. Where the output has failed before, it stays as it is.
+    /// Flushes what was written. If the output has failed before, it stays as it is.
     pub fn flush(&mut self) -> Result<(), OutputFailed>
         ensures bytes { Keeps (held W.contents self.old) (held W.contents self.new) }
         ensures flushed { OnOk result (is_flushed self.new ≡ true) }
@@ -139,14 +139,14 @@ impl<W: Write> Output<W> {
         self.cause.is_some()
     }
 
-    /// Of what kind the failure of its writer was, where it has failed.
+    /// The kind of its writer's failure, if it has failed.
     pub fn cause(&self) -> Option<ErrorKind>
         ensures { is_some result ≡ has_failed self.now }
     {
         self.cause
     }
 
-    // An error where the output has failed, before its writer is called.
+    // An error if the output has failed, before its writer is called.
     fn unfailed(&self) -> Result<(), OutputFailed>
         ensures ok { OnOk result (has_failed self.now ≡ false) }
         ensures err { OnErr result (has_failed self.now ≡ true) }
@@ -157,7 +157,7 @@ impl<W: Write> Output<W> {
         Ok(())
     }
 
-    // Keeps in mind how a call of the writer ended, behind which something may be unflushed.
+    // Keeps in mind how a call of the writer ended, after which something may be unflushed.
     fn note(&mut self, ended: io::Result<()>) -> Result<(), OutputFailed>
         requires { has_failed self.old ≡ false }
         ensures held { held W.contents self.new ≡ held W.contents self.old }

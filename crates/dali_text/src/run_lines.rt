@@ -16,10 +16,10 @@ use dali_gear::Unit;
 use dali_trace::Happening;
 use std::io::Write;
 
-/// Writes what a run gave (profile): its trace, how many frames were sent, how many bytes its journal
-/// has, and the units as they stand after it.
+/// Writes the result of a run (profile): its trace, how many frames were sent, how many bytes its journal has, and the
+/// units after it.
 ///
-/// Frames are told one by one, or of each run of them only how many there were. It doesn't flush.
+/// Frames are printed one by one, or of each run of them only how many there were. It doesn't flush.
 #[tactic(auto, using(crate::proofs::StreamLemmas::appends_both))]
 pub fn write_run<W: Write>(
     output: &mut Output<W>,
@@ -73,7 +73,7 @@ fn write_each<W: Write>(output: &mut Output<W>, trace: &[Happening]) -> Result<(
     Ok(())
 }
 
-// Writes each happening but sent frames, of which each run is told by its length where it ends.
+// Writes each happening except sent frames; each run of those is printed as its length where it ends.
 #[tactic(auto, using(crate::proofs::RunTextLemmas::sum_other, crate::proofs::RunTextLemmas::not_sent))]
 fn write_summary<W: Write>(output: &mut Output<W>, trace: &[Happening]) -> Result<(), OutputFailed>
     ensures text { OnOk result (Takes W.contents output.old output.new (summary false trace.now)) }
@@ -92,7 +92,7 @@ fn write_summary<W: Write>(output: &mut Output<W>, trace: &[Happening]) -> Resul
     write_frames(output, frames)
 }
 
-// Writes how many frames a run has, where there is one.
+// Writes how many frames a run has, if there is one.
 fn write_frames<W: Write>(output: &mut Output<W>, frames: usize) -> Result<(), OutputFailed>
     ensures text { OnOk result (Takes W.contents output.old output.new (run_line frames)) }
     ensures failed { TellsFailure result output.old output.new }

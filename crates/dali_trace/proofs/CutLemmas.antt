@@ -1,11 +1,11 @@
--- What is so of each look back along a trace, wherever it ends.
+-- Properties of each look back along a trace, wherever it ends.
 use Rattle.std.proofs.Common.{◌≡◌, refl, ap, Bool, true, false, List, [], ◌∷◌, ◌++◌, if◌then◌else◌}
 use Rattle.dali_trace.specs.declared.happening.Reply.TheVariants as replies
 use Rattle.dali_trace.specs.declared.happening.Happening.{Happening}
 use Rattle.dali_trace.specs.declared.happening.Happening.TheVariants.{Answered, Sent}
 use Rattle.dali_trace.specs.Cut.{since, is_stop, is_start, frames_in}
 
--- it ends at the last happening of the older of two joined traces, where that is an end
+-- it ends at the last happening of the older of two joined traces, if that is an end
 pub since_joined : (ends : Happening → Bool) (last : Happening) (past more : List Happening) → ends last ≡ true
     → since ends (more ++ last ∷ past) ≡ since ends more
 since_joined ends last past [] is = ap (λ (b : Bool). if b then [] else last ∷ since ends past) is

@@ -1,4 +1,4 @@
--- What may not happen on the way of the worked traces.
+-- Happenings that may not come on the way of the worked traces.
 use Rattle.std.proofs.Common.{◌≡◌, ◌⊎◌, inl, inr, refl, sym, ap, ◌∙◌, subst, ℕ, Bool, true, false, ◌&&◌, not, List, [], ◌∷◌}
 use Rattle.std.proofs.Common.{Option, Some, None, arith}
 use Rattle.std.specs.Prelude.{◌≢◌}
@@ -42,7 +42,7 @@ newest_is unit location x told selects =
     let same : x ≡ ends.x = cc in
     (ap (λ (e : Exchange). e.frame) same ∙ ends.got.frame_is, ap (λ (e : Exchange). e.answer) same ∙ ends.got.meets)
 
--- the next one asks DTR1, or it sets DTR0 and the one behind it asks
+-- the next one asks DTR1, or it sets DTR0 and the one after it in the list asks
 next_is : (unit location : ℕ) (x y z : Exchange) (told : List Exchange) → Selects unit location (x ∷ y ∷ z ∷ told)
     → (y.frame ≡ AskDtr1 unit) ⊎ ((y.frame ≡ Dtr0 location) × (z.frame ≡ AskDtr1 unit))
 next_is unit location x y z told selects =
@@ -111,7 +111,7 @@ write_or_end byte unit e = cc
 set_or_next : (byte unit : ℕ) → Dtr1 byte ≡ AskDtr0 unit → ⊥
 set_or_next byte unit e = cc
 
--- after a write no read stands
+-- after a write no read still holds
 none_stands : (told : List Exchange) (byte : ℕ) (answer : Option ℕ) (unit location found : ℕ)
     → StillRead (record { frame = Write byte; answer = answer } ∷ told) unit location found → ⊥
 none_stands told byte answer unit location found (inl reads) =
@@ -350,7 +350,7 @@ not_opened_after_a_stop legal = legal.1.grounds.1
 pub not_silent_once_opened : Legal empty silent_once_opened → ⊥
 not_silent_once_opened legal = legal.1.whole.0.1
 
--- nothing is selected where no frame was sent
+-- nothing is selected if no frame was sent
 none_selected : (unit location : ℕ) → Selects unit location [] → ⊥
 none_selected unit location selects = let is = (ends_selecting unit location [] selects).is in cc
 

@@ -82,7 +82,7 @@ bus_chain first (Powered address ∷ past) apart banks answers =
     )
 bus_chain first (_ ∷ past) apart banks answers = (refl, bus_chain first past apart banks answers)
 
--- where no fate of the bus refuses, none does that comes next
+-- if no fate of the bus refuses, none does that comes next
 abbrev pub none_refuse : List Fate → Bool
 none_refuse [] = true
 none_refuse (fate ∷ fates) = not fate.refuse && none_refuse fates
@@ -116,7 +116,7 @@ none_refused first (Sent frame answer ∷ past) kind =
     ((next_kind (bus_after first past).fates (kind_after first past kind)).0, none_refused first past kind)
 none_refused first (_ ∷ past) kind = none_refused first past kind
 
--- where no unit is enabled
+-- if no unit is enabled
 abbrev pub AreOff : List UnitState → Type 0
 AreOff units = AllByRecursion (λ (unit : UnitState). unit.enabled ≡ false) units
 

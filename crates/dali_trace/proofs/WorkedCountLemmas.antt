@@ -1,4 +1,4 @@
--- What is counted of the worked traces: frames, orders that were taken, and whether a reply is due.
+-- Counts of the worked traces: frames, orders that were taken, and whether a reply is due.
 use Rattle.std.proofs.Common.{◌≡◌, refl, [], ◌∷◌, length}
 use Rattle.dali_trace.specs.Trace.{sent_of}
 use Rattle.dali_trace.specs.Taken.{taken_orders}

@@ -53,7 +53,7 @@ a_turn_at_a_start = refl
 pub up_to_a_start : up_to is_start whole ≡ taken_before ++ stop_before
 up_to_a_start = refl
 
--- where there is no end, all is since
+-- if there is no end, all is since
 pub since_the_first : since is_turn passed_by ≡ passed_by
 since_the_first = refl
 

@@ -1,5 +1,5 @@
--- What stands in a part of a trace and what doesn't, what is the same but for its answer, and how replies are
--- numbered and told.
+-- The happenings that a part of a trace has and hasn't, those that are the same except for their answer, and how
+-- replies are numbered and reported.
 use Rattle.std.proofs.Common.{◌≡◌, refl, ap, ℕ, List, [], ◌∷◌, Some, None, codes, arith}
 use Rattle.std.proofs.lemmas.Fmt.{decimal_digit}
 use Rattle.dali_frame.specs.declared.forward.Frame.TheVariants.{Dtr0, Read}
@@ -29,7 +29,7 @@ not_none_sent none = cc
 pub not_none_sent_with_an_answer : NoneSent (Sent (Read 5) (Some 7) ∷ []) → ⊥
 not_none_sent_with_an_answer none = cc
 
--- one is sent behind each other happening
+-- after each other happening, the frame still counts as sent
 pub sent_behind_a_record : NoneSent (Kept (Opened 5) ∷ one_frame) → ⊥
 sent_behind_a_record none = cc
 
@@ -71,7 +71,7 @@ taken_behind_a_stop none = none
 pub taken_behind_a_refused_order : NoneTaken (Answered 1 replies.Busy ∷ Asked first_order 7 ∷ begun) → ⊥
 taken_behind_a_refused_order none = none
 
--- The same but for an answer
+-- The same except for an answer
 
 pub same_with_another_answer : IsSameBut (Sent (Read 5) (Some 7)) (Sent (Read 5) None)
 same_with_another_answer = (None, refl)
@@ -111,7 +111,7 @@ pub numbered : (reply_number (replies.Kept Done) ≡ 1) × (reply_number replies
     × (reply_number (replies.Blocked 5) ≡ 6)
 numbered = (refl, refl, refl, refl, refl, refl)
 
--- How replies are told, in bytes
+-- Replies as bytes
 
 pub taken_told : reply_text replies.Taken ≡ 116 ∷ 97 ∷ 107 ∷ 101 ∷ 110 ∷ []
 taken_told = refl

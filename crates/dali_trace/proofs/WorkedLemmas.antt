@@ -86,7 +86,7 @@ write_legal start past unit location byte legal first serves is_named may =
       },
     )
 
--- a checked read stands, and goes on to stand behind another
+-- a checked read holds, and still holds after another
 pub read_stands : (past : List Happening) (unit location byte : ℕ)
     → StillRead (sent_of (read_at unit location byte past)) unit location byte
 read_stands past unit location byte = inl (reads_by unit location byte None None (sent_of past))
@@ -127,7 +127,7 @@ reads_legal start order (update ∷ updates) past at legal first =
     rw at (order.unit, refl) in
     reads_legal start order updates (read_at order.unit update.0 update.1 past) at one on
 
--- what was read before all of them still stands, and so does each of them
+-- a read before all of them still holds, and so does each of them
 pub reads_behind : (unit location byte : ℕ) (updates : List (ℕ × ℕ)) (other : ℕ) (past : List Happening)
     → StillRead (sent_of past) unit location byte
     → StillRead (sent_of (reads_of other updates past)) unit location byte
@@ -168,7 +168,7 @@ opened_legal = (
 pub unlocked_legal : Legal empty unlocked
 unlocked_legal = write_legal empty opened 5 0x02 0x55 opened_legal (refl, refl) refl refl (inr (refl, inl refl))
 
--- and a write behind it, of three frames
+-- and a write after it, of three frames
 pub written_on_legal : Legal empty written_on
 written_on_legal = (
   ((unlocked_legal, refl), refl),
@@ -229,7 +229,7 @@ said_legal = (ended_legal, (refl, (refl, refl)))
 pub whole_legal : Legal empty first_carried_out
 whole_legal = ((said_legal, tt), (refl, refl))
 
--- the other replies, each where it is due
+-- the other replies, each when it is due
 pub busy_legal : Legal empty busy_while_at_work
 busy_legal = ((begun_legal, tt), (refl, (tt, refl)))
 

@@ -1,4 +1,4 @@
--- Small buses and banks near the edges of what is promised where little is lost.
+-- Small buses and banks near the edges of what is promised if little is lost.
 use Rattle.std.proofs.Common.{◌≡◌, refl, ℕ, true, false, List, [], ◌∷◌, ◌++◌, Some}
 use Rattle.std.proofs.Common.{None, arith}
 use Rattle.dali_frame.specs.declared.forward.Frame.TheVariants.{Dtr1}
@@ -26,7 +26,7 @@ use Rattle.dali_write.specs.declared.pace.Pace.TheVariants.{Checked}
 use Rattle.dali_write.specs.declared.pace.Pace.{Pace}
 
 -- A frame that is lost to the order's unit, to the left one, or to both of them, is one loss; one that is lost to
--- another is none. What was lost before the start isn't counted.
+-- another is none. Losses before the start aren't counted.
 pub lost_to_both : losses_since 5 (Some 7) (one_since start_taken) (losing 0xA0 ∷ clear ∷ losing 0xA0 ∷ []) ≡ 1
 lost_to_both = refl
 

@@ -1,4 +1,4 @@
--- What isn't the parts of these events.
+-- Traces that aren't the parts of these events.
 use Rattle.std.proofs.Common.{◌≡◌, ℕ, ◌<◌, ◌≤◌, inl, inr, refl, sym, subst, ◌∙◌, true, false, List, [], ◌∷◌, length, arith}
 use Rattle.dali_journal.specs.declared.record.Record.{Record}
 use Rattle.dali_journal.specs.declared.record.Record.TheVariants.{Began}
@@ -15,7 +15,7 @@ use Rattle.dali_trace.specs.Worked.{empty, first_order, asked, taken, begun}
 use Rattle.dali_write.specs.declared.pace.Pace.TheVariants.{Checked}
 use Rattle.dali_write.specs.declared.pace.Pace.{Pace}
 
--- a record of 31 bytes isn't kept where 30 reach the journal
+-- a record of 31 bytes isn't kept if 30 reach the journal
 kept_is : (pace : Pace) (entry : Record) (before : List Happening)
     → Stopped Checked ∷ begun ≡ Stopped pace ∷ Kept entry ∷ before
     → Began first_order 7 ≡ entry
@@ -35,18 +35,18 @@ not_cut (before, inr (entry, next, few, stopped), rest) =
     subst (λ (r : Record). length (spelling Two r) ≤ 30) (sym is) few in
     omega (arith, long)
 
--- where nothing is at work a step adds nothing
+-- if nothing is at work a step adds nothing
 pub not_idle : AreParts empty (Step ∷ []) asked → ⊥
 not_idle (before, inl (busy, added), none) =
     let never : false ≡ true = subst (λ (past : List Happening). is_busy empty past ≡ true) none busy in cc
 not_idle (before, inr (idle, same), none) = let never : asked ≡ [] = same ∙ none in cc
 
--- where an order was just begun its session has not ended
+-- if an order was just begun its session has not ended
 pub none_begun : (entry : Record) → IsKeptNext empty begun entry → ⊥
 none_begun entry (verdict, asked, ends) = none_ended 5 _ _ verdict asked
 
 -- a step keeps the record of 31 bytes that begins the order, and so does a stop that lets 31 bytes through, whatever
--- comes; where it is kept, a stop leaves none
+-- comes; if the record is kept, a stop leaves none
 pub kept_by_a_step : AreParts empty (Step ∷ Submit first_order 7 ∷ []) begun
 kept_by_a_step = (taken, inl (refl, (Kept (Began first_order 7), tt, refl)), ([], (replies.Taken, refl), refl))
 
@@ -56,7 +56,7 @@ none_kept_by_a_stop = (begun, inl (refl, λ entry next. absurd (none_begun entry
 pub kept_by_a_stop : AreParts empty (Stop 31 ∷ Submit first_order 7 ∷ []) (Stopped Checked ∷ begun)
 kept_by_a_stop = (taken, inr (Began first_order 7, refl, omega arith, refl), ([], (replies.Taken, refl), refl))
 
--- a record of 31 bytes is kept where 31 reach the journal
+-- a record of 31 bytes is kept if 31 reach the journal
 pub not_lost : AreParts empty (Stop 31 ∷ Submit first_order 7 ∷ []) (Stopped Checked ∷ taken) → ⊥
 not_lost (before, inl (stopped, none), rest) =
     let is : before ≡ taken = stopped_at _ before stopped in

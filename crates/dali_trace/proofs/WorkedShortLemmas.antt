@@ -14,7 +14,7 @@ use Rattle.dali_trace.specs.Work.{stood_at, frames_from, order_at_hand, IsSaidSo
 use Rattle.dali_trace.specs.Worked.{first_order}
 use Rattle.dali_trace.specs.WorkedPlans.{row_told, frames_more, opened_said}
 
--- a row of four, and so many frames that ask for nothing
+-- a row of four, and this many frames that ask for nothing
 abbrev behind_row : ℕ → ℕ → ℕ → List Happening
 behind_row first last n = frames_more n (row_told first (last ∷ 0xCE ∷ 0xA4 ∷ 0x03 ∷ []))
 

@@ -19,7 +19,7 @@ use Rattle.dali_trace.specs.Worked.{empty, first_order, second_order, taken, beg
 use Rattle.dali_trace.specs.WorkedPlans.{at_work, repeated, another_said, said_behind_a_stop, said_again}
 use Rattle.dali_write.specs.declared.pace.Pace.TheVariants.{Checked}
 
--- so many steps
+-- a count of steps
 count_steps : (n : ℕ) → steps_in (replicate n Step) ≡ n
 count_steps zero = refl
 count_steps (suc n) = ap suc (count_steps n)
@@ -41,7 +41,7 @@ a_stop_is_one none = none
 pub losses_of_power_are_none : NoneStops (Step ∷ Power 5 ∷ Step ∷ [])
 losses_of_power_are_none = tt
 
--- it is said by then, a loss of power among the steps, whatever is behind them: a stop too
+-- it is said by then, a loss of power among the steps, whatever comes after them: a stop too
 pub says_by_then : (n : ℕ) (newer : List Event) (trace : List Happening) → 1237 ≤ n
     → SaysInTime at_work newer (Power 5 ∷ replicate n Step) [] trace
     → (behind : List Happening) × PartsSince at_work newer behind trace × IsSaid at_work first_order [] behind
@@ -60,7 +60,7 @@ pub said_by_then : (n : ℕ) (trace : List Happening) → 1237 ≤ n → IsSaidI
 said_by_then n trace many in_time parts =
     let count = count_steps n in in_time (replicate n Step) first_order parts (refl, none_stops n, omega arith)
 
--- the parts of newer events behind those of older ones are the parts of all of them
+-- the parts of newer events after those of older ones are the parts of all of them
 parts_join : (start : Start) (newer older : List Event) (before trace : List Happening) → AreParts start older before
     → PartsSince start newer before trace → AreParts start (newer ++ older) trace
 parts_join start [] older before trace parts same =
@@ -74,7 +74,7 @@ says_parts start newer middle older trace (cut, says) =
     parts_join start newer (middle ++ older) cut.behind trace
     (parts_join start middle older cut.before cut.behind cut.older_parts cut.middle_parts) cut.newer_parts
 
--- where one happening was added, it is the saying; where two were, one of them is
+-- if one happening was added, it is the saying; if two were, one of them is
 length_append : (xs ys : List Happening) → length (xs ++ ys) ≡ length xs + length ys
 length_append [] ys = omega arith
 length_append (x ∷ xs) ys = let rest = length_append xs ys in omega arith
@@ -115,7 +115,7 @@ two_added (a ∷ b ∷ later) since before x mid next parts =
 pub not_said_yet : IsSaid empty first_order begun begun → ⊥
 not_said_yet is_said = not_added begun empty is_said
 
--- no reply is due where it is said
+-- no reply is due when it is said
 no_reply : (start : Start) (since before : List Happening) (order : Contents) (moment : ℕ)
     → since ≡ Asked order moment ∷ []
     → IsFinished (since ++ before) → ⊥

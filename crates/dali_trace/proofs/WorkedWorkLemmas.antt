@@ -43,7 +43,7 @@ use Rattle.dali_write.proofs.BlockOneLemmas.{access_count}
 use Rattle.dali_write.proofs.RowLemmas.{all_rows_some}
 use Rattle.std.proofs.Common.{slice_get, get_or}
 
--- so many frames were sent, and one record kept
+-- n frames were sent, and one record kept
 frames_hand : (n : ℕ) → order_at_hand empty (frames_more n begun) ≡ Some first_order
 frames_hand zero = refl
 frames_hand (suc n) = frames_hand n
@@ -69,7 +69,7 @@ frames_enough n few =
     let kept = frames_kept n in
     rw (frames_hand n) (omega arith, omega arith)
 
--- so many records were kept, and no frame sent
+-- n records were kept, and no frame sent
 records_hand : (n : ℕ) → order_at_hand empty (records_more n taken) ≡ Some first_order
 records_hand zero = refl
 records_hand (suc n) = refl
@@ -162,7 +162,7 @@ not_said_so_of_another (order, number, hand, earned) =
 pub not_said_so_again : IsSaidSo empty said_again → ⊥
 not_said_so_again (order, number, hand, earned) = let never : None ≡ Some order = hand in cc
 
--- What is said for want of an answer comes after at least eight tries that missed.
+-- A reply for want of an answer comes after at least eight tries that missed.
 tries_missed : (n : ℕ) → misses_in (sent_since_taken (tries_more n begun)) ≡ n
 tries_missed zero = refl
 tries_missed (suc n) = let rest = tries_missed n in omega arith
@@ -194,7 +194,7 @@ blocked_after (suc n) unread =
     let many = failure_misses 5 _ (sent_since_taken (tries_more (suc n) second_taken)) unread in
     let count = waiting_missed (suc n) in omega arith
 
--- a byte was found only where a checked read was answered
+-- a byte was found only if a checked read was answered
 ends_has : (unit location byte : ℕ) (told : List Exchange) → EndsInRead unit location byte told → HasRead unit told
 ends_has unit location byte [] reads = let is = (ends_reading unit location byte [] reads).is in cc
 ends_has unit location byte (x ∷ told) reads = inl (location, byte, reads)
@@ -275,7 +275,7 @@ doubt_after n (order, number, hand, inr (told, older, parts, found)) =
         subst (λ (t : List Exchange). none_read t ≡ true) parts (tries_unread n) in
         has_none order.unit (told ++ older) none (has_earlier order.unit told older has)
 
--- nor where each read was answered
+-- nor if each read was answered
 reads_met : (n : ℕ) → misses_in (sent_since_taken (reads_more n begun)) ≡ 0
 reads_met zero = refl
 reads_met (suc n) = let rest = reads_met n in omega arith
@@ -336,7 +336,8 @@ not_doubt_after_reads n (order, number, hand, inr (told, older, parts, found)) =
     wants) in
     cc
 
--- what counts: the frames and records since an order was taken or the program stopped, and where the records stood then
+-- the counts: the frames and records since an order was taken or the program stopped, and the standing of the records
+-- then
 pub frames_counted : length (sent_since_taken begun_anew) ≡ 1
 frames_counted = refl
 

@@ -1,4 +1,4 @@
--- What records say of worlds and what they don't, near the edges: what a weaker definition would let through.
+-- Records and worlds near the edges: cases that a weaker definition would let through.
 use Rattle.std.proofs.Common.{◌≡◌, ◌≤◌, ◌<◌, inl, inr, refl, arith, ap, true, false, ℕ, Bool, List, [], ◌∷◌, Option}
 use Rattle.std.proofs.Common.{Some, None, ◌==◌, ◌&&◌, if◌then◌else◌}
 use Rattle.dali_bus.specs.World.{Gear, World, is_enabled, byte_at}
@@ -21,7 +21,7 @@ use Rattle.dali_trace.specs.Moves.{Moves}
 use Rattle.dali_trace.specs.WhenKept.{Holds, IsLetGo, WhenKept}
 use Rattle.dali_trace.specs.Worked.{first_order, third_order, empty, left_open, begun, third_begun, opened, alone}
 
--- Which bytes a place may hold. The first order has 03h for location 03h of unit 5, where FFh stood.
+-- The bytes that a place may hold. The first order has 03h for location 03h of unit 5, which held FFh.
 
 abbrev MayBe : Progress → ℕ → Type 0
 MayBe progress byte = IsPossible 0xFF 5 1 3 ((first_order, progress) ∷ []) byte
@@ -98,8 +98,8 @@ pub not_settled_elsewhere : IsCertain 5 1 3
     → ⊥
 not_settled_elsewhere is = is
 
--- Worlds of one unit at address 5. Its bank 1 has 00h, the lock byte at 02h and 03h to 08h, where the order's bytes
--- stand but for the last, and the high byte of its content format.
+-- Worlds of one unit at address 5. Its bank 1 has 00h, the lock byte at 02h and 03h to 08h, which hold the order's
+-- bytes except for the last, and the high byte of its content format.
 
 abbrev place_of : ℕ → ℕ → ℕ → ℕ → ℕ → Option ℕ
 place_of last lock high end location =
@@ -188,7 +188,7 @@ not_written_when_begun fits = omega (arith, fits.bytes 5 1 8 0xFF 0xAB (past_apa
 pub not_unwritten_when_done : Fits before records_done [] before → ⊥
 not_unwritten_when_done fits = omega (arith, fits.bytes 5 1 8 0xFF 0xFF (past_apart (omega arith)) refl refl)
 
--- the lock byte of bank 1 where no unit was opened
+-- the lock byte of bank 1 if no unit was opened
 lock_of_5 : {zero now : World} {records : List Record} {lost : List ℕ} → (HasBeenOpened 5 records → ⊥)
     → Fits zero records lost now → MayRelock (IsAmong lost 5) 1 2 (byte_at zero 5 1 2) (byte_at now 5 1 2)
 lock_of_5 none fits = fits.locks 5 1 (omega arith) (λ one. none)
@@ -238,7 +238,7 @@ pub not_applied_when_done : IsApplied before records_done before → ⊥
 not_applied_when_done is =
     omega (arith, ap (λ (byte : Option ℕ). or_none byte) (is 5 1 8 0xFF (past_apart (omega arith)) refl tt))
 
--- What is true when a record is kept
+-- Facts that are true when a record is kept
 
 -- the unit at 5, which is let go, is off
 off_at_5 : (now : World) (stands : Standing) (entry : Record) → named_unit stands ≡ Some 5 → is_enabled now 5 ≡ false
@@ -306,7 +306,7 @@ not_done_where_unlocked kept =
 pub not_done_where_enabled : WhenKept empty (Kept (Ended Done) ∷ opened) (world_with true 0x77 0xFF 0x00 0xAB) → ⊥
 not_done_where_enabled kept = let is : true ≡ false = kept.let_go 5 refl refl in cc
 
--- whichever location is told: a unit that answers to a read isn't enabled
+-- whichever location was read: a unit that answers to a read isn't enabled
 pub doubt_where_not_enabled : WhenKept empty (Kept (Ended Doubt) ∷ opened) before
 doubt_where_not_enabled = record {
   allowed = tt;
@@ -342,7 +342,7 @@ not_closed_without_the_unit kept =
 pub not_closed_where_none_is_left : WhenKept empty (Kept (Closed 5) ∷ []) before → ⊥
 not_closed_where_none_is_left kept = kept.allowed
 
--- What a happening does to a world: keeping a record does nothing
+-- The effect of a happening on a world: keeping a record does nothing
 
 pub changed_by_a_loss_of_power : Moves enabled_world (Powered 5) enabled_world → ⊥
 changed_by_a_loss_of_power loses = let off : true ≡ false = loses.there.off in cc

@@ -1,8 +1,8 @@
--- Which traces keep to the plans of their sessions: each frame is the one that the session at hand asks for after the
--- frames that it was told of, and each record and saying is what its end asks for.
+-- The traces that keep to the plans of their sessions: each frame is the one that the session at hand asks for after
+-- the frames that it has seen, and each record and saying is the one that its end asks for.
 --
 -- So each frame belongs to a try of a checked access, a try ends at its first miss or with its last frame, and an
--- access has a further try exactly where its last one ended in a miss and it has had fewer than eight. A stop cuts off
+-- access has a further try exactly when its last one ended in a miss and it has had fewer than eight. A stop cuts off
 -- the try at hand, and the session begins anew.
 use Rattle.std.specs.Prelude.{List, [], ◌∷◌, ⊤}
 use Rattle.dali_journal.specs.declared.record.Record.TheVariants.{Began}
@@ -27,8 +27,8 @@ use Rattle.dali_write.specs.declared.pace.Pace.{Pace}
 abbrev pub told_in : List Happening → List Exchange
 told_in past = frames_in (since is_turn past)
 
--- where the records stand so, the session at hand asks this after these frames, by one of both plans: a fresh one of
--- the order that was begun, an opened one of the order that was opened, one that closes the left unit
+-- with this standing of the records, the session at hand asks this after these frames, by one of both plans: a fresh
+-- one of the order that was begun, an opened one of the order that was opened, one that closes the left unit
 abbrev pub Asks : Pace → Standing → List Exchange → Ask → Type 0
 Asks pace standings.Idle told ask = ⊥
 Asks pace (standings.Began order) told ask = Wants order.unit (read_length pace order.updates) told ask

@@ -15,8 +15,8 @@ use Rattle.dali_trace.specs.declared.happening.Happening.TheVariants.{Kept}
 use Rattle.dali_trace.specs.Trace.{Start, pace_at, standing_at}
 use Rattle.dali_trace.specs.ByPlan.{told_in}
 
--- where the records stand so, the cause of the session at hand after these frames: a fresh one of the order that was
--- begun, an opened one of the order that was opened
+-- with this standing of the records, the cause of the session at hand after these frames: a fresh one of the order that
+-- was begun, an opened one of the order that was opened
 abbrev pub HasCause : Pace → Standing → List Exchange → Option Cause → Type 0
 HasCause pace (Began order) told cause = IsCause (tasks.Fresh order pace) order.unit told cause
 HasCause pace (Opened order) told cause = IsCause (tasks.Opened order pace) order.unit told cause
@@ -33,7 +33,7 @@ is_ill (Ended codes.Doubt) = true
 is_ill (Ended codes.DoubtOpen) = true
 is_ill other = false
 
--- that beside what happens next, a record that is kept: there is one where it is such an end
+-- that beside what happens next, a record that is kept: there is one if it is such an end
 abbrev pub IsCauseBeside : Start → List Happening → Happening → Option Cause → Type 0
 IsCauseBeside start past (Kept entry) cause = IsCauseAt start past cause × (is_ill entry ≡ true → IsSome cause)
 IsCauseBeside start past other cause = cause ≡ None

@@ -1,4 +1,4 @@
--- Why a run or a drive didn't come to its end, and how a fault is told.
+-- Why a run or a drive didn't come to its end, and how a fault is reported.
 use Rattle.std.specs.Prelude.{ℕ, List, codes}
 use Rattle.dali_trace.specs.declared.fault.RunFault.{RunFault}
 use Rattle.dali_trace.specs.declared.fault.RunFault.TheVariants as runs

@@ -1,4 +1,4 @@
--- What a journal promises of a world. The start world is called zero.
+-- A journal's promises of a world. The start world is called zero.
 use Rattle.std.specs.Prelude.{◌≡◌, ◌≤◌, ◌⊎◌, ℕ, true, List, [], ◌∷◌, Some, is_some}
 use Rattle.dali_bus.specs.World.{World, byte_at, is_enabled}
 use Rattle.dali_journal.specs.declared.record.Record.{Record}
@@ -24,7 +24,7 @@ IsLockByte bank location = (1 ≤ bank) × (location ≡ 2)
 abbrev pub IsApart : ℕ → ℕ → Type 0
 IsApart bank location = IsLockByte bank location ⊎ IsIndicator bank location
 
--- a world fits a start world and the records, where these units have lost their power
+-- a world fits a start world and the records, if these units have lost their power
 pub record Fits (zero : World) (records : List Record) (lost : List ℕ) (now : World) : Type 0 where
   -- it has the same places
   pub places : (address bank location : ℕ)
@@ -33,7 +33,7 @@ pub record Fits (zero : World) (records : List Record) (lost : List ℕ) (now : 
   pub bytes : (address bank location first byte : ℕ) → (IsApart bank location → ⊥)
       → byte_at zero address bank location ≡ Some first
       → byte_at now address bank location ≡ Some byte → IsPossible first address bank location (orders_of records) byte
-  -- a lock byte is as it was, or FFh where the unit has lost its power; that of bank 1 where it was never opened
+  -- a lock byte is as it was, or FFh if the unit has lost its power; that of bank 1 if it was never opened
   pub locks : (address bank : ℕ) → 1 ≤ bank → (bank ≡ 1 → HasBeenOpened address records → ⊥)
       → MayRelock (IsAmong lost address) bank 2 (byte_at zero address bank 2) (byte_at now address bank 2)
   -- the indicator byte of a unit that was never opened is as it was

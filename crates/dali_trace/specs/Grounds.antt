@@ -1,5 +1,5 @@
--- What a record of the journal rests on, where 'shows unit location byte' says that the unit's location in bank 1 shows
--- the byte. A legal trace has it from reads of blocks, and so it is so of the world.
+-- The grounds of a record of the journal, where 'shows unit location byte' says that the unit's location in bank 1
+-- shows the byte. A legal trace shows it by reads of blocks, and so it holds in the world.
 use Rattle.std.specs.Prelude.{◌≡◌, ℕ, List, [], Option, Some, None, ⊤}
 use Rattle.dali_journal.specs.declared.record.Code.TheVariants as codes
 use Rattle.dali_journal.specs.declared.record.Record.{Record}
@@ -32,7 +32,7 @@ EndsIn stands verdict entry = Allows stands entry × (verdict_of entry ≡ Some 
 abbrev pub IsSeen : (ℕ → ℕ → Type 0) → Type 0
 IsSeen shows = (location : ℕ) × (byte : ℕ) × shows location byte
 
--- what a record that tells of the verdict rests on, where there is one: the read that was answered is of any location
+-- the grounds of a record that reports the verdict, if there is one: the read that was answered is of any location
 abbrev pub RestsIfAny : (ℕ → ℕ → Type 0) → List (ℕ × ℕ) → Option Verdict → Type 0
 RestsIfAny shows updates None = ⊤
 RestsIfAny shows updates (Some verdict) = RestsOn shows (IsSeen shows) updates verdict

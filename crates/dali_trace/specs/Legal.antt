@@ -100,7 +100,7 @@ MaySay start past id other = ⊥
 
 -- Traces
 
--- this may happen where no reply is due
+-- this may happen when no reply is due
 abbrev pub MayHappen : Start → List Happening → Happening → Type 0
 MayHappen start past (Answered id reply) = MaySay start past id reply
 MayHappen start past (Sent frame answer) = MaySend past (standing_at start past) frame

@@ -1,4 +1,4 @@
--- What is so at each moment of a trace, along a chain of worlds.
+-- The facts at each moment of a trace, along a chain of worlds.
 use Rattle.std.specs.Prelude.{ℕ, List}
 use Rattle.dali_bus.specs.World.{World}
 use Rattle.dali_bus.specs.Chain.{IsChain, AtEachMoment}
@@ -9,7 +9,7 @@ use Rattle.dali_trace.specs.Moves.{Moves}
 use Rattle.dali_trace.specs.Fits.{Fits, OnlyNamed, IsApplied}
 use Rattle.dali_trace.specs.WhenKept.{WhenKept}
 
--- A chain of worlds along a trace, from a world that fits the start world and the start records, where these units had
+-- A chain of worlds along a trace, from a world that fits the start world and the start records, if these units had
 -- lost their power before, with no unit enabled but the one that the records name.
 pub record Along (zero : World) (lost : List ℕ) (start : Start) (first : World) (past : List Happening) (last : World)
     (states : List World) : Type 0 where
@@ -17,7 +17,7 @@ pub record Along (zero : World) (lost : List ℕ) (start : Start) (first : World
   pub only : OnlyNamed start.records first
   pub chain : IsChain Moves first past last states
 
--- along each of them, where the trace is legal, this is so at each moment, of the trace up to there and the world there
+-- along each of them, if the trace is legal, this is so at each moment, of the trace up to there and the world there
 abbrev pub Always : (World → List ℕ → Start → List Happening → World → Type 0) → Type 0
 Always holds =
     (zero first last : World) (lost : List ℕ) (start : Start) (past : List Happening) (states : List World)

@@ -1,4 +1,4 @@
--- What comes next after a trace, told from the trace alone.
+-- The next happening after a trace, found from the trace alone.
 use Rattle.std.specs.Prelude.{◌≡◌, ℕ, List, Option}
 use Rattle.dali_trace.specs.declared.happening.Want.{Want}
 use Rattle.dali_trace.specs.declared.happening.Want.TheVariants.{Keep, Send, Say}

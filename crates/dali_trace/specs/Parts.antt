@@ -27,8 +27,9 @@ IsWork (Sent frame answer) = ⊤
 IsWork (Kept entry) = ⊤
 IsWork other = ⊥
 
--- where the records stand so, this order waits since that moment and the session at hand was told these, this record
--- is to be kept next: the order is begun, or the session has ended, and it is the one that follows its end
+-- with this standing of the records, if this order waits since that moment and the session at hand has seen these
+-- exchanges, this record is to be kept next: the order is begun, or the session has ended, and it is the one that
+-- follows its end
 abbrev pub NextRecord : Pace → Standing → Option Contents → ℕ → List Exchange → Record → Type 0
 NextRecord pace standings.Idle (Some order) since told entry = entry ≡ Began order since
 NextRecord pace standings.Idle None since told entry = ⊥
@@ -40,9 +41,9 @@ abbrev pub IsKeptNext : Start → List Happening → Record → Type 0
 IsKeptNext start past entry =
     NextRecord (pace_at start past) (standing_at start past) (waiting past) (waiting_since past) (told_in past) entry
 
--- The part of one event, from the trace before it to the trace after it. A Submit adds the order and its reply. A
--- Step adds one piece of work where the trace is busy, else nothing. A Stop adds Stopped, and before it the record
--- that is to be kept next exactly where there is one, and all its bytes reached the journal. A Power adds Powered.
+-- The part of one event, from the trace before it to the trace after it. A Submit adds the order and its reply. A Step
+-- adds one piece of work where the trace is busy, else nothing. A Stop adds Stopped, and before it the record that is
+-- to be kept next exactly when there is one, and all its bytes reached the journal. A Power adds Powered.
 abbrev pub Part : Start → Event → List Happening → List Happening → Type 0
 Part start (Submit order moment) before after =
     (reply : Reply) × (after ≡ Answered order.id reply ∷ Asked order moment ∷ before)

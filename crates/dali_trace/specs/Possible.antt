@@ -11,7 +11,7 @@ pub data Mark : Type 0 where
   Untouched : Mark
   InDoubt : Mark
 
--- how far an order has come tells what is known of its bytes
+-- the progress of an order shows what is known of its bytes
 abbrev pub mark_of : Progress → Mark
 mark_of reached.Open = InDoubt
 mark_of (reached.Ended Done) = Applied
@@ -38,7 +38,7 @@ IsPossible first address bank location (newest ∷ older) byte =
     MayHold (mark_of newest.1) (byte_for newest.0 address bank location)
     (IsPossible first address bank location older) byte
 
--- the byte after an order of this mark, which has this byte for the place: its own one where it is done
+-- the byte after an order of this mark, which has this byte for the place: its own one if it is done
 abbrev pub applied_to : Mark → Option ℕ → ℕ → ℕ
 applied_to Applied (Some update) before = update
 applied_to mark other before = before

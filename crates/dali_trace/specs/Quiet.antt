@@ -1,4 +1,4 @@
--- What does not stand in a part of a trace.
+-- The happenings that are not in a part of a trace.
 use Rattle.std.specs.Prelude.{◌≡◌, List, [], ◌∷◌, ⊤}
 use Rattle.dali_trace.specs.declared.happening.Reply.TheVariants as replies
 use Rattle.dali_trace.specs.declared.happening.Happening.{Happening}

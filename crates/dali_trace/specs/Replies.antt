@@ -1,5 +1,5 @@
--- Which reply is due to an order: the first of Kept, IdReused, Busy, Full and Taken that applies. And how a reply is
--- told.
+-- The reply that is due to an order: the first of Kept, IdReused, Busy, Full and Taken that applies. And how a reply is
+-- reported.
 use Rattle.std.specs.Prelude.{◌≡◌, ◌≢◌, ◌++◌, ℕ, Bool, true, false, List, codes, decimal, ⊤}
 use Rattle.dali_bank.specs.Order.{Contents}
 use Rattle.dali_journal.specs.declared.kept.Kept.{Kept}

@@ -1,4 +1,4 @@
--- What is promised of a run over a bus.
+-- The promises of a run over a bus.
 use Rattle.std.specs.Prelude.{◌≡◌, ℕ, List, [], ◌++◌, reverse, take, ⊤}
 use Rattle.std.specs.List.{AllByRecursion}
 use Rattle.dali_frame.specs.Frame.{IsProper}
@@ -24,12 +24,12 @@ use Rattle.dali_trace.specs.WhenKept.{WhenKept}
 use Rattle.dali_trace.specs.Moments.{IsRight}
 use Rattle.dali_write.specs.declared.pace.Pace.{Pace}
 
--- an empty journal of at most so many orders
+-- an empty journal of at most this many orders
 abbrev pub fresh : ℕ → Pace → Start
 fresh limit pace = record { records = []; limit = limit; pace = pace }
 
 -- a chain of the bus's states leads along the trace from the first to the last, and each record is true when it is
--- kept; and where no unit was enabled at first, every moment of it is right, from the world that the bus showed then
+-- kept; and if no unit was enabled at first, every moment of it is right, from the world that the bus showed then
 pub record LeadsRight {S : Type 0} (world : S → World) (step : S → BusEvent → S → Type 0) (limit : ℕ) (pace : Pace)
     (first : S) (past : List Happening) (last : S) : Type 0 where
   pub states : List S
@@ -56,8 +56,8 @@ AsksProper other = ⊤
 abbrev pub AsksAllProper : List Happening → Type 0
 AsksAllProper past = AllByRecursion AsksProper past
 
--- What a run of these events is, from the first state of a bus to the last: its trace, the oldest happening first,
--- and the journal's bytes.
+-- A run of these events, from the first state of a bus to the last: its trace, the oldest happening first, and the
+-- journal's bytes.
 pub record IsRun {S : Type 0} (world : S → World) (step : S → BusEvent → S → Type 0) (limit : ℕ) (pace : Pace)
     (all : List Event)
     (first : S) (trace : List Happening) (journal : List ℕ) (last : S) : Type 0 where
@@ -75,13 +75,13 @@ pub record IsRun {S : Type 0} (world : S → World) (step : S → BusEvent → S
   -- the trace is the joined parts of the events
   pub parts : AreParts (fresh limit pace) (reverse all) (reverse trace)
   -- the journal's bytes are those of the records that were kept, and its orders are the taken ones (which follows from
-  -- the trace being legal, by the law the_taken_orders_are_kept; it stands here for who reads of a run alone)
+  -- the trace being legal, by the law the_taken_orders_are_kept; it is repeated here for readers of a run alone)
   pub journal_is : journal ≡ journal_spelling Two (records_of (fresh limit pace) (reverse trace))
   pub taken : begun_orders (records_of (fresh limit pace) (reverse trace)) ≡ taken_orders (reverse trace)
   pub leads : LeadsRight world step limit pace first (reverse trace) last
 
--- What a run of these events was that ended for want of memory, from the first state of the bus to the last: so many
--- events were served, as in any run.
+-- A run of these events that ended for want of memory, from the first state of the bus to the last: `served` events
+-- were served, as in any run.
 pub record IsCutShort {S : Type 0} (world : S → World) (step : S → BusEvent → S → Type 0) (limit : ℕ) (pace : Pace)
     (all : List Event)
     (first last : S) : Type 0 where

@@ -36,7 +36,7 @@ is_lost_to unit (Some left) state frame = is_loss unit state frame || is_loss le
 
 -- The states of the bus along a trace are listed newest first, each the one before its happening.
 
--- the state from which so many happenings led to the last one
+-- the state from which these happenings led to the last one
 abbrev pub led_from : List Happening → SimState → List SimState → SimState
 led_from (next ∷ past) last (state ∷ states) = led_from past state states
 led_from past last states = last
@@ -51,7 +51,7 @@ sent_among past states = []
 abbrev pub state_at_start : List Happening → SimState → List SimState → SimState
 state_at_start past last states = led_from (since is_start past) last states
 
--- so many of the frames since then were losses
+-- how many of the frames since then were losses
 abbrev pub losses_since : ℕ → Option ℕ → List Happening → List SimState → ℕ
 losses_since unit left past states =
     length (filter (λ sent. is_lost_to unit left sent.1 sent.0) (sent_among (since is_start past) states))
@@ -66,7 +66,7 @@ abbrev pub KeepsPowerSince : ℕ → Option ℕ → List Happening → Type 0
 KeepsPowerSince unit left past =
     AllByRecursion (λ address. (address ≢ unit) × (left ≢ Some address)) (powered_of [] (since is_start past))
 
--- how an order of these updates is to end where bank 1 has these bytes
+-- how an order of these updates is to end if bank 1 has these bytes
 abbrev pub due_code : List ℕ → List (ℕ × ℕ) → Code
 due_code bytes updates = by_bank codes.Short codes.Format codes.Done bytes updates
 
@@ -101,7 +101,7 @@ IsSpared start (Answered id reply ∷ past) last (state ∷ states) =
     → LosesLittle start order bank past state states → EndsAsDue start order bank past states reply
 IsSpared start other last states = ⊤
 
--- The order is said in what came to the trace since it was like this before; and if little befell it up to then, it is
+-- The order is said in the part that was added to the trace since `before`; and if little befell it up to then, it is
 -- said as it is to end. The states along the whole of it are the later ones, the one when it was said, and those
 -- before.
 pub record IsSaidAsDue (start : Start) (order : Contents) (before behind : List Happening) (states : List SimState) :
@@ -122,8 +122,8 @@ SaysAsDue start newer middle older trace states =
     × ((order : Contents) → HasStepsEnough start cut.before middle order
     → IsSaidAsDue start order cut.before cut.behind states)
 
--- A chain of the simulated bus leads along the trace. Where no unit was enabled at first, what is said along it is so,
--- and each order that is given steps enough is said as it is due.
+-- A chain of the simulated bus leads along the trace. If no unit was enabled at first, what is said along it is so, and
+-- each order that is given steps enough is said as it is due.
 pub record LeadsSpared (limit : ℕ) (pace : Pace) (all : List Event) (first : SimState) (past : List Happening)
     (last : SimState) : Type 0 where
   pub states : List SimState
@@ -134,8 +134,8 @@ pub record LeadsSpared (limit : ℕ) (pace : Pace) (all : List Event) (first : S
       → (newer middle older : List Event) → reverse all ≡ newer ++ (middle ++ older)
       → SaysAsDue (fresh limit pace) newer middle older past states
 
--- What a run of these events over the simulated bus is: all that a run over any bus is, and what is said along it of
--- orders that little befalls.
+-- A run of these events over the simulated bus: all that a run over any bus is, and the sayings along it of orders that
+-- little befalls.
 pub record IsSimRun (limit : ℕ) (pace : Pace) (all : List Event) (first : SimState) (trace : List Happening)
     (journal : List ℕ)
     (last : SimState) : Type 0 where

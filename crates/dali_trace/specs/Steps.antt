@@ -11,7 +11,7 @@ use Rattle.dali_trace.specs.declared.happening.Reply.{Reply}
 use Rattle.dali_trace.specs.Legal.{IsFinished}
 use Rattle.dali_trace.specs.Work.{stood_at, work_limit, order_at_hand}
 
--- so many of the events are steps
+-- how many of the events are steps
 abbrev pub steps_in : List Event → ℕ
 steps_in [] = 0
 steps_in (Step ∷ events) = suc (steps_in events)
@@ -23,8 +23,8 @@ NoneStops [] = ⊤
 NoneStops (Stop bytes ∷ events) = ⊥
 NoneStops (other ∷ events) = NoneStops events
 
--- The order is said in what came to the trace since it was like this before: it was at hand still, since the same
--- start, and no reply was due.
+-- The order is said in the part that was added to the trace since `before`: it was at hand still, since the same start,
+-- and no reply was due.
 pub record IsSaid (start : Start) (order : Contents) (before trace : List Happening) : Type 0 where
   pub later : List Happening
   pub reply : Reply
@@ -52,7 +52,7 @@ IsSaidInTime start before trace =
     (events : List Event) (order : Contents) → PartsSince start events before trace
     → HasStepsEnough start before events order → IsSaid start order before trace
 
--- the trace is cut before what the middle ones of these events added, and behind it
+-- the trace is cut before the happenings that the middle ones of these events added, and after them
 pub record IsCut (start : Start) (newer middle older : List Event) (trace : List Happening) : Type 0 where
   pub before : List Happening
   pub behind : List Happening
@@ -60,7 +60,7 @@ pub record IsCut (start : Start) (newer middle older : List Event) (trace : List
   pub middle_parts : PartsSince start middle before behind
   pub newer_parts : PartsSince start newer behind trace
 
--- an order that has steps enough in the middle ones is said in what these add, whatever comes behind them
+-- an order that has steps enough in the middle ones is said in the part that these add, whatever comes after them
 abbrev pub SaysInTime : Start → List Event → List Event → List Event → List Happening → Type 0
 SaysInTime start newer middle older trace =
     (cut : IsCut start newer middle older trace)

@@ -9,7 +9,7 @@ use Rattle.dali_trace.specs.declared.happening.Happening.{Happening}
 use Rattle.dali_trace.specs.declared.happening.Happening.TheVariants.{Asked, Answered, Stopped}
 use Rattle.dali_trace.specs.Trace.{waiting}
 
--- the orders without the newest one, where that still waits
+-- the orders without the newest one, if that still waits
 abbrev pub without : Option Contents → List Contents → List Contents
 without None orders = orders
 without (Some waits) [] = []

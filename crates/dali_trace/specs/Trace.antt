@@ -1,4 +1,4 @@
--- What a trace tells of a writer. A trace is a list of happenings, the newest first.
+-- The view of a writer that a trace gives. A trace is a list of happenings, the newest first.
 use Rattle.std.specs.Prelude.{◌||◌, ℕ, Bool, true, false, List, [], ◌∷◌, ◌++◌, Option, Some, None, length, nat_le}
 use Rattle.dali_bank.specs.Order.{Contents}
 use Rattle.dali_journal.specs.declared.record.Record.{Record}
@@ -32,7 +32,7 @@ pace_at start (other ∷ past) = pace_at start past
 abbrev pub records_of : Start → List Happening → List Record
 records_of start past = kept_in past ++ start.records
 
--- where the records so far stand
+-- the standing of the records so far
 abbrev pub standing_at : Start → List Happening → Standing
 standing_at start past = standing_of (records_of start past)
 
@@ -44,13 +44,13 @@ sent_of past = frames_in (since is_stop past)
 abbrev pub sent_since_taken : List Happening → List Exchange
 sent_since_taken past = frames_in (since is_start past)
 
--- the units that have lost their power by now, where these had before
+-- the units that have lost their power by now, if these had before
 abbrev pub powered_of : List ℕ → List Happening → List ℕ
 powered_of before [] = before
 powered_of before (Powered address ∷ past) = address ∷ powered_of before past
 powered_of before (other ∷ past) = powered_of before past
 
--- What is still to be said since the last stop.
+-- The sayings that are still due since the last stop.
 pub data Outstanding : Type 0 where
   -- nothing
   Quiet : Outstanding

@@ -1,4 +1,4 @@
--- What is so in the world when a record is kept.
+-- The facts in the world when a record is kept.
 use Rattle.std.specs.Prelude.{◌≡◌, ℕ, false, List, [], ◌∷◌, Some, None, ⊤}
 use Rattle.dali_bus.specs.World.{World, byte_at, is_enabled}
 use Rattle.dali_journal.specs.declared.record.Record.{Record}
@@ -24,8 +24,8 @@ IsLetGo now stands entry =
     (unit : ℕ) → named_unit stands ≡ Some unit → named_unit (next_standing stands entry) ≡ None
     → is_enabled now unit ≡ false
 
--- what is so when this record is kept where the records stand so and these units have lost their power: it may come
--- there, what it rests on is so, and the unit that it lets go isn't enabled
+-- the facts when this record is kept after records of this standing, if these units have lost their power: it may come
+-- there, its grounds are so, and the unit that it lets go isn't enabled
 pub record TellsTruth (lost : List ℕ) (now : World) (stands : Standing) (entry : Record) : Type 0 where
   pub allowed : Allows stands entry
   pub grounds : Grounds (Holds lost now) stands entry

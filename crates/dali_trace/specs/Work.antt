@@ -23,24 +23,24 @@ use Rattle.dali_write.specs.declared.pace.Pace.{Pace}
 use Rattle.dali_write.specs.Plans.{rows_of, most_of, read_backs, all_rows}
 use Rattle.dali_write.specs.Frames.{format_frames}
 
--- where the records stood at the last start
+-- the standing of the records at the last start
 abbrev pub stood_at : Start → List Happening → Standing
 stood_at start past = standing_at start (up_to is_start past)
 
--- so many records were kept since then
+-- how many records were kept since then
 abbrev pub kept_since : List Happening → ℕ
 kept_since past = length (kept_in (since is_start past))
 
--- from a start of an order with so many updates no more frames are sent, a left unit's closing included
+-- from a start of an order with this many updates no more frames are sent, a left unit's closing included
 abbrev pub work_limit : ℕ → ℕ
 work_limit updates = closing_limit + fresh_limit + opened_limit updates
 
--- the frames that look whether bank 1 suits the updates, where no try misses
+-- the frames that look whether bank 1 suits the updates, if no try misses
 abbrev pub look_frames : Pace → List (ℕ × ℕ) → ℕ
 look_frames pace updates =
     if nat_lt (greatest updates) 0x13 then read_frames else read_frames + format_frames pace
 
--- the frames of an order that is done, from its start on, where no try misses
+-- the frames of an order that is done, from its start on, if no try misses
 abbrev pub frames_from : Pace → Standing → List (ℕ × ℕ) → ℕ
 frames_from pace (standings.Left unit) updates =
     done_frames pace updates + look_frames pace updates + (write_frames + read_frames)
@@ -60,11 +60,11 @@ FindsAnother pace order sent =
     × FoundAnother order.unit (unlock pace order.updates)
     (all_rows (rows_of (most_of pace) (read_backs order.updates))) told
 
--- What earns an order its code, among the frames from its start on. Done: exactly so many, and for each miss and each
--- row that told another byte at most what it may take. Silent: the last access, which read the length or the content
--- format, failed. DoubtOpen: the last access, which read the lock byte, failed. Doubt: an access failed, or another
--- byte was found, and wasn't read again. (What Done, Short, Format and Doubt besides rest on, checked reads, is a rule
--- of legal traces.)
+-- The frames from an order's start on that earn it its code. Done: exactly as many as its plan takes, and for each miss
+-- and each row that told another byte at most what it may take. Silent: the last access, which read the length or the
+-- content format, failed. DoubtOpen: the last access, which read the lock byte, failed. Doubt: an access failed, or
+-- another byte was found, and wasn't read again. (The checked reads on which Done, Short, Format and Doubt also rest
+-- are a rule of legal traces.)
 abbrev pub IsEarned : Pace → Standing → Contents → Code → List Exchange → Type 0
 IsEarned pace first order codes.Done sent =
     IsLong pace (read_backs order.updates) (frames_from pace first order.updates) sent
@@ -91,8 +91,8 @@ IsWithinLimit start past =
     IfSome (order_at_hand start past)
     (λ order. (length (sent_since_taken past) ≤ work_limit (length order.updates)) × (kept_since past ≤ 4))
 
--- What was said last of an order that was taken was earned by the frames from its start on: how it ended, or that the
--- left unit's lock byte wasn't told.
+-- The last saying of an order that was taken was earned by the frames from its start on: how it ended, or that the left
+-- unit's lock byte wasn't read.
 abbrev pub IsSaidSo : Start → List Happening → Type 0
 IsSaidSo start (Answered id reply ∷ Asked order moment ∷ past) = ⊤
 IsSaidSo start (Answered id (replies.Kept code) ∷ past) =

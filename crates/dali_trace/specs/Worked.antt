@@ -120,7 +120,7 @@ abbrev pub alone : Gear → World
 alone gear address = if address == 5 then Some gear else None
 
 -- It goes along the first_carried_out trace with some worlds in between. Then DTR0 is 09h, DTR1 01h, the unit isn't
--- enabled, the lock byte is FFh, the order's bytes are there, and the byte behind them is as it was.
+-- enabled, the lock byte is FFh, the order's bytes are there, and the byte after them is as it was.
 abbrev pub GoesAlong : Type 0
 GoesAlong =
     (last : Gear) × (states : List World)
@@ -132,32 +132,32 @@ GoesAlong =
     × (last.memory 1 0x06 ≡ Some 0xEF) × (last.memory 1 0x07 ≡ Some 0xAD) × (last.memory 1 0x08 ≡ Some 0xAB)
     × (last.memory 1 0x09 ≡ Some 0xFF))
 
--- What may not happen
+-- Happenings that may not come
 
 -- a write, before the location is set and asked back
 abbrev pub unguarded : List Happening
 unguarded = Sent (Write 0x55) (Some 0x55) ∷ enable_twice 5 opened
 
--- the same where DTR0 was set and asked back, but not DTR1
+-- the same if DTR0 was set and asked back, but not DTR1
 abbrev pub bank_not_asked : List Happening
 bank_not_asked =
     Sent (Write 0x55) (Some 0x55) ∷ Sent (AskDtr0 5) (Some 2) ∷ Sent (Dtr0 2) None ∷ Sent (Dtr1 1) None
     ∷ enable_twice 5 opened
 
--- the first update written where DTR0 has moved behind the write of the lock byte, and both were asked back
+-- the first update written where DTR0 has moved on after the write of the lock byte, and both were asked back
 abbrev pub moved_on : List Happening
 moved_on = Sent (AskDtr0 5) (Some 3) ∷ Sent (AskDtr1 5) (Some 1) ∷ unlocked
 
 abbrev pub written_on : List Happening
 written_on = Sent (Write 0x03) (Some 0x03) ∷ moved_on
 
--- the third update written where DTR0 was set before both were asked back
+-- the third update written if DTR0 was set before both were asked back
 abbrev pub jumped_on : List Happening
 jumped_on =
     Sent (Write 0xCE) (Some 0xCE) ∷ Sent (AskDtr0 5) (Some 5) ∷ Sent (AskDtr1 5) (Some 1)
     ∷ Sent (Dtr0 5) None ∷ unlocked
 
--- and where it was set between the two questions, while DTR1 wasn't set before them
+-- and if it was set between the two questions, while DTR1 wasn't set before them
 abbrev pub set_between : List Happening
 set_between =
     Sent (Write 0xCE) (Some 0xCE) ∷ Sent (AskDtr0 5) (Some 5) ∷ Sent (Dtr0 5) None
@@ -178,7 +178,7 @@ written_twice =
 abbrev pub another_byte : List Happening
 another_byte = Sent (Write 0x04) (Some 0x04) ∷ select_at 5 0x03 unlocked
 
--- a frame where no order is at work
+-- a frame when no order is at work
 abbrev pub idle_frame : List Happening
 idle_frame = Sent (Dtr1 1) None ∷ said
 
@@ -201,7 +201,7 @@ enabled_before_opened = Sent (Enable 5) None ∷ measured
 abbrev pub opened_unread : List Happening
 opened_unread = Kept (Opened 5) ∷ begun
 
--- Short by a byte that was read, with DTR1 not asked back behind it
+-- Short by a byte that was read, with DTR1 not asked back after it
 abbrev pub short_after_six_frames : List Happening
 short_after_six_frames =
     Kept (Ended Short) ∷ Sent (AskDtr0 5) (Some 0x01) ∷ Sent (Read 5) (Some 0x02) ∷ select_at 5 0x00 begun
@@ -254,7 +254,7 @@ second_order = record { id = 2; unit = 6; updates = first_order.updates }
 abbrev pub first_elsewhere : Contents
 first_elsewhere = record { id = 1; unit = 6; updates = first_order.updates }
 
--- each of them where it is due
+-- each of them when it is due
 abbrev pub busy_while_at_work : List Happening
 busy_while_at_work = Answered 2 replies.Busy ∷ Asked second_order 9 ∷ begun
 
@@ -265,7 +265,7 @@ number_used_again = Answered 1 replies.IdReused ∷ Asked first_elsewhere 8 ∷ 
 abbrev pub one_of_one : Start
 one_of_one = record { records = Ended DoubtOpen ∷ Opened 5 ∷ Began first_order 7 ∷ []; limit = 1; pace = Checked }
 
--- the same where it is done
+-- the same if it is done
 abbrev pub one_done_of_one : Start
 one_done_of_one = record { records = Ended Done ∷ Opened 5 ∷ Began first_order 7 ∷ []; limit = 1; pace = Checked }
 

@@ -1,4 +1,4 @@
--- Small buses and banks near the edges of what is promised where little is lost.
+-- Small buses and banks near the edges of what is promised if little is lost.
 use Rattle.std.specs.Prelude.{◌≡◌, ◌≤◌, ℕ, true, false, replicate, map, List, [], ◌∷◌, ◌++◌, Option, Some, None}
 use Rattle.std.specs.Prelude.{drop}
 use Rattle.dali_frame.specs.declared.forward.Frame.{Frame}
@@ -72,8 +72,8 @@ abbrev pub buses_along : SimState → List Happening → List SimState
 buses_along first [] = []
 buses_along first (next ∷ past) = bus_after first past ∷ buses_along first past
 
--- all that is asked for, so that it is promised how an order ends, holds together of one that ends with this code,
--- after so many losses, on this bus and after what happened on it
+-- all premises of the promise how an order ends hold together, of one that ends with this code, after this many losses,
+-- on this bus and after what happened on it
 pub record MeetsAll (start : Start) (first : SimState) (order : Contents) (bank : BankState) (code : Code) (lost : ℕ)
     (past : List Happening) : Type 0 where
   pub legal : Legal start (Answered order.id (replies.Kept code) ∷ past)
@@ -131,7 +131,7 @@ abbrev pub fourth_ended : List Happening
 fourth_ended =
     Kept (Ended codes.Done) ∷ read_at 5 0x08 0xAB (read_at 5 0x02 0xFF (write_at 5 0x02 0xFF fourth_written))
 
--- Short, where unit 5 was left open, and an answer of it is lost: order 6 for the year of unit 6
+-- Short, if unit 5 was left open, and an answer of it is lost: order 6 for the year of unit 6
 abbrev pub sixth_order : Contents
 sixth_order = record { id = 6; unit = 6; updates = third_order.updates }
 

@@ -20,7 +20,7 @@ first_frame = Sent (Dtr1 1) None ∷ begun
 abbrev pub another_first_frame : List Happening
 another_first_frame = Sent (Dtr0 0) None ∷ begun
 
--- after a try that missed: the next one begins, or the frame behind the miss is sent
+-- after a try that missed: the next one begins, or the frame after the miss is sent
 abbrev pub next_try : List Happening
 next_try = Sent (Dtr1 1) None ∷ read_try begun
 
@@ -81,7 +81,7 @@ closed_anew = Sent (Enable 5) None ∷ taken_again
 
 -- Near the limits of the work
 
--- so many frames more that ask for no answer, tries that miss, reads that are answered, and records
+-- this many more frames that ask for no answer, tries that miss, reads that are answered, and records
 abbrev pub frames_more : ℕ → List Happening → List Happening
 frames_more zero past = past
 frames_more (suc frames) past = Sent (Dtr1 1) None ∷ frames_more frames past
@@ -114,7 +114,7 @@ opened_said code past = begun_said code (Kept (Opened 5) ∷ past)
 abbrev pub blocked_said : List Happening → List Happening
 blocked_said past = Answered 2 (replies.Blocked 5) ∷ past
 
--- the second order is taken behind others
+-- the second order is taken after others
 abbrev pub second_taken_behind : List Happening → List Happening
 second_taken_behind past = Answered 2 replies.Taken ∷ Asked second_order 9 ∷ past
 
@@ -122,8 +122,8 @@ second_taken_behind past = Answered 2 replies.Taken ∷ Asked second_order 9 ∷
 abbrev pub at_work : Start
 at_work = record { records = Began first_order 7 ∷ []; limit = 10; pace = Checked }
 
--- What doesn't say the order that is begun: a reply to a repeat of it, a saying of another number, one behind a stop,
--- and one where no order is at hand.
+-- Happenings that don't say the order that is begun: a reply to a repeat of it, a saying of another number, one after a
+-- stop, and one when no order is at hand.
 abbrev pub repeated : List Happening
 repeated = Answered 1 replies.Busy ∷ Asked first_order 7 ∷ begun
 

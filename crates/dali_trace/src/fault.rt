@@ -11,7 +11,7 @@ use std::fmt;
 pub enum RunFault {
     /// The limit is 0 or over 100000. Nothing was done.
     Limit = 1,
-    /// There was no memory. The bus stands where the events so far left it.
+    /// There was no memory. The bus is as the events so far left it.
     NoMemory = 2,
 }
 
@@ -62,7 +62,7 @@ impl From<AllocError> for RunFault {
     }
 }
 
-/// Why a drive didn't come to its end (profile). What goes on is a new writer, from the journal that is loaded from the
+/// Why a drive didn't come to its end (profile). A new writer goes on, from the journal that is loaded from the
 /// records' bytes.
 #[derive(Clone, Copy, Debug, PartialEq, Eq)]
 pub enum DriveFault {

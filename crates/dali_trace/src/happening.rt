@@ -84,7 +84,7 @@ impl fmt::Display for Reply {
     }
 }
 
-/// What happened (profile). A trace is a list of happenings.
+/// A happening (profile). A trace is a list of happenings.
 #[derive(Drop)]
 pub enum Happening {
     /// The order was submitted, at this moment: a number that the caller hands in.
@@ -97,27 +97,26 @@ pub enum Happening {
     Kept(Record),
     /// The program was stopped, and began anew from its journal, by this plan.
     Stopped(Pace),
-    /// The unit at this address lost its power and got it back. Where there is none, as over 63,
-    /// nothing changed.
+    /// The unit at this address lost its power and got it back. If there is none, as over 63, nothing changed.
     Powered(u8),
 }
 
-/// What is to be done (profile).
+/// An event of a run: something to be done (profile).
 #[derive(Drop)]
 pub enum Event {
     /// Submit the order at this moment, and reply to it.
     Submit(Order, u64),
-    /// Do the next thing that is to be done: keep one record, send one frame, or say how an order
-    /// ended. Where nothing is at work nothing is done.
+    /// Do the next thing that is to be done: keep one record, send one frame, or say how an order ended. If nothing is
+    /// at work nothing is done.
     Step,
-    /// Stop the program: of the record that is to be kept next, if there is one, the first so many
-    /// bytes reach the journal, or all. It goes on from the journal that is loaded from these bytes.
+    /// Stop the program: of the record that is to be kept next, if there is one, the first bytes, this many at most,
+    /// reach the journal. It goes on from the journal that is loaded from these bytes.
     Stop(u16),
     /// The unit at this address loses its power and gets it back. The program doesn't notice.
     Power(u8),
 }
 
-/// What a writer wants to be done next (profile).
+/// The next thing that a writer wants done (profile).
 #[derive(Drop)]
 pub enum Want {
     /// Nothing.

@@ -20,15 +20,15 @@ use Rattle.dali_write.specs.Plans.{Make, most_of, write_next}
 use Rattle.dali_write.proofs.CountLemmas.{longest}
 use Rattle.dali_write.proofs.BlockShapeLemmas.{block_frames_are}
 
--- the frames of a walk: these, and so many more
+-- the frames of a walk: `frames`, and `more` of them
 pub record Frames (pace : Pace) (unit : ℕ) (plan : Plan) (outcomes : List (Option (List ℕ))) (told : List Exchange)
     (end : Plan) (walk : Walk unit plan outcomes told end) (frames others : ℕ) : Type 0 where
   pub more : ℕ
   pub took : length told ≡ frames + more
   pub few : more ≤ miss_frames pace * misses_of unit plan outcomes told end walk + other_frames pace * others
 
--- The first try is the shortest, and one behind a miss the longest; what the latter has more than the former, and its
--- frames, are no more than what a miss may take.
+-- The first try is the shortest, and one after a miss the longest. The excess of the latter over the former, together
+-- with the frames of the latter, is no more than a miss may take.
 abbrev pub IsShort : Pace → Access → Type 0
 IsShort pace access =
     (unit misses : ℕ)

@@ -1,4 +1,4 @@
--- What is asked for, by plan and requests alone.
+-- The frame that is asked for, from plan and requests alone.
 use Rattle.std.proofs.Common.{◌≡◌, refl, List, [], ◌∷◌}
 use Rattle.dali_write.specs.declared.request.Request.{Request}
 use Rattle.dali_write.specs.declared.ask.Ask.{Ask}
@@ -7,7 +7,7 @@ use Rattle.dali_write.specs.declared.ask.Verdict.TheVariants.{Silent}
 use Rattle.dali_write.specs.Plans.{Plan, Finish, Make}
 use Rattle.dali_write.specs.Tries.{IsGoing, ask_at}
 
--- the same without the proof that there is a next frame; where there is none it is no matter what is asked
+-- the same without the proof that there is a next frame; if there is none, any result will do
 abbrev pub shown_ask : Plan → List Request → Ask
 shown_ask (Finish verdict) left = Ended verdict
 shown_ask (Make access after) [] = Ended Silent

@@ -1,4 +1,4 @@
--- What holds of each request holds of each frame that tries of them send.
+-- A property of each request holds of each frame that tries of them send.
 use Rattle.std.proofs.Common.{◌≡◌, ◌⊎◌, inl, inr, refl, sym, subst, ◌∙◌, ℕ, zero, suc, List, [], ◌∷◌, ◌++◌, Option}
 use Rattle.std.specs.Prelude.{⊤}
 use Rattle.std.specs.List.{AllByRecursion}
@@ -29,7 +29,7 @@ Sent P told = AllByRecursion (λ x. P x.frame) told
 abbrev pub Asks : (Frame → Type 0) → List Request → Type 0
 Asks P requests = AllOf (λ next. P next.frame) requests
 
--- of newer exchanges behind older ones
+-- of newer exchanges after older ones
 pub sent_both : (P : Frame → Type 0) (newer older : List Exchange) → Sent P newer → Sent P older
     → Sent P (newer ++ older)
 sent_both P [] older one two = two
@@ -59,7 +59,7 @@ missed_sent P requests (x ∷ tried) all is = (
   trying_sent P requests tried (request x.frame is.0 ∷ is.1) all is.3,
 )
 
--- of so many tries that missed
+-- of this many tries that missed
 pub misses_sent : (P : Frame → Type 0) (requests : ℕ → List Request) (misses : ℕ) (told : List Exchange)
     → ((misses : ℕ) → Asks P (requests misses)) → Misses requests misses told → Sent P told
 misses_sent P requests zero told all is = subst (λ (t : List Exchange). Sent P t) (sym is) tt
@@ -68,7 +68,7 @@ misses_sent P requests (suc misses) told all is =
     (sent_both P is.0 is.1 (missed_sent P (requests misses) is.0 (all misses) is.3)
     (misses_sent P requests misses is.1 all is.4))
 
--- so many reads, and what is behind them
+-- this many reads, and the requests after them
 reads_ask : (P : Frame → Type 0) (unit count : ℕ) (back : List Request) → P (Read unit) → Asks P back
     → Asks P (reads unit count ++ back)
 reads_ask P unit zero back read all = all

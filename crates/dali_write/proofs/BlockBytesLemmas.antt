@@ -26,7 +26,7 @@ pub bytes_next : (unit : ℕ) (x : Exchange) (each : List Exchange) (byte : ℕ)
     → x.answer ≡ Some byte → bytes_of (x ∷ each) ≡ bytes_of each ++ byte ∷ []
 bytes_next unit x each byte is answer = grind arith
 
--- so many reads tell so many bytes
+-- each read tells one byte
 pub bytes_count : (unit : ℕ) (each : List Exchange) → AllReads unit each → length (bytes_of each) ≡ length each
 bytes_count unit [] all = refl
 bytes_count unit (x ∷ each) all =
@@ -70,7 +70,7 @@ pub front_silent : (unit location : ℕ) {tried : List Exchange} (four : Selecte
     → bytes_of (each ++ front_of four) ≡ bytes_of each
 front_silent unit location four each = grind (arith, bytes_both, bytes_skip)
 
--- a block read that came to its end: its two last frames, its reads, which told the bytes, and its four first frames
+-- a block read that came to its end: its last two frames, its reads, which told the bytes, and its first four frames
 pub record ToldBlock (unit : ℕ) (block : Block) (bytes : List ℕ) (tried : List Exchange) : Type 0 where
   pub was : WasBlock unit block tried
   pub four : Selected unit block.location was.older

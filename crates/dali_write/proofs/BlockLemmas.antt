@@ -42,11 +42,11 @@ moves_on : (old : World) (unit location byte : ℕ) (new : World) → Carry old 
     → dtr1_in (old unit) ≡ Some 1 → dtr0_in (old unit) ≡ Some location → dtr0_in (new unit) ≡ Some (up location)
 moves_on old unit location byte new carry bank place = grind (arith, answers_moves, dtr0_in, dtr1_in)
 
--- the place where a unit stands that has bank 1 selected
+-- the location that a unit has selected, if it has bank 1
 abbrev pub StandsAt : Option Gear → ℕ → Type 0
 StandsAt gear location = (dtr1_in gear ≡ Some 1) × (dtr0_in gear ≡ Some location)
 
--- after so many reads a unit that keeps its power has moved on by as many
+-- after a count of reads, a unit that keeps its power has moved on by as many locations
 reads_stand : (loses : ℕ → Type 0) (unit location : ℕ) (each : List Exchange) (first last : World)
     → Leads WorldStep (AllBut unit loses) each first last → AllReads unit each
     → StandsAt (first unit) location → StandsAt (last unit) (moved_on location (length each))
@@ -110,7 +110,7 @@ abbrev pub ShowsEach : (ℕ → Type 0) → World → ℕ → ℕ → List ℕ �
 ShowsEach loses world unit location bytes =
     (index byte : ℕ) → slice_get bytes index ≡ Some byte → Shows loses world unit (moved_on location index) byte
 
--- after so many reads a unit that keeps its power shows each byte that they told
+-- after a count of reads, a unit that keeps its power shows each byte that they told
 reads_show : (loses : ℕ → Type 0) (unit location : ℕ) (each : List Exchange) (first last : World)
     → Leads WorldStep (AllBut unit loses) each first last → AllReads unit each
     → StandsAt (first unit) location → ShowsEach (AllBut unit loses) last unit location (bytes_of each)
@@ -266,7 +266,7 @@ when_just_block loses tried older first begun last unit block bytes before run r
           (drifts_keep r2.1 last r2.4 unit),
     )
 
--- and with exchanges behind it
+-- and with exchanges after it
 pub when_block : {loses : ℕ → Type 0} (newer tried older : List Exchange) (first last : World) (unit : ℕ)
     (block : Block) (bytes : List ℕ)
     → Leads WorldStep loses (newer ++ (tried ++ older)) first last → IsBlockRead unit block bytes tried

@@ -1,4 +1,4 @@
--- What a session of a block comes to.
+-- The result of a session of a block.
 use Rattle.std.proofs.Common.{◌≡◌, ◌≢◌, ◌⊎◌, inl, inr, refl, sym, ap, subst, ◌∙◌, ℕ, List, [], ◌∷◌, append-nil, drop}
 use Rattle.std.proofs.Common.{Option, Some, None}
 use Rattle.dali_frame.specs.declared.forward.Frame.{Frame}

@@ -90,11 +90,11 @@ all_reads unit count (x ∷ tried) left try =
       all_reads unit count tried (request x.frame try.0 ∷ left) try.2,
     )
 
--- so many reads are so many requests
+-- each read is one request
 pub reads_length : (unit count : ℕ) → length (reads unit count) ≡ count
 reads_length unit count = length-replicate count (request (Read unit) Anything)
 
--- the requests behind the reads
+-- the requests after the reads
 abbrev pub back_requests : ℕ → ℕ → List Request
 back_requests unit place = request (AskDtr0 unit) (Exactly place) ∷ request (AskDtr1 unit) (Exactly 1) ∷ []
 

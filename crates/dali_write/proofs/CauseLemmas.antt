@@ -42,7 +42,7 @@ use Rattle.std.specs.Prelude.{⊤}
 use Rattle.dali_write.specs.Plans.{most_once, pieces_of, expect_all, read_again}
 use Rattle.std.proofs.Common.{◌⊎◌}
 
--- behind an access that failed, a cause where the plan goes on by no read
+-- after an access that failed, a cause if the plan doesn't go on by a read
 pub fails_without : (updates : List (ℕ × ℕ)) (plan : Plan) (access : Access) → access_of plan ≡ Ok access
     → ((block : Block) → access_of (next_plan plan None) ≡ Ok (ReadFrom block) → ⊥)
     → cause_by updates plan None ≡ Some (failure access)
@@ -57,7 +57,7 @@ fails_without updates (Make (ReadFrom block) after) access is never = by (after 
   by (Make (WriteTo location byte) after) never = cc
   by (Make (WriteOn before location byte) after) never = cc
 
--- behind an access that read, no cause where the plan ends
+-- after an access that read, no cause if the plan ends
 pub ends_without : (updates : List (ℕ × ℕ)) (plan : Plan) (bytes : List ℕ) (verdict : Verdict)
     → access_of (next_plan plan (Some bytes)) ≡ Err verdict → cause_by updates plan (Some bytes) ≡ None
 ends_without updates (Finish end) bytes verdict ends = refl
@@ -98,7 +98,7 @@ well_over updates P (Finish end) left verdict well going is = let same : end ≡
 well_over updates P (Make access after) [] verdict well going is = cc
 well_over updates P (Make access after) (next ∷ left) verdict well going is = cc
 
--- where it ends otherwise there is a cause
+-- if it ends otherwise there is a cause
 has_cause : (updates : List (ℕ × ℕ)) (P : Verdict → Type 0) (plan : Plan) (outcomes : List (Option (List ℕ)))
     (now : Plan) (left : List Request) (verdict : Verdict) (cause : Option Cause)
     → EndsWell updates P plan → plan_after plan outcomes ≡ now → IsGoing now left
@@ -120,7 +120,7 @@ write_well updates (WriteTo location byte) after rest None none = cc
 write_well updates (WriteOn before location byte) after rest None none = cc
 write_well updates access after rest (Some bytes) none = rest
 
--- behind a read that failed the plan ends well, or it gives up
+-- after a read that failed the plan ends well, or it gives up
 abbrev AgainWell : List (ℕ × ℕ) → Plan → Type 0
 AgainWell updates failed = EndsWell updates IsDone failed ⊎ ((is_read failed ≡ false) × (is_write failed ≡ true))
 
@@ -240,7 +240,7 @@ fresh_has_cause order pace told s is was aim =
     told_as_task told s (Fresh order pace) IsHeard Silent was is.1 (length_well pace order.updates) aim
     (λ heard. heard refl)
 
--- ---- what was told
+-- ---- the exchanges that show it
 
 -- it is shown by the older ones
 failed_later : (unit : ℕ) (newer older : List Exchange) (cause : Cause)
@@ -298,7 +298,7 @@ failed_now unit updates access newer older apt missed = by access apt missed
     by (WriteTo location byte) apt missed = (failed (WriteTo location byte) apt missed, refl)
     by (WriteOn before location byte) apt missed = (failed (WriteOn before location byte) apt missed, refl)
 
--- a read that came to its end told as many bytes as its block has locations
+-- a read that came to its end was answered one byte for each location of its block
 read_long : (unit : ℕ) (block : Block) (bytes : List ℕ) (told : List Exchange)
     → Succeeds (access_requests unit (ReadFrom block)) (Some bytes) told → length bytes ≡ block.count
 read_long unit block bytes told (newer, older, count, parts, try, is, few, missed) =

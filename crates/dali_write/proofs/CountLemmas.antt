@@ -46,7 +46,7 @@ missed_length requests (x ∷ tried) missed = grind (arith, trying_length)
 suc_times : (n k : ℕ) → (suc n) * k ≡ k + n * k
 suc_times n k = omega arith
 
--- where a try behind misses is the longest
+-- if a try after misses is the longest
 pub misses_length : (requests : ℕ → List Request) (misses : ℕ) (told : List Exchange)
     → ((n : ℕ) → length (requests n) ≤ length (requests 1)) → Misses requests misses told
     → length told ≤ misses * length (requests 1)
@@ -77,7 +77,7 @@ put_few : (moved : Bool) (unit location byte : ℕ)
 put_few true unit location byte = omega arith
 put_few false unit location byte = omega arith
 
--- no try has more frames than one behind a miss
+-- no try has more frames than one after a miss
 pub longest : (unit : ℕ) (access : Access) (misses : ℕ)
     → length (access_requests unit access misses) ≤ length (access_requests unit access 1)
 longest unit (ReadFrom block) misses = omega arith
@@ -173,7 +173,7 @@ pub close_takes : (limit : ℕ) (answered unanswered : Verdict) → most_close �
     → TakesAtMost limit (close answered unanswered)
 close_takes limit answered unanswered le = grind (arith, either_all)
 
--- the most frames of a row of so many, which are no more than those of the reads one by one
+-- the most frames of a row, which are no more than those of the reads one by one
 abbrev most_row : List ℕ → ℕ
 most_row bytes = most_tries * (length bytes + 6)
 
@@ -220,7 +220,7 @@ again_takes : (need : ℕ) (again : Bool) (pieces : List (ℕ × List ℕ)) (aft
 again_takes need true pieces after closes takes limit le = expect_all_takes need pieces after closes takes limit le
 again_takes need false pieces after closes takes limit le = close_takes limit _ _ (omega arith)
 
--- all tries of reading these rows, each of them again where it fails
+-- all tries of reading these rows, each of them again if it fails
 abbrev most_back : List (ℕ × List ℕ) → ℕ
 most_back [] = 0
 most_back (row ∷ rows) =
@@ -235,7 +235,7 @@ read_back_takes (row ∷ rows) limit le =
     (read_back rows) (omega arith) (read_back_takes rows) (limit - most_row row.1) (omega arith))
     (read_back_takes rows (limit - most_row row.1) (omega arith))
 
--- a row takes no more than the reads one by one, also where it is read again
+-- a row takes no more than the reads one by one, also if it is read again
 row_few : (location : ℕ) (bytes : List ℕ) (again : Bool) → 1 ≤ length bytes → nat_lt most_once (length bytes) ≡ again
     → most_row bytes + most_pieces again (pieces_of location bytes) ≤ length bytes * most_read
 row_few location bytes true some is =

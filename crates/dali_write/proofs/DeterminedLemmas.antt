@@ -1,4 +1,4 @@
--- What a session was told determines where it stands, and so what it wants.
+-- The exchanges of a session determine its state, and so what it wants.
 use Rattle.std.proofs.Common.{◌≡◌, ◌⊎◌, inl, inr, refl, sym, ap, subst, ◌∙◌, ℕ, zero, suc, ◌<◌, Bool, true, false, ◌==◌}
 use Rattle.std.proofs.Common.{nat_lt, lt-ltb, eq-eqb, ne_eqb, if◌then◌else◌, List, [], ◌∷◌, ◌++◌, append_assoc, Option}
 use Rattle.std.proofs.Common.{Some, None, is_some, arith}
@@ -18,7 +18,7 @@ use Rattle.dali_write.specs.Tries.{Wants}
 use Rattle.dali_write.proofs.AskLemmas.{shown_ask, ask_shown}
 use Rattle.dali_write.proofs.ShapeLemmas.{none_left}
 
--- where a session stands: its plan from the access at hand on, the missed tries of that access, what is left of the try
+-- the state of a session: its plan from the access at hand on, the missed tries of that access, what is left of the try
 -- at hand, and its bytes
 pub record PlanState : Type 0 where
   pub now : Plan
@@ -78,7 +78,7 @@ misses_is Anything (Some other) misses = absurd (misses refl)
 some_requests : (unit : ℕ) (access : Access) (misses : ℕ) → [] ≡ access_requests unit access misses → ⊥
 some_requests unit access misses none = let some = (first_of unit access misses).is in cc
 
--- The newest exchange was of the frame that was wanted, and it led from where the session stood.
+-- The newest exchange was of the frame that was wanted, and it led on from the state of the session.
 record Peeled (unit : ℕ) (plan : Plan) (told : List Exchange) (state : PlanState) : Type 0 where
   pub newest : Exchange
   pub older : List Exchange
@@ -93,7 +93,7 @@ record Peeled (unit : ℕ) (plan : Plan) (told : List Exchange) (state : PlanSta
   pub sends : shown_ask now (request newest.frame wish ∷ left) ≡ Send newest.frame
   pub leads : moved unit newest now misses (request newest.frame wish ∷ left) bytes ≡ state
 
--- nothing was told yet, or there is a newest exchange
+-- no exchange yet, or there is a newest one
 abbrev Peels : ℕ → Plan → List Exchange → PlanState → Type 0
 Peels unit plan told state = ((told ≡ []) × (begins unit plan 0 ≡ state)) ⊎ Peeled unit plan told state
 
@@ -102,7 +102,7 @@ abbrev Reaches : ℕ → Plan → Plan → List Exchange → Type 0
 Reaches unit plan now ended =
     (outcomes : List (Option (List ℕ))) × AccessesEnd unit plan outcomes ended × (plan_after plan outcomes ≡ now)
 
--- what was told, split before its newest exchange
+-- the exchanges, split before the newest one
 peeled : (unit : ℕ) (plan : Plan) (told ended missed tried : List Exchange) (now : Plan) (misses : ℕ) (x : Exchange)
     (wish : Wish) (left : List Request) (state : PlanState)
     → told ≡ (x ∷ tried) ++ (missed ++ ended) → Reaches unit plan now ended → misses < 8

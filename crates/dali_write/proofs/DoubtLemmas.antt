@@ -39,7 +39,7 @@ HasCause unit plan expected =
     (outcomes : List (Option (List ℕ))) (told : List Exchange) → Walk unit plan outcomes told (Finish Doubt)
     → Cause unit plan expected told
 
--- in a plan whose accesses are in turn, one that it comes to is in its place
+-- in a plan whose accesses are in turn, each access that it reaches is in its place
 came_apt : (unit : ℕ) (last : Option ℕ) (plan : Plan) (before : List (Option (List ℕ))) (told older : List Exchange)
     (access : Access) (after : Option (List ℕ) → Plan)
     → IsInTurn last plan → Behind last older → Walk unit plan before told (Make access after)

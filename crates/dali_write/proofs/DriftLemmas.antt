@@ -1,4 +1,4 @@
--- What losses of power on the simulated bus leave of the units that keep theirs.
+-- Losses of power on the simulated bus, and the units that keep their power.
 use Rattle.std.proofs.Common.{◌≡◌, ◌≢◌, inl, inr, sym, ap, subst, ◌∙◌, refl, ℕ, Bool, true, false, List, [], ◌∷◌, map}
 use Rattle.std.specs.Prelude.{◌==◌, if◌then◌else◌}
 use Rattle.std.proofs.lemmas.Bool.{ne_eqb}

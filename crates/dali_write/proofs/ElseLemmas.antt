@@ -1,4 +1,4 @@
--- What becomes of the other units while a session is at work with one.
+-- The other units while a session is at work with one.
 use Rattle.std.proofs.Common.{◌≡◌, ◌≢◌, inl, inr, refl, sym, ap, subst, ◌∙◌, ℕ, Bool, true, false, List, [], ◌∷◌, map}
 use Rattle.std.proofs.Common.{Some}
 use Rattle.std.specs.Prelude.{◌==◌, if◌then◌else◌, ⊤}
@@ -135,7 +135,7 @@ along loses at address bank unit (x ∷ told) first last run keeps_power also al
           run.0.units x.frame all.0 other before.alone before.has));
     }
 
--- a session that closes one unit, where neither it nor this other one loses its power
+-- a session that closes one unit, if neither it nor this other one loses its power
 pub closing_keeps_bank : (loses : ℕ → Type 0) (at address : ℕ) (bank : BankState) (unit : UnitState)
     (told : List Exchange) (ask : Ask) (first last : SimState)
     → Leads SimStep loses told first last → (loses at → ⊥) → (loses address → ⊥)
@@ -156,7 +156,7 @@ run_apart loses (x ∷ told) first last run apart =
     (AreApart-map _ (fate_keeps (next_fate run.0.fates) x.frame) run.0.units
     (run_apart loses told first run.0 run.2 apart)))
 
--- where the one isn't enabled either, none is
+-- if the one isn't enabled either, none is
 all_off : (at address : ℕ) (units : List UnitState) → AllByRecursion (IsElse at) units → IsOff (world_of units address)
 all_off at address [] all = refl
 all_off at address (unit ∷ units) all = by (address == unit.address) (all_off at address units all.1)
@@ -181,7 +181,7 @@ none_on at address unit (first ∷ units) (inr further) off =
     by true rest = further.0.1
     by false rest = rest
 
--- the unit at an address, where no other is enabled
+-- the unit at an address, if no other is enabled
 there : (address : ℕ) (bank : BankState) (units : List UnitState) → HasBank address bank units
     → (gear : Gear) × (world_of units address ≡ Some gear)
 there address bank [] has = absurd has

@@ -67,8 +67,8 @@ reads_by unit location byte one three older = (
   },
 )
 
--- and the other way round: the newest asks DTR0, and the next one asks DTR1, or sets DTR0 behind one that asks DTR1,
--- which comes behind one that sets it
+-- and the other way round: the newest asks DTR0, and the next one asks DTR1, or sets DTR0 after one that asks DTR1,
+-- which comes after one that sets it
 pub record EndsSelecting (unit location : ℕ) (told : List Exchange) : Type 0 where
   pub x : Exchange
   pub next : Exchange
@@ -160,7 +160,7 @@ past : (answer : Option ℕ) (index : ℕ) {byte : ℕ} → slice_get (option_to
 past None index there = cc
 past (Some v) index there = cc
 
--- where DTR0 was asked back just before the newest read, its block is of one location, the one that was told
+-- if DTR0 was asked back just before the newest read, its block is of one location, the one that was read
 pub one_location : (unit location byte : ℕ) (x7 x6 x5 x4 : Exchange) (told : List Exchange) (to : ℕ)
     → x4.frame ≡ AskDtr0 to → EndsInRead unit location byte (x7 ∷ x6 ∷ x5 ∷ x4 ∷ told)
     → Got x4 (AskDtr0 unit) (Exactly location)

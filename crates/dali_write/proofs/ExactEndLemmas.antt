@@ -30,7 +30,7 @@ use Rattle.dali_write.proofs.CountLemmas.{longest}
 use Rattle.dali_write.proofs.BlockShapeLemmas.{block_frames_are}
 use Rattle.dali_write.specs.Plans.{judge_length}
 
--- each walk of the plan to the verdict takes so many frames, and more only for misses
+-- each walk of the plan to the verdict takes `frames` frames, and more only for misses
 abbrev Takes : Pace → ℕ → Plan → Verdict → ℕ → Type 0
 Takes pace unit plan verdict frames =
     (outcomes : List (Option (List ℕ))) (told : List Exchange) (walk : Walk unit plan outcomes told (Finish verdict))
@@ -46,7 +46,7 @@ takes_none pace unit end verdict [] told walk =
     let none = ap (λ (t : List Exchange). length t) walk.0 in record { more = 0; took = omega arith; few = omega arith }
 takes_none pace unit end verdict (o ∷ outcomes) told walk = absurd walk.3
 
--- where there is no walk, any number will do
+-- if there is no walk, any number will do
 takes_any : (pace : Pace) (unit : ℕ) (plan : Plan) (verdict : Verdict) (frames : ℕ) → Never unit plan verdict
     → Takes pace unit plan verdict frames
 takes_any pace unit plan verdict frames never outcomes told walk = absurd (never outcomes told walk)
@@ -114,8 +114,8 @@ format_never_short Checked unit =
     (λ low. ends_not unit _ Short (not_short ((high == 0) && (low == 3)))))
 format_never_short ShortPace unit = block_never_short unit
 
--- what follows the length, where the first test says whether the bank is too short, and the second whether all
--- locations are below 13h, where the format doesn't matter
+-- the plan after the length: the first test says whether the bank is too short, and the second whether all locations
+-- are below 13h, so that the format doesn't matter
 abbrev judged : Pace → Bool → Bool → Plan
 judged pace short below = if short then Finish Short else (if below then Finish MayOpen else read_format pace)
 

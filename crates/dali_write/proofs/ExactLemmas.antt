@@ -47,21 +47,21 @@ never_done unit (o ∷ Some byte ∷ []) told walk = let differs = walk.4.4.1 in
 never_done unit (o ∷ None ∷ p ∷ outcomes) told walk = walk.4.4.3
 never_done unit (o ∷ Some byte ∷ p ∷ outcomes) told walk = walk.4.4.3
 
--- so many other bytes are among the exchanges of a walk, besides those of older ones
+-- a count of other bytes among the exchanges of a walk, besides those of older ones
 abbrev pub HasOthers : List (ℕ × ℕ) → List Exchange → List Exchange → ℕ → Type 0
 HasOthers wanted told older others = others + others_in wanted older ≤ others_in wanted (told ++ older)
 
 pub none_other : (wanted : List (ℕ × ℕ)) (told older : List Exchange) → HasOthers wanted told older 0
 none_other wanted told older = omega (arith, more_others wanted told older)
 
--- those of an access, and of the exchanges behind it
+-- those of an access, and of the exchanges after it
 joined_others : (wanted : List (ℕ × ℕ)) (told newer mid older : List Exchange) (here others : ℕ) → told ≡ newer ++ mid
     → HasOthers wanted mid older here → HasOthers wanted newer (mid ++ older) others
     → HasOthers wanted told older (here + others)
 joined_others wanted told newer mid older here others parts one two =
     rw (parts, append_assoc newer mid older) (omega (arith, one, two))
 
--- A walk of the plan that ends Done takes so many frames, and more only for misses and for other bytes.
+-- A walk of the plan that ends Done takes `frames` frames, and more only for misses and for other bytes.
 record DoneIn (pace : Pace) (wanted : List (ℕ × ℕ)) (unit : ℕ) (plan : Plan) (outcomes : List (Option (List ℕ)))
     (told older : List Exchange) (walk : Walk unit plan outcomes told (Finish Done)) (frames : ℕ) : Type 0 where
   others : ℕ
@@ -74,7 +74,7 @@ TakesDone pace wanted unit plan frames =
     (outcomes : List (Option (List ℕ))) (told older : List Exchange) (walk : Walk unit plan outcomes told (Finish Done))
     → DoneIn pace wanted unit plan outcomes told older walk frames
 
--- the tries of a row that failed, and then so many frames
+-- the tries of a row that failed, and then the frames that follow
 failed_frames : (unit : ℕ) (block : Block) (after : Option (List ℕ) → Plan) (told : List Exchange)
     → (ends : AccessEnds unit (Make (ReadFrom block) after) None told)
     → (length told ≤ 8 * (block.count + 6)) × (access_misses unit (Make (ReadFrom block) after) None told ends ≡ 8)
@@ -100,7 +100,7 @@ again_first unit block after outcomes told walk frames again others small least 
       few = omega (arith, rest.few, here.0, here.1);
     }
 
--- so many frames are as many by another sum
+-- the count of frames by another sum
 same_frames : (pace : Pace) (unit : ℕ) (plan : Plan) (outcomes : List (Option (List ℕ))) (told : List Exchange)
     (walk : Walk unit plan outcomes told (Finish Done)) (all frames others : ℕ) → all ≡ frames
     → Frames pace unit plan outcomes told (Finish Done) walk all others
@@ -122,8 +122,8 @@ one_other Checked unit plan outcomes told walk again all frames others short wit
 one_other Short unit plan outcomes told walk again all frames others short within sum rest =
     record { more = again + rest.more; took = omega (arith, rest.took); few = omega (arith, rest.few) }
 
--- A walk of the plan behind a row that failed or told other bytes takes so many frames to read it again, which eight
--- misses allow, or one other byte.
+-- A walk of the plan after a row that failed or told other bytes: it takes `again` more frames to read the row again,
+-- which eight misses allow, or one other byte.
 record DoneAgain (pace : Pace) (wanted : List (ℕ × ℕ)) (unit : ℕ) (failed : Plan) (outcomes : List (Option (List ℕ)))
     (told older : List Exchange) (walk : Walk unit failed outcomes told (Finish Done)) (count frames : ℕ) : Type 0 where
   short : pace ≡ Short
@@ -140,7 +140,7 @@ TakesAgain pace wanted unit failed count frames =
     (walk : Walk unit failed outcomes told (Finish Done))
     → DoneAgain pace wanted unit failed outcomes told older walk count frames
 
--- a walk behind a row that was read, where it told its bytes or not
+-- a walk after a row that was read, whether it told its bytes or not
 record DoneBehind (count : ℕ) (pace : Pace) (wanted : List (ℕ × ℕ)) (unit : ℕ) (plan : Plan)
     (outcomes : List (Option (List ℕ)))
     (told older : List Exchange) (walk : Walk unit plan outcomes told (Finish Done)) (held : Bool) (frames : ℕ) : Type 0
@@ -184,7 +184,7 @@ expect_took pace wanted unit failed location bytes after frames few all again re
     base : List Exchange
     base = walk.1 ++ older
 
-    -- behind the row
+    -- after the row
     by : (held : Bool) (newer : List Exchange)
         (on : Walk unit (if held then after else failed) outcomes newer (Finish Done))
         → DoneBehind (length bytes) pace wanted unit (if held then after else failed) outcomes newer base on held frames
@@ -349,7 +349,7 @@ write_on_took pace unit updates before (update ∷ left) =
     (write_on pace updates update.0 left) _ (short_next pace before update.0 update.1)
     (write_on_took pace unit updates update.0 left))
 
--- behind older exchanges, of whose other bytes none is counted
+-- after older exchanges, of whose other bytes none is counted
 pub done_took_on : (told older : List Exchange) (unit : ℕ) (pace : Pace) (updates : List (ℕ × ℕ))
     → Wants unit (unlock pace updates) told (Ended Done)
     → (others : ℕ) × HasOthers (read_backs updates) told older others

@@ -72,7 +72,7 @@ pub of_block_fits : (unit : ℕ) (task : Task)
 of_block_fits unit (ReadingBlock block) = omega (arith, block_frames_are 0 block, block_frames_are unit block)
 of_block_fits unit _ = omega arith
 
--- behind an access that failed there is room to close the unit
+-- after an access that failed there is room to close the unit
 pub unlock_room : (unit : ℕ) (pace : Pace) (updates : List (ℕ × ℕ))
     → close_limit + 8 * length (plan_requests unit (unlock pace updates) 1)
     ≤ write_limit + write_on_limit (length updates) 0
@@ -230,7 +230,7 @@ failed_more task index most others updates behind own pace same at are is some l
     (subst (λ (m : ℕ). rows_of m (own ∷ behind)
     ≡ (own.0, own.1 ∷ bytes_in (take others behind)) ∷ rows_of m (drop others behind)) is_most rows)
 
--- what a stage comes to whose access told bytes, or failed
+-- the stage after one whose access told bytes, or failed
 pub ruleset told_next = (
   write_on_next,
   write_on_over,

@@ -1,4 +1,4 @@
--- What the verdict of a fresh session rests on.
+-- The grounds of the verdict of a fresh session.
 use Rattle.std.proofs.Common.{slice_get, length, arith, ◌≡◌, refl, sym, subst, ℕ, ◌≤◌, Bool, true, false, ◌==◌, ◌&&◌, nat_lt, if◌then◌else◌, List}
 use Rattle.std.proofs.Common.{[], ◌∷◌, get_or, Option, Some, None, arith}
 use Rattle.std.proofs.lemmas.Bool.{eqb-true, ltb-true, ltb-false}

@@ -1,4 +1,4 @@
--- What frames do to one unit.
+-- The effect of frames on one unit.
 use Rattle.std.proofs.Common.{◌≡◌, ◌⊎◌, refl, sym, ap, ◌∙◌, inl, inr, ℕ, false, Option, Some, None, is_some}
 use Rattle.std.specs.Prelude.{◌≢◌, ⊤}
 use Rattle.std.specs.Option.{option_map}
@@ -125,7 +125,7 @@ by_memory : (unit : Option Gear) (bank location : ℕ)
 by_memory None bank location = refl
 by_memory (Some gear) bank location = refl
 
--- where the memory stays, each place does
+-- if the memory stays, each place does
 pub same_byte : (old new : Option Gear) → memory_of new ≡ memory_of old → (bank location : ℕ)
     → byte_in new bank location ≡ byte_in old bank location
 same_byte old new same bank location =
@@ -139,7 +139,7 @@ same_there None (Some new) same = cc
 same_there (Some old) None same = cc
 same_there (Some old) (Some new) same = refl
 
--- What a unit has in its registers
+-- The registers of a unit
 
 abbrev pub dtr0_in : Option Gear → Option ℕ
 dtr0_in None = None

@@ -1,4 +1,4 @@
--- A session gives up only where its last access failed.
+-- A session gives up only if its last access failed.
 use Rattle.std.proofs.Common.{length, ◌≡◌, ◌⊎◌, inl, inr, refl, sym, ap, subst, ◌∙◌, ℕ, zero, suc, min, Bool, true, false, ◌==◌}
 use Rattle.std.specs.Prelude.{⊤}
 use Rattle.std.proofs.Common.{◌&&◌, nat_lt, if◌then◌else◌, List, [], ◌∷◌, ◌++◌, append_assoc, append-nil, Option, Some}
@@ -38,8 +38,8 @@ abbrev WasOne : (Access → Type 0) → Option Access → Type 0
 WasOne P None = ⊥
 WasOne P (Some access) = P access
 
--- the plan ends so only where the access before its end failed and is one of these; the access before the plan failed,
--- if one did
+-- the plan ends so only if the access before its end failed and is one of these; the access before the plan failed, if
+-- one did
 abbrev Late : (Access → Type 0) → Verdict → Option Access → Plan → Type 0
 Late P verdict failed (Finish v) = v ≡ verdict → WasOne P failed
 Late P verdict failed (Make access after) =

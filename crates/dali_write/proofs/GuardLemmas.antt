@@ -46,7 +46,7 @@ read_guarded : (writes : List (ℕ × ℕ)) (unit : ℕ) (block : Block)
 read_guarded writes unit block tried next left try =
     (next_asked (IsCalm unit) (block_requests unit block) tried next left (block_calm unit block) try).1 writes tried
 
--- a try whose last frame writes, where those before it are guarded and make sure of the location
+-- a try whose last frame writes, if those before it are guarded and make sure of the location
 last_guarded : (writes : List (ℕ × ℕ)) (unit location byte : ℕ) (front : List Request) → Has writes location byte
     → AllOf (λ (r : Request). (told : List Exchange) → IsGuarded writes unit told r.frame) front
     → ((tried : List Exchange) → Trying front tried [] → Selects unit location tried)

@@ -1,5 +1,5 @@
--- What a unit keeps along the frames of tries, whatever of them is lost or refused, and what it has where a try came
--- to its end.
+-- The state that a unit keeps along the frames of tries, whatever of them is lost or refused, and its state after a try
+-- that came to its end.
 use Rattle.std.proofs.Common.{◌≡◌, refl, sym, subst, ℕ, zero, suc, ◌+◌, ◌<◌, Bool, true, false, List, []}
 use Rattle.std.proofs.Common.{◌∷◌, ◌++◌, append-nil, length, Option, Some, None, arith}
 use Rattle.std.specs.Prelude.{◌==◌, slice_get, slice_set, if◌then◌else◌, ⊤}
@@ -69,11 +69,11 @@ Keeps keep (ReadFrom block) = ⊤
 Keeps keep (WriteTo location byte) = (bank : BankState) → keep bank → keep (with_byte bank location byte)
 Keeps keep (WriteOn before location byte) = (bank : BankState) → keep bank → keep (with_byte bank location byte)
 
--- the byte stands in bank 1, and the unit is as the write leaves it
+-- the byte is in bank 1, and the unit is as the write leaves it
 abbrev pub HasPut : ℕ → ℕ → UnitState → Type 0
 HasPut location byte unit = (slice_get unit.bank1.bytes location ≡ Some byte) × StandsBehind location unit
 
--- what the unit has after the access: its byte, where it wrote one
+-- the unit after the access: it has the byte, if the access wrote one
 abbrev pub Ends : Access → UnitState → Type 0
 Ends (ReadFrom block) unit = ⊤
 Ends (WriteTo location byte) unit = HasPut location byte unit
@@ -83,7 +83,7 @@ Ends (WriteOn before location byte) unit = HasPut location byte unit
 get_set : (xs : List ℕ) (i x : ℕ) → i < length xs → slice_get (slice_set xs i x) i ≡ Some x
 get_set xs i x below = grind (arith, common_steps, gets)
 
--- a write where the location is selected keeps it
+-- a write when the location is selected keeps it
 keep_write : (keep : BankState → Type 0) (location byte : ℕ) (unit : UnitState) (on done first : Bool)
     → Keeps keep (WriteTo location byte)
     → unit.dtr0 ≡ location → keep unit.bank1
@@ -158,7 +158,7 @@ safe_ask1 keep at location byte stored unit kept false refuses answer back = (
       (told_if (at == unit.address) unit.dtr1 1 (back 1 meets)).1 kept,
 )
 
--- the same where DTR0 isn't set
+-- the same if DTR0 isn't set
 safe_moved : (keep : BankState → Type 0) (at location byte : ℕ) → Keeps keep (WriteTo location byte)
     → (unit : UnitState) → keep unit.bank1
     → Safe keep (HasPut location byte)

@@ -1,4 +1,4 @@
--- What the unit of the small worked world may do.
+-- The unit of the small worked world: what it may do.
 use Rattle.std.proofs.Common.{◌≡◌, ◌≢◌, refl, ℕ, Bool, true, false, inl, inr, Option}
 use Rattle.std.proofs.Common.{Some, None}
 use Rattle.std.proofs.lemmas.Bool.{eqb-true, ne_eqb}

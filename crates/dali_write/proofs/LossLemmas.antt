@@ -54,7 +54,7 @@ pub suits_asking : (at location : ℕ) (unit : UnitState) → unit.address ≡ a
     → Suits (request (AskDtr0 at) (Exactly location) ∷ request (AskDtr1 at) (Exactly 1) ∷ []) unit
 suits_asking at location unit is place bank = rw (eq-eqb at unit.address (sym is), place, bank) (refl, (refl, tt))
 
--- where the first of so many locations is selected
+-- if the first of `count` locations is selected
 suits_reading : (at place count : ℕ) (back : List Request) (unit : UnitState) → unit.address ≡ at → unit.dtr0 ≡ place
     → unit.dtr1 ≡ 1 → HasFrom unit.bank1 place count
     → ((now : UnitState) → now.address ≡ at → now.dtr0 ≡ moved_on place count → now.dtr1 ≡ 1 → Suits back now)
@@ -74,7 +74,7 @@ suits_read : (at : ℕ) (block : Block) (unit : UnitState) → unit.address ≡ 
     → Suits (block_requests at block) unit
 suits_read at block unit is some = grind (arith, eq-eqb, suits_reading, suits_asking)
 
--- where it is enabled and has bank 1 selected
+-- if it is enabled and has bank 1 selected
 suits_enabled : (at : ℕ) (moved : Bool) (location byte : ℕ) (unit : UnitState) → unit.address ≡ at
     → unit.enabled ≡ true → unit.dtr1 ≡ 1 → (moved ≡ true → unit.dtr0 ≡ location)
     → IsTrue (is_writable unit.bank1 location)
@@ -83,7 +83,7 @@ suits_enabled at true location byte unit is on bank place can =
     let here : unit.dtr0 ≡ location = place refl in grind (arith, eq-eqb)
 suits_enabled at false location byte unit is on bank place can = grind (arith, eq-eqb)
 
--- where it is enabled
+-- if it is enabled
 suits_selecting : (at location byte : ℕ) (unit : UnitState) → unit.address ≡ at → unit.enabled ≡ true
     → IsTrue (is_writable unit.bank1 location)
     → Suits (select_requests at location ++ request (Write byte) (Exactly byte) ∷ []) unit
@@ -116,7 +116,7 @@ suits_write at location byte unit is can = (
   ),
 )
 
--- the unit can do a try of the access behind so many misses: behind one, a write enables it
+-- the unit can do a try of the access after this many misses: after one, a write enables it
 abbrev pub CanTry : Access → ℕ → UnitState → Type 0
 CanTry (ReadFrom block) misses unit = HasFrom unit.bank1 block.location block.count
 CanTry (WriteTo location byte) misses unit = IsTrue (is_writable unit.bank1 location)

@@ -23,7 +23,7 @@ use Rattle.dali_write.specs.Misses.{location_after, location_in, wish_of, is_mis
 use Rattle.dali_write.specs.declared.pace.Pace.{Pace}
 use Rattle.dali_write.specs.declared.pace.Pace.TheVariants.{Checked, Short}
 
--- each request wishes what its frame asks for, where DTR0 should stand so before the first one
+-- each request wishes what its frame asks for, if DTR0 should hold this location before the first one
 abbrev pub Apt : ℕ → List Request → Type 0
 Apt location [] = ⊤
 Apt location (next ∷ left) = (next.wish ≡ wish_of next.frame location) × Apt (location_after next.frame location) left
@@ -42,7 +42,7 @@ put_apt : (moved : Bool) (unit at byte location : ℕ) → (moved ≡ true → l
 put_apt true unit at byte location same = (refl, (ap Exactly (sym (same refl)), (refl, tt)))
 put_apt false unit at byte location same = (refl, (refl, (refl, (refl, tt))))
 
--- DTR0 stands where the access takes it to stand
+-- DTR0 holds what the access takes it to hold
 abbrev StandsFor : ℕ → Access → Type 0
 StandsFor location (ReadFrom block) = ⊤
 StandsFor location (WriteTo at byte) = ⊤
@@ -62,7 +62,7 @@ apt_later unit (WriteTo at byte) misses location = (refl, (refl, (refl, (refl, (
 apt_later unit (WriteOn before at byte) misses location =
     (refl, (refl, (refl, (refl, (refl, (refl, (refl, tt)))))))
 
--- behind misses of the access, or behind none
+-- after misses of the access, or after none
 apt_behind : (unit : ℕ) (access : Access) (count : ℕ) (told older : List Exchange)
     → StandsFor (location_in older) access → Misses (access_requests unit access) count told
     → Apt (location_in (told ++ older)) (access_requests unit access count)
@@ -129,7 +129,7 @@ misses unit access (suc count) told older stands are =
       append_assoc are.0 are.1 older,
     )
 
--- the plan goes on by an access that takes DTR0 to stand where it should
+-- the plan goes on by an access for which DTR0 is as it should be
 abbrev pub PlanStands : List Exchange → Plan → Type 0
 PlanStands older (Finish verdict) = ⊤
 PlanStands older (Make access after) = StandsFor (location_in older) access
@@ -151,9 +151,9 @@ access_ends unit (Make access after) outcome told older (inl done) stands =
 access_ends unit (Make access after) outcome told older (inr failed) stands =
     misses unit access most_tries told older stands failed.1
 
--- ---- where DTR0 should stand behind an access
+-- ---- the location that DTR0 should hold after an access
 
--- where it should stand behind these requests
+-- the location that it should hold after these requests
 abbrev stands_after : ℕ → List Request → ℕ
 stands_after location [] = location
 stands_after location (next ∷ left) = stands_after (location_after next.frame location) left
@@ -181,7 +181,7 @@ stands_wrote unit (WriteOn before at byte) zero location to stands is =
 stands_wrote unit (WriteOn before at byte) (suc misses) location to stands is =
     let same : at ≡ to = cc in ap up same
 
--- just behind a write to this location, or behind none
+-- just after a write to this location, or after none
 abbrev pub Behind : Option ℕ → List Exchange → Type 0
 Behind last told = (before : ℕ) → last ≡ Some before → (older : List Exchange) → location_in (told ++ older) ≡ up before
 
@@ -223,7 +223,7 @@ behind_done unit access outcome newer told apt done to is older =
     first none =
         rw (none_missed (access_requests unit access) done.2 done.1 none done.7) (stands_then access told older apt)
 
--- behind an access the plan is in turn again
+-- after an access the plan is in turn again
 pub turn_next : (unit : ℕ) (last : Option ℕ) (access : Access) (after : Option (List ℕ) → Plan)
     (outcome : Option (List ℕ)) (newer told : List Exchange)
     → IsInTurn last (Make access after) → Behind last told → AccessEnds unit (Make access after) outcome newer
@@ -239,7 +239,7 @@ turn_next unit last access after (Some bytes) newer told turn behind (inr failed
 pub behind_none : (told : List Exchange) → Behind None told
 behind_none told before is = cc
 
--- behind whole accesses of a plan
+-- after whole accesses of a plan
 pub turn_after : (unit : ℕ) (plan : Plan) (outcomes : List (Option (List ℕ))) (told : List Exchange)
     → IsInTurn None plan → AccessesEnd unit plan outcomes told
     → (last : Option ℕ) × IsInTurn last (plan_after plan outcomes) × Behind last told

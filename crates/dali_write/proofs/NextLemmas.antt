@@ -50,7 +50,7 @@ first_wanted unit plan = (
   },
 )
 
--- what stands so wants something
+-- a session in this state wants something
 wants_of : (unit : ℕ) (plan : Plan) (outcomes : List (Option (List ℕ))) (told : List Exchange) (now : Plan)
     (misses : ℕ) (left : List Request)
     (bytes : List ℕ)

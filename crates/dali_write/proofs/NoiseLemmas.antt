@@ -1,4 +1,4 @@
--- What stays sure of the unit at hand over a bus that alters answers.
+-- Facts that stay sure of the unit at hand over a bus that alters answers.
 use Rattle.std.proofs.Common.{◌≡◌, ◌⊎◌, refl, sym, ap, subst, ◌∙◌, inl, inr, ℕ, true, false, List, []}
 use Rattle.std.proofs.Common.{Option, Some, None, map, arith}
 use Rattle.std.specs.Prelude.{Bool, ⊤}
@@ -58,7 +58,7 @@ pub bank_drifts : {made : Bool} {loses : ℕ → Type 0} (unit : ℕ) (first las
 bank_drifts unit first last drifts bank =
     drifts_have HasBank off_bank unit first.world last.world (noisy_drifts unit first last drifts) bank
 
--- A frame that sets a register, and the question behind it
+-- A frame that sets a register, and the question after it
 
 heard_bank : (unit : ℕ) (old new : Option Gear) → IfThere (λ before after. Heard unit before (Dtr1 1) after) old new
     → HasBank new
@@ -83,7 +83,7 @@ pub noisy_as : {made : Bool} (unit : ℕ) (old new : Noisy) (x : Exchange) (fram
 noisy_as {made} unit old new x frame is carry =
     subst (λ (f : Frame). NoisyCarry made unit old f x.answer new) is carry
 
--- what the unit answered, where nothing may be altered
+-- the answer that the unit gave, if none may be altered
 truly : {made : Bool} (unit : ℕ) (old new : Noisy) (frame : Frame) (answer : Option ℕ) (byte : ℕ) → old.unset ≡ true
     → answer ≡ Some byte → (c : NoisyCarry made unit old frame answer new) → Carry old.world frame (Some byte) new.world
 truly unit old new frame answer byte unset is c =
@@ -187,7 +187,7 @@ place_stays {made} unit location old new x got c place = by place new.unset refl
     by (inr was) false is = absurd (both_ways old.unset (n.settled is) was)
     by (inr was) true is = inr is
 
--- and behind the question about DTR0 the unit is there
+-- and after the question about DTR0 the unit is there
 told_at : {made : Bool} {loses : ℕ → Type 0} (unit location : ℕ) (old new last : Noisy) (x : Exchange)
     → Got x (AskDtr0 unit) (Exactly location) → NoisyCarry made unit old x.frame x.answer new
     → Drifts (NoisyStep made unit) loses new last → HasBank (old.world unit) → PlaceOrUnset unit location old

@@ -1,4 +1,4 @@
--- What a session that ends as done has stored, over a bus that alters answers, too.
+-- The bytes that a session has stored if it ends as done, over a bus that alters answers, too.
 use Rattle.std.proofs.Common.{◌≡◌, ◌⊎◌, refl, sym, ap, subst, ◌∙◌, inl, inr, ℕ, ◌<◌, ◌≤◌, List, [], ◌∷◌, ◌++◌}
 use Rattle.std.proofs.Common.{Option, Some, None, IsSome, is_some, length, Bool, true, false, ◌==◌, arith}
 use Rattle.std.specs.Prelude.{◌≢◌, ⊤, ◌&&◌, nat_lt, if◌then◌else◌}
@@ -170,7 +170,7 @@ LeavesOpen DoubtOpen = ⊤
 LeavesOpen NotClosed = ⊤
 LeavesOpen other = ⊥
 
--- where the plan ends with another one, a read was answered behind the last write, if none is known to be so far
+-- if the plan ends with another verdict, a read was answered after the last write, unless one is known already
 abbrev Quits : Bool → Plan → Type 0
 Quits known (Finish verdict) = (known ≡ true) ⊎ LeavesOpen verdict
 Quits known (Make (ReadFrom block) after) =
@@ -309,14 +309,14 @@ closing_off loses told first last unit run wants =
     walk_off loses unit false (close Closed NotClosed) walk.0 told Closed first last
     (close_quits false Closed NotClosed tt) (λ is. absurd (both_ways false refl is)) (λ never. never) walk.1 run
 
--- What stands
+-- The bytes in the unit
 
--- the byte stands there, or is that of a lock byte since the unit lost its power
+-- the byte is there, or is that of a lock byte since the unit lost its power
 abbrev Holds : (ℕ → Type 0) → ℕ → Noisy → ℕ → ℕ → Type 0
 Holds loses unit state location byte =
     MayRelock (loses unit) 1 location (Some byte) (byte_at state.world unit 1 location)
 
--- what is written no more stands on
+-- a byte that is written no more stays there
 holds_on : {loses : ℕ → Type 0} (writes : List (ℕ × ℕ)) (unit location byte : ℕ) (first last : Noisy)
     → location ≢ 1 → Holds loses unit first location byte → Touches loses writes unit first.world last.world
     → ((other : ℕ) → Has writes location other → ⊥) → Holds loses unit last location byte
@@ -440,7 +440,7 @@ stands_on loses unit pace updates bound before (update ∷ left) (Some bytes ∷
       lock = all.lock;
     }
 
--- the unit shows what stands there
+-- the unit shows the byte that is there
 there_shows : {loses : ℕ → Type 0} (world : World) (unit location byte : ℕ) (gear : Option Gear) → world unit ≡ gear
     → MayRelock (loses unit) 1 location (Some byte) (byte_in gear 1 location) → IsOff gear
     → Shows loses world unit location byte

@@ -44,7 +44,7 @@ use Rattle.dali_write.proofs.NoisyTryLemmas.{access_ended}
 
 -- Whole accesses
 
--- a write to this location was the last, and the unit stands behind it
+-- a write to this location was the last, and the unit has the one after it selected
 abbrev pub Stood : Option ℕ → Option Gear → Type 0
 Stood None gear = ⊤
 Stood (Some location) gear = IsAt (up location) gear

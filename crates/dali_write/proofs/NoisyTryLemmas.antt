@@ -51,7 +51,7 @@ split_noisy made loses unit (x ∷ newer) older first last run =
     let parts = split_noisy made loses unit newer older first run.0 run.2 in
     (parts.0, parts.1, (run.0, run.1, parts.2, run.3, run.4))
 
--- What one frame does
+-- The effect of one frame
 
 -- a write goes to a location of one of the writes, which the unit has selected if it is enabled
 abbrev Sure : List (ℕ × ℕ) → ℕ → World → Frame → Type 0
@@ -100,7 +100,7 @@ frame_puts writes unit tried before last (Other word) given only guarded sure ca
 
 -- A try
 
--- what a try of an access behind so many that missed takes of the unit
+-- the state of the unit that a try of an access relies on, after this many tries that missed
 abbrev pub Needs : Access → ℕ → Option Gear → Type 0
 Needs (ReadFrom block) misses gear = ⊤
 Needs (WriteTo location byte) misses gear = ⊤
@@ -112,7 +112,7 @@ pub record Begins (access : Access) (misses unit : ℕ) (first : Noisy) : Type 0
   pub only : OnlyEnabled unit first.world
   pub needs : Needs access misses (first.world unit)
 
--- a try whose last frame writes, where those before it make sure of the location
+-- a try whose last frame writes, if those before it make sure of the location
 last_sure : (writes : List (ℕ × ℕ)) (unit location byte : ℕ) (front : List Request) (tried : List Exchange)
     (next : Request) (left : List Request) (before : World)
     → Has writes location byte → AllOf (λ (r : Request). Sure writes unit before r.frame) front
@@ -311,7 +311,7 @@ last_one front last told try =
       all = sent.2;
     }
 
--- a write that succeeded: its byte stands there, unless that is the indicator byte, and the unit has the next location
+-- a write that succeeded: its byte is there, unless that is the indicator byte, and the unit has the next location
 -- selected if it is enabled
 pub record HasWritten (loses : ℕ → Type 0) (location byte unit : ℕ) (last : Noisy) : Type 0 where
   pub at : IsAt (up location) (last.world unit)

@@ -1,4 +1,4 @@
--- What a frame that is meant for one unit does on the simulated bus.
+-- The effect of a frame that is meant for one unit on the simulated bus.
 use Rattle.std.proofs.Common.{◌≡◌, ◌≢◌, inl, inr, refl, sym, ap, subst, ◌∙◌, ℕ, Bool, true, false, ◌&&◌, ◌||◌, List, []}
 use Rattle.std.proofs.Common.{◌∷◌, map, Option, Some, None}
 use Rattle.std.specs.Prelude.{◌==◌, if◌then◌else◌, ⊤}
@@ -125,7 +125,7 @@ address_of at unit [] alone = absurd alone
 address_of at unit (first ∷ units) (inl here) = here.1
 address_of at unit (first ∷ units) (inr further) = address_of at unit units further.1
 
--- where it answers, it is found to answer
+-- if it answers, it is found to answer
 found_answering : (fate : Fate) (at : ℕ) (unit : UnitState) (units : List UnitState) (frame : Frame) (byte : ℕ)
     → IsAlone at unit units
     → unit_answer fate frame unit ≡ Some byte → answers_at at fate frame units ≡ true
@@ -135,7 +135,7 @@ found_answering fate at unit (first ∷ units) frame byte (inl here) answers =
 found_answering fate at unit (first ∷ units) frame byte (inr further) answers =
     rw (ne_eqb first.address at further.0.0) (found_answering fate at unit units frame byte further.1 answers)
 
--- the unit has heard the frame, and where it answers, that comes back
+-- the unit has heard the frame, and if it answers, that comes back
 pub record HeardWhole (at : ℕ) (unit : UnitState) (frame : Frame) (answer : Option ℕ) (new : SimState) : Type 0 where
   pub alone : IsAlone at (after_frame false unit frame) new.units
   pub answered : (byte : ℕ) → answer_to false unit frame ≡ Some byte → answer ≡ Some byte
@@ -195,7 +195,7 @@ own_answer at old unit frame answer new access is alone byte back =
         let P : List ℕ → Type 0 = λ l. only_answer l ≡ Some byte in let none : None ≡ Some byte = subst P are e in cc
     by false (Some b) are e = let P : List ℕ → Type 0 = λ l. only_answer l ≡ Some byte in subst P are e
 
--- the unit after the frame stays alone, whatever the fate
+-- the unit after the frame is still alone at its address, whatever the fate
 pub alone_then : (at : ℕ) (old : SimState) (unit : UnitState) (frame : Frame) (answer : Option ℕ) (new : SimState)
     → SimCarry old frame answer new
     → IsFor at frame → IsAlone at unit old.units → IsAlone at (unit_after (next_fate old.fates) frame unit) new.units

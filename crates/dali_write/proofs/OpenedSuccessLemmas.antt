@@ -41,7 +41,7 @@ takes_of bank [] location byte takes has = absurd has
 takes_of bank (update ∷ updates) location byte takes (inl here) = subst (MayStoreAt bank) here.0 takes.0
 takes_of bank (update ∷ updates) location byte takes (inr later) = takes_of bank updates location byte takes.1 later
 
--- the unit is unlocked, and it has each of the updates, but for those that are left
+-- the unit is unlocked, and it has each of the updates, except for those that are left
 record Going (updates left : List (ℕ × ℕ)) (bank : BankState) : Type 0 where
   lock : slice_get bank.bytes 2 ≡ Some 0x55
   long : 2 < length bank.bytes
@@ -131,7 +131,7 @@ read_back_goes (row ∷ rows) bank last holds =
     rw ((bytes_eq-Decides read row.1).1 (row_held bank row.0 row.1 read holds.0 has.0 has.1))
     (read_back_goes rows bank None holds.1))
 
--- a write where it may store, just behind another one
+-- a write where it may store, just after another one
 write_goes : (pace : Pace) (before location byte : ℕ) (after : Plan) (bank : BankState)
     → is_writable bank location ≡ true
     → ((new : BankState) → OnlyDiffers bank location new → slice_get new.bytes location ≡ Some byte

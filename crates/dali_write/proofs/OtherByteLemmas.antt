@@ -1,4 +1,4 @@
--- A read behind which a session gives up has told another byte than has to be there, since the updates rise: each
+-- A read after which a session gives up has told another byte than has to be there, since the updates rise: each
 -- location has one byte.
 use Rattle.std.proofs.Common.{◌≡◌, ◌≢◌, ◌∙◌, ◌≤◌, inl, inr, refl, ap, subst, ℕ, zero, suc, Bool, true, false, ◌==◌}
 use Rattle.std.proofs.Common.{nat_lt, if◌then◌else◌, List, [], ◌∷◌, length, Option, Some, None, arith}
@@ -48,9 +48,9 @@ wanted_is bound (update ∷ wanted) location own byte rises (inr later) =
       wanted_is update.0 wanted location own byte rises.1 later,
     )
 
--- ---- the byte that is told
+-- ---- the byte that is reported
 
--- the first other byte that was read, as it is told
+-- the first other byte that was read, as it is reported
 abbrev Tells : List (ℕ × ℕ) → Block → List ℕ → Type 0
 Tells wanted block read =
     (location : ℕ) × (byte : ℕ) × (another wanted block.location read ≡ Another location byte)
@@ -68,7 +68,7 @@ first_here wanted location count own byte behind has other = record {
   other = (own, has, other);
 }
 
--- it is behind one that has to be there
+-- it comes after one that has to be there
 first_later : (wanted : List (ℕ × ℕ)) (at count fewer own : ℕ) (read : List ℕ) (location byte : ℕ) → Has wanted at own
     → IsFirstOther wanted (block (up at) fewer) read location byte
     → IsFirstOther wanted (block at count) (own ∷ read) location byte
@@ -119,7 +119,7 @@ tells_other bound wanted at count (own ∷ next ∷ row) (byte ∷ more ∷ read
 
 -- ---- plans
 
--- it holds of each read behind which a plan goes on by a write
+-- it holds of each read after which a plan goes on by a write
 abbrev BeforeWrite : (Block → List ℕ → Type 0) → Access → (Option (List ℕ) → Plan) → Option (List ℕ) → Type 0
 BeforeWrite P (ReadFrom block) after (Some bytes) = is_write (after (Some bytes)) ≡ true → P block bytes
 BeforeWrite P access after outcome = ⊤
@@ -129,7 +129,7 @@ EachBeforeWrite P (Finish verdict) = ⊤
 EachBeforeWrite P (Make access after) =
     (outcome : Option (List ℕ)) → BeforeWrite P access after outcome × EachBeforeWrite P (after outcome)
 
--- what is told behind such a read
+-- the byte that is reported after such a read
 abbrev pub TellsOther : List (ℕ × ℕ) → Block → List ℕ → Type 0
 TellsOther updates block bytes =
     (block.count ≤ most_once) × (length bytes ≡ block.count → Tells (read_backs updates) block bytes)
@@ -145,7 +145,7 @@ after_each P plan [] each = each
 after_each P plan (outcome ∷ outcomes) each =
     next_each P (plan_after plan outcomes) outcome (after_each P plan outcomes each)
 
--- a read of one location behind which no write comes
+-- a read of one location, with no write after it
 read_each : (P : Block → List ℕ → Type 0) (location : ℕ) (count : ℕ) (failed : Plan) (found : List ℕ → Plan)
     → EachBeforeWrite P failed → ((bytes : List ℕ) → (is_write (found bytes) ≡ false) × EachBeforeWrite P (found bytes))
     → EachBeforeWrite P (Make (ReadFrom (block location count)) (either_way failed found))

@@ -41,7 +41,7 @@ any_other (update ∷ wanted) location own byte (inr later) other =
     by true rest = refl
     by false rest = rest
 
--- so many reads move DTR0 on by as many
+-- each read moves DTR0 on by one
 reads_move : (unit location : ℕ) (each older : List Exchange) → AllReads unit each → location_in older ≡ location
     → location_in (each ++ older) ≡ moved_on location (length each)
 reads_move unit location [] older all at = at
@@ -63,7 +63,7 @@ counted wanted (x ∷ each) base none =
     counted_on (is_read_again wanted (x ∷ (each ++ base))) (is_read_again wanted (each ++ base)) (others_in wanted base)
     (others_in wanted (each ++ base)) (counted wanted each base none)
 
--- so many reads behind another frame
+-- reads after another frame
 reads_many : (unit : ℕ) (each base : List Exchange) → AllReads unit each → newest_reads base ≡ 0
     → newest_reads (each ++ base) ≡ length each
 reads_many unit [] base all none = none
@@ -95,7 +95,7 @@ found_other wanted unit location (x ∷ each) base index byte own all at is has 
           refl
     ]
 
--- so many reads that told another byte at one of their places
+-- reads of which one told another byte than its place has
 reads_other : (wanted : List (ℕ × ℕ)) (unit location : ℕ) (each older : List Exchange) (index byte own : ℕ)
     → AllReads unit each → most_once < length each → newest_reads older ≡ 0
     → location_in older ≡ location → slice_get (bytes_of each) index ≡ Some byte

@@ -1,4 +1,4 @@
--- Where DTR0 stands behind the reads of a block.
+-- The location that DTR0 holds after the reads of a block.
 use Rattle.std.proofs.Common.{◌≡◌, refl, ap, ◌∙◌, ℕ, zero, suc, ◌+◌, ◌≤◌, min}
 use Rattle.std.proofs.Common.{List, [], ◌∷◌, ◌++◌, slice_get, Some, None, arith}
 use Rattle.std.proofs.lemmas.Bool.{eqb-true, eqb-false}
@@ -14,11 +14,11 @@ pub place_behind : (location count : ℕ) → location ≤ 255 → moved_on loca
 place_behind location zero within = omega arith
 place_behind location (suc count) within = grind (arith, place_behind location count within, up_is)
 
--- below FFh that is so many further
+-- below FFh that is `count` further
 pub moved_is : (location count : ℕ) → location + count ≤ 0xFF → moved_on location count ≡ location + count
 moved_is location count within = place_behind location count (omega arith) ∙ omega arith
 
--- the requests behind the reads
+-- the requests after the reads
 pub behind_first : (unit count : ℕ) (a b : Request) → slice_get (reads unit count ++ a ∷ b ∷ []) count ≡ Some a
 behind_first unit zero a b = refl
 behind_first unit (suc count) a b = behind_first unit count a b

@@ -1,4 +1,4 @@
--- What holds of a plan whichever way it goes on.
+-- Properties of a plan whichever way it goes on.
 use Rattle.std.proofs.Common.{ℕ, List, Bool, true, false, if◌then◌else◌, Option, Some, None}
 use Rattle.dali_write.specs.Plans.{Plan, either_way}
 

@@ -1,4 +1,4 @@
--- What losses of power keep.
+-- Losses of power: what they keep.
 use Rattle.std.proofs.Common.{◌≡◌, ◌⊎◌, inl, inr, refl, sym, ap, subst, ◌∙◌, ℕ, Bool, true, false, ◌==◌, Option}
 use Rattle.std.proofs.Common.{Some}
 use Rattle.std.proofs.Common.{None, is_some}

@@ -1,4 +1,4 @@
--- What one frame may change, and which frames of a session may be sent.
+-- The changes that one frame may make, and the frames of a session that may be sent.
 use Rattle.std.proofs.Common.{◌≡◌, ◌⊎◌, refl, sym, ap, subst, ◌∙◌, inl, inr, ℕ, false}
 use Rattle.std.proofs.Common.{List, Option, Some, None, IsSome, is_some, Bool, true, arith}
 use Rattle.std.specs.Prelude.{◌≢◌}
@@ -18,8 +18,8 @@ use Rattle.dali_write.proofs.TruthLemmas.{write_safe}
 use Rattle.dali_write.proofs.RunLemmas.{Leads}
 use Rattle.dali_bus.specs.Carry.{WorldStep}
 
--- What one frame does: every other unit keeps its memory and isn't newly enabled, and in this one each place is old, or
--- new by one of the writes, or the indicator byte
+-- The effect of one frame: every other unit keeps its memory and isn't newly enabled, and in this one each place is
+-- old, or new by one of the writes, or the indicator byte
 abbrev pub NowOldOrNew : List (ℕ × ℕ) → Option Gear → Option Gear → Type 0
 NowOldOrNew writes first last =
     (bank location : ℕ) → (byte_in last bank location ≡ byte_in first bank location)
@@ -42,12 +42,12 @@ stored_byte : (memory : Memory) (location byte bank place : ℕ)
     ⊎ ((bank ≡ 1) × (place ≡ location) × (stored memory 1 location byte bank place ≡ Some byte))
 stored_byte memory location byte bank place = grind (arith, eqb-true)
 
--- and no place comes or goes by it, where it was there
+-- and no place appears or goes away by it, if it was there
 stored_some : (memory : Memory) (location byte bank place : ℕ) → IsSome (memory 1 location)
     → is_some (stored memory 1 location byte bank place) ≡ is_some (memory bank place)
 stored_some memory location byte bank place there = grind (arith, eqb-true)
 
--- where one of the writes was stored, each place is old or new
+-- if one of the writes was stored, each place is old or new
 pub written_new : (writes : List (ℕ × ℕ)) (old new : Option Gear) (location byte : ℕ) → Has writes location byte
     → Written location byte (memory_of old) (memory_of new) → NowOldOrNew writes old new
 written_new writes None new location byte has is = absurd is
@@ -70,7 +70,7 @@ relocked_all None byte some there = cc
 relocked_all (Some old) None some there = cc
 relocked_all (Some old) (Some byte) some there = refl
 
--- a place is there after a loss of power where it was before
+-- a place is there after a loss of power if it was before
 relock_there : {lost : Type 0} {bank location : ℕ} (first mid : Option ℕ) → MayRelock lost bank location first mid
     → is_some mid ≡ is_some first
 relock_there first mid (inl same) = ap is_some same
@@ -127,7 +127,7 @@ pub touches_then : {loses : ℕ → Type 0} (writes : List (ℕ × ℕ)) (unit :
     → Touches loses writes unit first mid → Touches loses writes unit mid last → Touches loses writes unit first last
 touches_then writes unit first mid last one two = grind (arith, keeps_then, old_or_new_then)
 
--- where every unit keeps its memory, nothing is touched
+-- if every unit keeps its memory, nothing is touched
 pub keeps_touches : {loses : ℕ → Type 0} (writes : List (ℕ × ℕ)) (unit : ℕ) (first last : World)
     → ((address : ℕ) → KeepsAt loses first last address) → Touches loses writes unit first last
 keeps_touches writes unit first last keeps = grind arith
@@ -185,8 +185,7 @@ pub enable_puts : (writes : List (ℕ × ℕ)) (unit : ℕ) (before : World) (gi
     → Carry before (Enable unit) given last → Puts writes unit before last
 enable_puts writes unit before given last carry = grind (arith, carry_stays, kept_old, enable_here)
 
--- After these exchanges the frame may be sent: where no other unit is enabled, it touches only the places of the
--- writes.
+-- After these exchanges the frame may be sent: if no other unit is enabled, it touches only the places of the writes.
 abbrev pub SafeNext : (ℕ → Type 0) → List (ℕ × ℕ) → ℕ → List Exchange → Frame → Type 0
 SafeNext loses writes unit tried frame =
     (first before last : World) (answer : Option ℕ) → OnlyEnabled unit before

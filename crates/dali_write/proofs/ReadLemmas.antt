@@ -1,4 +1,4 @@
--- What a reading session has read is what bank 1 of its unit holds.
+-- The bytes that a reading session has read are those that bank 1 of its unit holds.
 use Rattle.std.proofs.Common.{◌≡◌, ◌⊎◌, inl, inr, refl, sym, ap, subst, ◌∙◌, ℕ, zero, suc, ◌+◌, ◌<◌, ◌≤◌, min, List, []}
 use Rattle.std.proofs.Common.{◌∷◌, ◌++◌, length, length-append, append-nil, get_or, drop, Option, Some, None, arith}
 use Rattle.std.proofs.lemmas.Option.{slice_get-get_or}
@@ -32,7 +32,7 @@ use Rattle.dali_write.proofs.WalkLemmas.{ended_told}
 use Rattle.dali_write.proofs.RunLemmas.{Leads}
 use Rattle.dali_bus.specs.Carry.{WorldStep}
 
--- each of the bytes was told at its location, and is still read
+-- each of the bytes came back at its location, and is still read
 abbrev pub ReadsEach : List Exchange → ℕ → List ℕ → Type 0
 ReadsEach told unit bytes =
     (location : ℕ) → location < length bytes → StillRead told unit location (get_or bytes location 0)
@@ -100,7 +100,7 @@ next_read unit (suc left) (Some new) bytes newer mid last some count each ends r
           (read_access_shows unit (length bytes) new newer mid last ends run);
     })))
 
--- one more access, whatever stood before it
+-- one more access, whatever came before it
 access_reaches : (unit : ℕ) (plan : Plan) (outcomes : List (Option (List ℕ))) (outcome : Option (List ℕ))
     (newer mid last : List Exchange)
     → Reached plan (found outcomes) unit mid → AccessEnds unit plan outcome newer → After newer mid last
@@ -119,7 +119,7 @@ accesses_reach unit (outcome ∷ outcomes) told first last ends run =
     access_reaches unit (plan_after read_all outcomes) outcomes outcome ends.0 parts.0 last
     (accesses_reach unit outcomes ends.1 first parts.0 ends.4 parts.1) ends.3 parts.2
 
--- where the plan has ended well, the bytes are all that were to be read
+-- if the plan has ended well, the bytes are all that were to be read
 bank_read : (unit : ℕ) (bytes : List ℕ) (plan : Plan) (told : List Exchange) → Reached plan bytes unit told
     → plan ≡ Finish Read → ReadsBank told unit bytes
 bank_read unit bytes plan told (inl (is, none)) ended = let never : read_all ≡ Finish Read = sym is ∙ ended in cc
@@ -166,7 +166,7 @@ bytes_are_read told s was reading ended =
     reading was)
     (ask_shown now left s.going ∙ ended)
 
--- the byte that a unit shows stands at its place, or it is the lock byte
+-- the byte that a unit shows is at its place, or it is the lock byte
 byte_shown : {loses : ℕ → Type 0} (world : World) (unit location byte : ℕ) → Shows loses world unit location byte
     → MayRelock (loses unit) 1 location (Some byte) (byte_at world unit 1 location)
 byte_shown {loses} world unit location byte shows =

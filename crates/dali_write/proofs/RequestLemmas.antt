@@ -63,7 +63,7 @@ pub next_there : (unit : ℕ) (plan : Plan) (misses number : ℕ) (access : Acce
 next_there unit (Finish verdict) misses number access is none going = cc
 next_there unit (Make s after) misses number access is none going = grind (arith, drop_end)
 
--- where no frame is at hand, none is sent
+-- if no frame is at hand, none is sent
 pub none_sent : (unit : ℕ) (plan : Plan) (misses number : ℕ) (frame : Frame)
     → slice_get (plan_requests unit plan misses) number ≡ None
     → (going : IsGoing plan (drop number (plan_requests unit plan misses)))
@@ -113,7 +113,7 @@ pub read_back_over : (most : ℕ) (updates : List (ℕ × ℕ)) (index : ℕ) (o
     ≡ next_plan (read_back (rows_of most (drop index (read_backs updates)))) outcome
 read_back_over most updates index outcome over = rw (drop_all index (read_backs updates) over) refl
 
--- where none is left of a row that is read again
+-- if none is left of a row that is read again
 pub piece_over : (updates : List (ℕ × ℕ)) (index left : ℕ) (after : Plan) (outcome : Option (List ℕ))
     → take left (drop index (read_backs updates)) ≡ []
     → go_again (rows_of most_again (take left (drop index (read_backs updates)))) after
@@ -145,7 +145,7 @@ pub piece_failed : (most : ℕ) (own : ℕ × ℕ) (behind some : List (ℕ × �
 piece_failed most own behind some after is =
     let row = row_is most own behind in rw (is, row.2) refl
 
--- the updates behind one
+-- the updates after one
 pub behind_others : (updates behind : List (ℕ × ℕ)) (own : ℕ × ℕ) (index others : ℕ) → drop index updates ≡ own ∷ behind
     → drop (index + 1 + others) updates ≡ drop others behind
 behind_others updates behind own index others is =

@@ -1,4 +1,4 @@
--- What the verdict of a session rests on: checked reads that stand among what it was told.
+-- The verdict of a session rests on checked reads among its exchanges that still hold.
 use Rattle.std.proofs.Common.{ap, ◌≡◌, ◌⊎◌, inl, inr, refl, sym, subst, ◌∙◌, ℕ, Bool, true, false, if◌then◌else◌}
 use Rattle.std.proofs.Common.{List, [], ◌∷◌, ◌++◌, get_or, Option, Some, None}
 use Rattle.std.proofs.lemmas.List.{append_assoc, append-nil}
@@ -43,7 +43,7 @@ pub split : (newer older first last : List Exchange) → After (newer ++ older) 
     → (mid : List Exchange) × After older first mid × After newer mid last
 split newer older first last after = (older ++ first, refl, after ∙ append_assoc newer older first)
 
--- what stood goes on to stand
+-- each read that held still holds
 abbrev pub KeepsReads : List Exchange → List Exchange → Type 0
 KeepsReads first last =
     (unit location byte : ℕ) → StillRead first unit location byte → StillRead last unit location byte
@@ -64,7 +64,7 @@ passive_keeps [] first sent = λ unit location byte stands. stands
 passive_keeps (x ∷ told) first sent =
     λ unit location byte stands. inr (sent.0, passive_keeps told first sent.1 unit location byte stands)
 
--- a read access keeps what stood
+-- a read access keeps the reads that held
 pub read_access_keeps : (unit : ℕ) (block : Block) (outcome : Option (List ℕ)) (told first last : List Exchange)
     → Succeeds (each_try (block_requests unit block)) outcome told
     ⊎ Fails (each_try (block_requests unit block)) outcome told
@@ -76,7 +76,7 @@ read_access_keeps unit block outcome told first last ends is = λ u l b stands.
     subst (λ (t : List Exchange). StillRead t u l b) (sym is)
     (passive_keeps told first (calm_passive unit told calm) u l b stands)
 
--- a checked read that was just made stands
+-- a checked read that was just made holds
 stands_now : (unit location byte : ℕ) (told : List Exchange) → EndsInRead unit location byte told
     → StillRead told unit location byte
 stands_now unit location byte told ends =
@@ -84,7 +84,7 @@ stands_now unit location byte told ends =
     subst (λ (t : List Exchange). StillRead t unit location byte) (sym is)
     (inl (subst (λ (t : List Exchange). EndsInRead unit location byte t) is ends))
 
--- it stands whatever came before
+-- it holds whatever came before
 pub older_reads : (told older : List Exchange) (unit location byte : ℕ) → StillRead told unit location byte
     → StillRead (told ++ older) unit location byte
 older_reads [] older unit location byte stands = absurd stands
@@ -167,7 +167,7 @@ gave_up unit updates verdict last (inl is) = subst (λ (v : Verdict). Rests (Sti
 gave_up unit updates verdict last (inr gave) =
     subst (λ (v : Verdict). Rests (StillRead last unit) updates v) (sym gave.0) gave.1
 
--- what the rows show goes on to stand
+-- the bytes that the rows show are still read
 row_kept : (first last : List Exchange) (unit location : ℕ) (bytes : List ℕ)
     → AllInRow (StillRead first unit) location bytes → KeepsReads first last
     → AllInRow (StillRead last unit) location bytes

@@ -24,7 +24,7 @@ few_in zero updates = omega arith
 few_in (suc others) [] = omega arith
 few_in (suc others) (update ∷ updates) = omega (arith, few_in others updates)
 
--- the first row is an update and so many of those behind it, and the further ones are the rows of the rest
+-- the first row is an update and `others` of those after it, and the further ones are the rows of the rest
 pub record Split (most : ℕ) (update : ℕ × ℕ) (updates : List (ℕ × ℕ)) : Type 0 where
   pub others : ℕ
   pub within : others ≤ length updates
@@ -128,7 +128,7 @@ by_index P location (byte ∷ bytes) each = (
       (λ index later is. subst (λ (at : ℕ). P at later) (sym (moved_next location index)) (each (suc index) later is)),
 )
 
--- no row has more than so many bytes
+-- no row has more bytes than the most allowed
 abbrev pub Small : ℕ → List (ℕ × List ℕ) → Type 0
 Small most rows = AllByRecursion (λ row. length row.1 ≤ most) rows
 
@@ -201,7 +201,7 @@ pub rows_some : (most : ℕ) (updates : List (ℕ × ℕ)) (row : ℕ × List �
     → 1 ≤ length row.1
 rows_some most updates row is = full_at (rows_of most updates) row (rows_full most updates) is
 
--- so where none has more than one, there are as many rows as bytes
+-- so if none has more than one, there are as many rows as bytes
 as_many_rows : (some : List (ℕ × List ℕ)) → Full some → Small 1 some → length some ≡ bytes_count some
 as_many_rows [] full small = refl
 as_many_rows (row ∷ rows) full small = omega (arith, as_many_rows rows full.1 small.1, full.0, small.0)

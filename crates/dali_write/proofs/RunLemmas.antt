@@ -145,7 +145,7 @@ shown_run loses told first last run =
       };
     }
 
--- so many of the exchanges are losses to the unit
+-- the count of exchanges that are losses to the unit
 abbrev pub losses_along : ℕ → (loses : ℕ → Type 0) (told : List Exchange) (first last : SimState)
     → Leads SimStep loses told first last → ℕ
 losses_along address loses [] first last run = 0
@@ -159,7 +159,7 @@ UnrefusedAlong loses [] first last run = ⊤
 UnrefusedAlong loses (x ∷ told) first last run =
     ((next_fate run.0.fates).refuse ≡ false) × UnrefusedAlong loses told first run.0 run.2
 
--- a run of so many losses, one exchange after another
+-- a run with this many losses, one exchange after another
 pub record Led (loses : ℕ → Type 0) (told : List Exchange) (first last : SimState) (past : List BusEvent)
     (states : List SimState) : Type 0 where
   pub run : Leads SimStep loses told first last

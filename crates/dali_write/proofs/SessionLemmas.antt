@@ -1,4 +1,4 @@
--- What a session of each kind wants, and how it ends.
+-- The frames that a session of each kind wants, and how it ends.
 use Rattle.std.proofs.Common.{◌≡◌, subst, ℕ, List, [], ◌∷◌}
 use Rattle.dali_frame.specs.declared.forward.Frame.{Frame}
 use Rattle.dali_bank.specs.Order.{Contents}

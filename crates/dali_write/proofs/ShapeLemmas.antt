@@ -71,7 +71,7 @@ front_dropped P (first ∷ front) last zero next left all is =
 front_dropped P (first ∷ front) last (suc number) next left all is =
     front_dropped P front last number next left all.1 is
 
--- the next request is one of the first ones, or it is the last one, behind a whole try of those
+-- the next request is one of the first ones, or it is the last one, after a whole try of those
 pub front_or_last : (P : Request → Type 0) (front : List Request) (last : Request) (tried : List Exchange)
     (next : Request) (left : List Request)
     → AllOf P front → Trying (front ++ last ∷ []) tried (next ∷ left)
@@ -133,8 +133,8 @@ questioned unit location (x1 ∷ []) try = let same = try.2 in cc
 questioned unit location (x2 ∷ x1 ∷ []) try = grind (arith, tail_is, got, head_is)
 questioned unit location (x3 ∷ x2 ∷ x1 ∷ rest) try = grind (arith, trying_length)
 
--- The frames before a write at a unit that is enabled: they ask both, behind one that sets DTR0 unless that has moved
--- on by itself.
+-- The frames before a write at a unit that is enabled: they ask both registers, after one that sets DTR0 unless that
+-- has moved on by itself.
 abbrev pub asked_requests : Bool → ℕ → ℕ → List Request
 asked_requests true unit location = questions unit location
 asked_requests false unit location = request (Dtr0 location) Nothing ∷ questions unit location

@@ -1,4 +1,4 @@
--- How a session's standing goes on.
+-- How the state of a session goes on.
 use Rattle.std.proofs.Common.{◌≡◌, refl, sym, ap, subst, ◌∙◌, inl, inr, ℕ, zero, suc, ◌<◌, ◌≤◌, List, [], ◌∷◌, ◌++◌}
 use Rattle.std.proofs.Common.{append_assoc, Option, Some, None, Bool, true, false, ◌==◌, arith}
 use Rattle.dali_frame.specs.declared.forward.Frame.{Frame}

@@ -1,4 +1,4 @@
--- What an access keeps of bank 1: a write that succeeded has stored its byte, and nothing else.
+-- The effect of an access on bank 1: a write that succeeded has stored its byte, and nothing else has changed.
 use Rattle.std.proofs.Common.{◌≡◌, ◌≢◌, ◌⊎◌, refl, inl, inr, ℕ, List, Option, Some, arith}
 use Rattle.std.specs.Prelude.{slice_get, slice_set}
 use Rattle.std.proofs.lemmas.Grind.{common_steps}

@@ -60,7 +60,7 @@ MayDo (ReadFrom block) bank last = HasFrom bank block.location block.count
 MayDo (WriteTo location byte) bank last = IsTrue (is_writable bank location)
 MayDo (WriteOn before location byte) bank last = IsTrue (is_writable bank location) × (last ≡ Some before)
 
--- what the access told of the bank, and the bank behind it
+-- the bytes of the bank that the access told, and the bank after it
 abbrev pub Did : Access → BankState → List ℕ → BankState → Type 0
 Did (ReadFrom block) bank bytes new = (new ≡ bank) × HasBytes bank block bytes
 Did (WriteTo location byte) bank bytes new =
@@ -68,8 +68,8 @@ Did (WriteTo location byte) bank bytes new =
 Did (WriteOn before location byte) bank bytes new =
     OnlyDiffers bank location new × (slice_get new.bytes location ≡ Some byte)
 
--- From this bank the plan reads what is there and writes where it may, and where no access of it fails it ends so, with
--- a bank that is so.
+-- From this bank the plan reads what is there and writes where it may, and if no access of it fails it ends so, with a
+-- bank that is so.
 abbrev pub Goes : (BankState → Type 0) → Verdict → Plan → BankState → Option ℕ → Type 0
 Goes P verdict (Finish v) bank last = (v ≡ verdict) × P bank
 Goes P verdict (Make access after) bank last =
@@ -157,7 +157,7 @@ pub record Gone (P : BankState → Type 0) (verdict end : Verdict) (at : ℕ) (m
   pub alone : IsAlone at now last.units
   pub bank : P now.bank1
 
--- where the last access wrote this location, the unit is as that left it
+-- if the last access wrote this location, the unit is as that left it
 abbrev StandsSo : Option ℕ → UnitState → Type 0
 StandsSo last unit = (before : ℕ) → last ≡ Some before → StandsBehind before unit
 
@@ -167,7 +167,7 @@ can_do (ReadFrom block) unit last may stands = may
 can_do (WriteTo location byte) unit last may stands = may
 can_do (WriteOn before location byte) unit last may stands = (may.0, stands before may.1)
 
--- behind a write to a location
+-- after a write to a location
 stands_so : (location : ℕ) (unit : UnitState) → StandsBehind location unit → StandsSo (Some location) unit
 stands_so location unit stands before is =
     let same : location ≡ before = cc in subst (λ (l : ℕ). StandsBehind l unit) same stands
@@ -282,7 +282,7 @@ alone_bank at unit [] alone are = absurd alone
 alone_bank at unit (first ∷ units) (inl here) are = subst (λ (u : UnitState). IsBank u.bank1.bytes) here.0 are.0
 alone_bank at unit (first ∷ units) (inr further) are = alone_bank at unit units further.1 are.1
 
--- where a frame was sent the units were apart, each with a bank
+-- if a frame was sent the units were apart, each with a bank
 pub starts_whole : (loses : ℕ → Type 0) (sent : List Exchange) (first last : SimState)
     → Leads SimStep loses sent first last
     → sent ≢ [] → AreApart first.units × AreBanks first.units

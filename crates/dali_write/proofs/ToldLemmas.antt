@@ -1,4 +1,4 @@
--- What sessions were told.
+-- The exchanges that sessions were given.
 use Rattle.std.proofs.Common.{◌≡◌, refl, subst, ◌∙◌, ℕ, suc, ◌+◌, ◌≤◌, ◌<◌, true, false, List, [], ◌∷◌}
 use Rattle.std.proofs.Common.{◌++◌, append-nil, drop, Option, Some, None, is_some, slice_get, length, arith}
 use Rattle.dali_frame.specs.declared.forward.Frame.{Frame}
@@ -41,7 +41,7 @@ caused : (task : Task) (outcomes : List (Option (List ℕ))) (now : Plan) (cause
     ≡ cause_after (updates_for task) (plan_of task) (outcome ∷ outcomes)
 caused task outcomes now cause outcome is was = rw (← is, was) refl
 
--- a session stands so
+-- the session is in this state
 told_as : (told : List Exchange) (s : Session) (unit : ℕ) (task : Task) (now : Plan) (misses number : ℕ)
     (tried bytes : List ℕ) (cause : Option Cause)
     → plan_at s.task s.stage ≡ now → s.unit ≡ unit → s.task ≡ task → s.misses ≡ misses → s.number ≡ number

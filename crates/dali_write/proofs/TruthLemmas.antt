@@ -40,7 +40,7 @@ carried_any : (old new : World) (x : Exchange) (frame : Frame) → x.frame ≡ f
     → Carry old frame x.answer new
 carried_any old new x frame f carry = subst (λ (g : Frame). Carry old g x.answer new) f carry
 
--- What a unit still has after some of the frames, as long as it keeps its power
+-- The state that a unit still has after some of the frames, as long as it keeps its power
 
 -- one that is enabled has the bank
 abbrev pub HasBank : Option Gear → Type 0
@@ -100,7 +100,7 @@ selects_run loses unit location tried first last run try =
     asked_last loses unit location r4.0 r4.1 last s.x4 (drifts_have HasBank off_bank unit r3.1 r4.0 r3.4 bank3) s.got4
     r4.3 r4.4
 
--- where both registers were asked back, the unit has selected the location if it is enabled
+-- if both registers were asked back, the unit has selected the location if it is enabled
 pub asked_run : (loses : ℕ → Type 0) (unit location : ℕ) (tried : List Exchange) (first last : World)
     → Leads WorldStep loses tried first last → Asked unit location tried
     → HasBank (last unit) × HasPlace location (last unit)

@@ -1,4 +1,4 @@
--- Each write of a session that takes the unit as another one left it comes just behind that one.
+-- Each write of a session that takes the unit as another one left it comes just after that one.
 use Rattle.std.proofs.Common.{refl, ℕ, zero, suc, List, []}
 use Rattle.std.proofs.Common.{◌∷◌, get_or, Option, Some, None}
 use Rattle.std.specs.Prelude.{min, nat_lt}

@@ -1,4 +1,4 @@
--- A closing session that ends as NotClosed was told of no checked read that came to its end.
+-- A closing session that ends as NotClosed has seen no checked read that came to its end.
 use Rattle.std.proofs.Common.{◌≡◌, ◌⊎◌, inl, inr, refl, sym, subst, ℕ, zero, suc, ◌≤◌, ◌<◌, List, [], ◌∷◌}
 use Rattle.std.specs.Prelude.{⊤}
 use Rattle.std.proofs.Common.{◌++◌, append_assoc, append-nil, length, Bool, true, false, Option, Some, None, arith}
@@ -30,7 +30,7 @@ abbrev asked_in : List Exchange → Bool
 asked_in [] = false
 asked_in (x ∷ told) = is_ask x.frame
 
--- The frame doesn't end a checked read: where it asks for DTR1 straight after DTR0, it isn't told 01h.
+-- The frame doesn't end a checked read: if it asks for DTR1 directly after DTR0, the answer isn't 01h.
 abbrev IsUnread : Frame → Option ℕ → Bool → Type 0
 IsUnread (AskDtr1 to) answer true = answer ≡ Some 1 → ⊥
 IsUnread frame answer asked = ⊤
@@ -39,12 +39,12 @@ abbrev AllUnread : List Exchange → Type 0
 AllUnread [] = ⊤
 AllUnread (x ∷ told) = IsUnread x.frame x.answer (asked_in told) × AllUnread told
 
--- where the frame may end a checked read, it wants 01h, and fewer requests than so many are left after it
+-- if the frame may end a checked read, it wants 01h, and fewer than `late` requests are left after it
 abbrev ReadsLate : ℕ → Frame → Bool → Wish → List Request → Type 0
 ReadsLate late (AskDtr1 to) true wish left = (wish ≡ Exactly 1) × (length left < late)
 ReadsLate late frame asked wish left = ⊤
 
--- only so many requests, the last of them, may end a checked read
+-- only the last `late` requests may end a checked read
 abbrev RequestsReadLate : ℕ → Bool → List Request → Type 0
 RequestsReadLate late asked [] = ⊤
 RequestsReadLate late asked (next ∷ left) =
@@ -98,7 +98,7 @@ trying_unread late requests (x ∷ tried) left older reads unread try early =
 abbrev Reading : ℕ → List Request → Type 0
 Reading late requests = (asked : Bool) → RequestsReadLate late asked requests
 
--- where only the last request may end a checked read, no missed try has one
+-- if only the last request may end a checked read, no missed try has one
 missed_unread : (late : ℕ) (requests : List Request) (tried older : List Exchange) → Reading late requests → late ≤ 1
     → AllUnread older → Missed requests tried → AllUnread (tried ++ older)
 missed_unread late requests [] older reads last unread missed = absurd missed
@@ -145,7 +145,7 @@ write_unread unit location byte outcome told (inr failed) =
     (misses_unread 0 (each_try (write_requests unit location byte)) most_tries told []
     (λ misses. write_requests_unread unit location byte) (omega arith) tt failed.1)
 
--- where a read access failed, no checked read was answered
+-- if a read access failed, no checked read was answered
 read_unread : (unit location : ℕ) (told older : List Exchange)
     → Succeeds (each_try (read_requests unit location)) None told
     ⊎ Fails (each_try (read_requests unit location)) None told

@@ -1,4 +1,4 @@
--- What reads show, and the end of a walk.
+-- The bytes that reads show, and the end of a walk.
 use Rattle.std.proofs.Common.{◌≡◌, ℕ, List, [], ◌∷◌, ◌++◌, Option, refl}
 use Rattle.dali_bus.specs.World.{World}
 use Rattle.dali_write.specs.Exchanges.{Exchange}

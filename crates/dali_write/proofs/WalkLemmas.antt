@@ -42,7 +42,7 @@ walks unit plan (outcome ∷ outcomes) told ends =
           (walk_on unit plan before.0 ends.1 (plan_after plan outcomes) outcome ends.0 before.1 ends.3),
     )
 
--- where no frame is at hand, the whole accesses are all
+-- if no frame is at hand, the whole accesses are all
 pub ended_told : (told tried missed ended : List Exchange) (left : List Request) (misses : ℕ)
     → told ≡ tried ++ (missed ++ ended) → Trying [] tried left → Misses (each_try []) misses missed
     → told ≡ ended

@@ -82,7 +82,7 @@ next_not_taken takes = let high = takes.1 in omega arith
 pub fixed_not_taken : MayStoreAt small_bank 0x07 → ⊥
 fixed_not_taken takes = let never : true ≡ false = takes.2 in cc
 
--- a unit behind another one has its bank
+-- the second unit of two has its bank
 pub second_has : HasBank 5 small_bank two_units
 second_has = inr (inl (refl, refl))
 
@@ -202,7 +202,7 @@ walk_wants unit plan verdict outcomes told walk =
       ask_is = refl;
     }
 
--- where other bytes were found, the session ended in doubt
+-- if other bytes were found, the session ended in doubt
 pub found_doubts : (unit : ℕ) (plan : Plan) (expected : List (ℕ × List ℕ)) (told : List Exchange)
     → FoundAnother unit plan expected told → Wants unit plan told (Ended Doubt)
 found_doubts unit plan expected told f =

@@ -1,4 +1,4 @@
--- What the bytes of a reading session are: all that location 00h names, and each that of its place.
+-- The bytes of a reading session: all that location 00h names, and each that of its place.
 use Rattle.std.proofs.Common.{◌≡◌, refl, inl, inr, ap, ◌∙◌, ℕ, suc, ◌<◌, min, List, [], ◌∷◌, length, slice_get, Some, None}
 use Rattle.dali_bus.specs.World.{World, byte_at}
 use Rattle.dali_bus.specs.Power.{MayRelock}

@@ -33,7 +33,7 @@ seventeen_dont fits = omega (arith, fits.few)
 pub last_doesnt : (Fits (block 0xFF 1) → ⊥) × (Fits (block 0xF0 16) → ⊥)
 last_doesnt = ((λ fits. omega (arith, fits.within)), (λ fits. omega (arith, fits.within)))
 
--- What is a block read
+-- Examples of a block read
 
 pub two_are_read : IsBlockRead 5 two_locations (0x0A ∷ 0x0B ∷ []) whole_read
 two_are_read = (
@@ -88,7 +88,7 @@ one_unanswered bytes read = grind (arith, asked_for)
 pub last_unasked : (bytes : List ℕ) → IsBlockRead 5 two_locations bytes (drop 1 whole_read) → ⊥
 last_unasked bytes read = grind (arith, left_is (block_requests 5 two_locations) (drop 1 whole_read) [] read.0)
 
--- A loss of power before the reads is told by the last frame alone: the first six are answered as they want.
+-- A loss of power before the reads is shown by the last frame alone: the first six are answered as they want.
 
 pub six_as_wanted : Trying (block_requests 9 (block 0x00 1)) six_frames (request (AskDtr1 9) (Exactly 1) ∷ [])
 six_as_wanted =

@@ -38,7 +38,7 @@ pub none_where_all_is_read_back :
     ≡ None
 none_where_all_is_read_back = refl
 
--- and in rows: the first one that differs, also where all behind it do
+-- and in rows: the first one that differs, also if all after it do
 pub another_byte_of_a_row_is_told :
     (cause_after updates (unlock Short updates) (Some (0x18 ∷ 0x00 ∷ []) ∷ Some (0xFF ∷ []) ∷ written)
     ≡ Some (Another 0x14 0x00))
@@ -84,7 +84,7 @@ second_is_the_first_other = record {
     before zero same is = inr (inl (refl, cc))
     before (suc index) same is = cc
 
--- where each byte is the one of its place there is none
+-- if each byte is the one of its place there is none
 pub none_where_all_are_wanted : (location byte : ℕ)
     → IsFirstOther (read_backs updates) (block 0x13 2) (0x18 ∷ 0x35 ∷ []) location byte → ⊥
 none_where_all_are_wanted location byte first =

@@ -1,4 +1,4 @@
--- What reads find and what they don't, near the edges: what a weaker definition would let through.
+-- Findings of reads near the edges: cases that a weaker definition would let through.
 use Rattle.std.proofs.Common.{◌≡◌, refl, ℕ, List, [], ◌∷◌, Some, arith, slice_get}
 use Rattle.dali_write.specs.declared.ask.Verdict.TheVariants.{Doubt, Closed}
 use Rattle.dali_write.specs.Findings.{Suits, IsTooShort, HasOtherFormat, IsWritten, Rests}

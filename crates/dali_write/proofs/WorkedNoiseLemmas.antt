@@ -1,4 +1,4 @@
--- What a bus that alters answers may do and what not, near the edges.
+-- A bus that alters answers, near the edges: what it may do and what it may not.
 use Rattle.std.proofs.Common.{◌≡◌, ◌∙◌, inl, refl, sym, ap, subst, ℕ, Bool, true, false, Option, Some, None, arith}
 use Rattle.std.specs.Prelude.{is_some}
 use Rattle.dali_frame.specs.declared.forward.Frame.{Frame}
@@ -55,7 +55,7 @@ another_byte_comes =
 differ : (dtr0 : Option ℕ) → dtr0 ≡ Some 4 → dtr0 ≡ Some 3 → ⊥
 differ dtr0 four three = cc
 
--- but not just behind a setting that the unit didn't hear
+-- but not just after a setting that the unit didn't hear
 pub not_behind_a_missed_setting : (made : Bool) (new : Noisy)
     → NoisyCarry made 5 (at units true) (AskDtr0 5) (Some 4) new → ⊥
 not_behind_a_missed_setting made new c =
@@ -98,7 +98,7 @@ settled_by_dtr0 made =
       settled = λ set. tt;
     }
 
--- where nobody is, a byte may come back to a question
+-- if no unit is there, a byte may come back to a question
 pub made_up_answer : NoisyCarry false 5 (at nobody false) (AskDtr0 7) (Some 4) (at nobody false)
 made_up_answer =
     record {
@@ -109,7 +109,7 @@ made_up_answer =
       settled = λ set. tt;
     }
 
--- and to a write only where bytes may be made up
+-- and to a write only if bytes may be made up
 pub made_up_write : NoisyCarry true 5 (at nobody false) (Write 9) (Some 9) (at nobody false)
 made_up_write =
     record {

@@ -40,7 +40,7 @@ three_twice = refl
 pub silence_told : others_in wanted (sent (Read 5) None ∷ three_read 1 2 3 []) ≡ 0
 silence_told = refl
 
--- a try that lost its power behind its questions, and so read bank 0: one miss, and one row
+-- a try in which the unit lost its power after its questions, and so read bank 0: one miss, and one row
 abbrev powerless : List Exchange
 powerless = sent (AskDtr1 5) (Some 0x00) ∷ sent (AskDtr0 5) (Some 0x07) ∷ told_more 0 (three_read 0 0 0 (
     sent (AskDtr1 5) (Some 0x01) ∷ sent (Dtr1 0x01) None ∷ []

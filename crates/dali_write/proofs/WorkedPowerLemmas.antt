@@ -1,4 +1,4 @@
--- What losses of power may change and what not, near the edges: what a weaker definition would let through.
+-- Losses of power near the edges: cases that a weaker definition would let through.
 use Rattle.std.proofs.Common.{◌≡◌, ◌≢◌, inl, inr, refl, sym, ◌∙◌, ℕ, [], ◌∷◌, Option, arith}
 use Rattle.dali_frame.specs.declared.forward.Frame.{Frame}
 use Rattle.dali_bus.specs.World.{World}
@@ -10,7 +10,7 @@ use Rattle.dali_write.proofs.RunLemmas.{Drifts, Stays, Loses}
 use Rattle.dali_bus.specs.Carry.{WorldStep, Carried, Powered}
 use Rattle.dali_gear.specs.SimState.{SimStep}
 
--- where the unit at 5 alone loses its power, that at 6 stays as it is
+-- if the unit at 5 alone loses its power, that at 6 stays as it is
 other_than : (address : ℕ) → IsAmong (5 ∷ []) address → 6 ≢ address
 other_than address (inl is) = λ same. omega (arith, is, same)
 other_than address (inr none) = absurd none
@@ -23,7 +23,7 @@ fives_stay first last (Loses {mid = mid} address of_these drifts lost) =
 pub others_stay : (first last : World) → Run WorldStep (IsAmong (5 ∷ [])) [] first last → last 6 ≡ first 6
 others_stay first last run = fives_stay first last (leads_of [] first last run)
 
--- and so it is on the simulated bus, where it may do so before a frame and after it, and twice
+-- and the same on the simulated bus, where the unit may lose it before a frame and after it, and twice
 pub simulated_others_stay : (first last : SimState) → Run SimStep (IsAmong (5 ∷ [])) [] first last
     → world_of last.units 6 ≡ world_of first.units 6
 simulated_others_stay first last run =

@@ -1,4 +1,4 @@
--- Near the edges of writes one just behind the other.
+-- Near the edges of writes one just after the other.
 use Rattle.std.proofs.Common.{◌≡◌, ◌⊎◌, inl, inr, refl, ap, ◌∙◌, ℕ, List, [], ◌∷◌, Some, None}
 use Rattle.std.specs.Prelude.{length}
 use Rattle.dali_frame.specs.declared.forward.Frame.TheVariants.{Dtr0, Dtr1, AskDtr0, AskDtr1, Enable, Read, Write}
@@ -19,7 +19,7 @@ use Rattle.dali_write.proofs.EndLemmas.{ends_selecting, fourth_is, moved_by}
 
 -- ---- the frames
 
--- to the location just behind
+-- to the location just after
 pub three_on : access_requests 5 (WriteOn 0x03 0x04 0xA4) 0
     ≡ request (AskDtr1 5) (Exactly 1) ∷ request (AskDtr0 5) (Exactly 0x04) ∷ request (Write 0xA4) (Exactly 0xA4) ∷ []
 three_on = refl
@@ -33,7 +33,7 @@ four_further = refl
 pub four_back : length (access_requests 5 (WriteOn 0x08 0x02 0xFF) 0) ≡ 4
 four_back = refl
 
--- behind a miss it is a checked write
+-- after a miss it is a checked write
 pub checked_behind_a_miss : access_requests 5 (WriteOn 0x03 0x04 0xA4) 1 ≡ access_requests 5 (WriteTo 0x04 0xA4) 0
 checked_behind_a_miss = refl
 
@@ -46,7 +46,7 @@ three_at_the_top = refl
 abbrev two : List (ℕ × ℕ)
 two = (0x03, 0x03) ∷ (0x05, 0xA4) ∷ []
 
--- the first update comes just behind the lock byte
+-- the first update comes just after the lock byte
 pub first_on : access_of (next_plan (unlock Short two) (Some [])) ≡ Ok (WriteOn 0x02 0x03 0x03)
 first_on = refl
 
@@ -79,9 +79,9 @@ few_frames = refl
 pub more_frames : done_frames Short two ≡ 7 + 3 + 4 + 4 + 8 + 7
 more_frames = refl
 
--- ---- where DTR0 should stand
+-- ---- the location that DTR0 should hold
 
--- behind the write of the lock byte
+-- after the write of the lock byte
 abbrev unlocked : List Exchange
 unlocked =
     sent (Write 0x55) (Some 0x55) ∷ sent (AskDtr0 5) (Some 0x02) ∷ sent (Dtr0 0x02) None
@@ -119,7 +119,7 @@ second_is unit location x y told selects =
       | inr sets ↦ inr (ap (λ (e : Exchange). e.frame) same ∙ sets.0.frame_is)
     ]
 
--- not where the unit was enabled since it told of DTR1: it may have lost its power before, and has bank 0 selected then
+-- not if the unit was enabled since it answered DTR1: it may have lost its power before, and has bank 0 selected then
 pub not_enabled_between : Selects 5 0x02
     (sent (AskDtr0 5) (Some 0x02) ∷ sent (Enable 5) None ∷ sent (Enable 5) None ∷ sent (AskDtr1 5) (Some 0x01) ∷ [])
     → ⊥
@@ -128,7 +128,7 @@ not_enabled_between selects = elim (second_is 5 0x02 _ _ _ selects) [
   | inr sets ↦ cc
 ]
 
--- nor where a byte was read, which moves DTR0 on, or where another unit told of DTR1
+-- nor if a byte was read, which moves DTR0 on, or if another unit answered DTR1
 pub not_read_between : Selects 5 0x02
     (sent (AskDtr0 5) (Some 0x02) ∷ sent (Read 5) (Some 0x00) ∷ sent (AskDtr1 5) (Some 0x01) ∷ []) → ⊥
 not_read_between selects = elim (second_is 5 0x02 _ _ _ selects) [
@@ -142,7 +142,7 @@ not_of_another_unit selects = elim (second_is 5 0x02 _ _ _ selects) [
   | inr sets ↦ cc
 ]
 
--- nor where DTR1 was set since then
+-- nor if DTR1 was set since then
 pub not_set_between : Selects 5 0x02
     (sent (AskDtr0 5) (Some 0x02) ∷ sent (Dtr1 0x02) None ∷ sent (AskDtr1 5) (Some 0x01) ∷ []) → ⊥
 not_set_between selects = elim (second_is 5 0x02 _ _ _ selects) [
@@ -150,7 +150,7 @@ not_set_between selects = elim (second_is 5 0x02 _ _ _ selects) [
   | inr sets ↦ cc
 ]
 
--- nor where DTR0 was set since then, unless DTR1 was set just before
+-- nor if DTR0 was set since then, unless DTR1 was set just before
 pub not_jumped_between : Selects 5 0x13
     (sent (AskDtr0 5) (Some 0x13) ∷ sent (Dtr0 0x13) None ∷ sent (AskDtr1 5) (Some 0x01)
     ∷ sent (Write 0xA4) (Some 0xA4) ∷ []) → ⊥

@@ -21,7 +21,7 @@ pub six_are_answered : Trying (read_requests 9 0) six_frames (request (AskDtr1 9
 six_are_answered =
     (Exactly 1, refl, (Anything, refl, (Exactly 0, refl, (Nothing, tt, (Exactly 1, refl, (Nothing, tt, refl))))))
 
--- the lone unit may have answered them so, where it lost its power before the read
+-- the lone unit may have answered them so, if it lost its power before the read
 
 select_frames : List Exchange
 select_frames =
@@ -62,7 +62,7 @@ six_lead = (
 pub six_may_be : Run WorldStep (IsAmong (9 ∷ [])) six_frames (lone_unit 0 0) (lone_unit 0 1)
 six_may_be = run_of six_frames (lone_unit 0 0) (lone_unit 0 1) six_lead
 
--- and bank 1 doesn't hold the byte at 00h: without the seventh frame it would be told so
+-- and bank 1 doesn't hold the byte at 00h: without the seventh frame it would be reported as read
 
 its_byte : (gear : Gear) → Some (small_gear 0 1) ≡ Some gear → gear.memory 1 0 ≡ Some 0x77
 its_byte gear is = let same : gear ≡ small_gear 0 1 = cc in ap (λ (g : Gear). g.memory 1 0) same

@@ -1,4 +1,4 @@
--- What a session may have changed in its unit and what not, near the edges.
+-- Changes of a unit by a session near the edges: possible ones, and others.
 use Rattle.std.proofs.Common.{◌≡◌, ◌⊎◌, inl, inr, true, false, ℕ, [], ◌∷◌, Some, IsSome, arith}
 use Rattle.dali_bus.specs.World.{byte_in}
 use Rattle.dali_bus.specs.Hears.{IsIndicator}

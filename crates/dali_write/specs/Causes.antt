@@ -1,4 +1,4 @@
--- Why a session came to no good end: its first access that failed and wasn't read again, or behind which it gave up,
+-- Why a session came to no good end: its first access that failed and wasn't read again, or after which it gave up
 -- since another byte was read back.
 use Rattle.std.specs.Prelude.{◌≡◌, ◌≢◌, ◌≤◌, ℕ, Bool, true, false, ◌==◌, List, [], ◌∷◌, ◌++◌, length, slice_get, Option, Some}
 use Rattle.std.specs.Prelude.{None, if◌then◌else◌}
@@ -27,20 +27,20 @@ is_wanted [] location byte = false
 is_wanted (own ∷ wanted) location byte =
     if own.0 == location then own.1 == byte else is_wanted wanted location byte
 
--- the first of the bytes, read from a location on, that isn't the one that has to be there; where each is, the last one
+-- the first of the bytes, read from a location on, that isn't the one that has to be there; if each is, the last one
 abbrev pub another : List (ℕ × ℕ) → ℕ → List ℕ → Cause
 another wanted location [] = Another location 0
 another wanted location (byte ∷ []) = Another location byte
 another wanted location (byte ∷ next ∷ bytes) =
     if is_wanted wanted location byte then another wanted (up location) (next ∷ bytes) else Another location byte
 
--- behind a read the session goes on by a write only where it gives up
+-- after a read that succeeded, the session goes on by a write only if it gives up
 abbrev pub is_write : Plan → Bool
 is_write (Make (WriteTo location byte) after) = true
 is_write (Make (WriteOn before location byte) after) = true
 is_write plan = false
 
--- and behind a read that failed by a read only where it reads the row again
+-- and after a read that failed, by a read only if it reads the row again
 abbrev pub is_read : Plan → Bool
 is_read (Make (ReadFrom block) after) = true
 is_read plan = false

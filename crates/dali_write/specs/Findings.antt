@@ -1,7 +1,7 @@
--- What reads of bank 1 of a unit find, where 'shows location byte' says that the location shows the byte.
+-- The findings of reads of bank 1 of a unit, where 'shows location byte' says that the location shows the byte.
 --
--- What a byte is shown by is left open: the verdict of a session asks it of the world, a record of the journal of the
--- frames that were sent, and the promises of the writer of the world again.
+-- How a byte is shown is left open: for the verdict of a session the world shows it, for a record of the journal the
+-- frames that were sent, and for the promises of the writer again the world.
 use Rattle.std.specs.Prelude.{◌≡◌, ℕ, ◌<◌, ◌≤◌, List, ⊤}
 use Rattle.std.specs.List.{AllByRecursion}
 use Rattle.dali_write.specs.declared.ask.Verdict.{Verdict}
@@ -9,7 +9,7 @@ use Rattle.dali_write.specs.declared.ask.Verdict.TheVariants.{MayOpen, Done, Sho
 use Rattle.dali_write.specs.declared.ask.Verdict.TheVariants.{Closed}
 use Rattle.dali_write.specs.Plans.{greatest}
 
--- bank 1 reaches to the greatest location of the updates, and where that is 13h or above the content format is 0003h
+-- bank 1 reaches to the greatest location of the updates, and if that is 13h or above the content format is 0003h
 abbrev pub Suits : (ℕ → ℕ → Type 0) → List (ℕ × ℕ) → Type 0
 Suits shows updates = (last : ℕ) × shows 0x00 last × (greatest updates ≤ last) × (0x13 ≤ greatest updates
     → shows 0x11 0x00 × shows 0x12 0x03)

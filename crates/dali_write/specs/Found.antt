@@ -1,4 +1,4 @@
--- What a session has found in its accesses so far.
+-- The bytes that a session has found in its accesses so far.
 use Rattle.std.specs.Prelude.{◌≡◌, ℕ, Bool, true, false, List, [], ◌++◌, ◌∷◌, Option, Some, None, nat_le, if◌then◌else◌}
 use Rattle.dali_write.specs.Exchanges.{Exchange}
 use Rattle.dali_write.specs.declared.request.Request.{Request}
@@ -36,9 +36,9 @@ keeps task = false
 abbrev pub kept_after : Task → List ℕ → List ℕ → List ℕ
 kept_after task bytes more = if keeps task then bytes ++ more else bytes
 
--- What was told is whole accesses with these outcomes, then missed tries of the access at hand, then the try at hand,
--- which has read so many bytes; and what the session keeps are those that the whole accesses read, in their order, and
--- why it comes to no good end.
+-- The exchanges are whole accesses with these outcomes, then missed tries of the access at hand, then the try at hand,
+-- whose reads told the bytes `tried`. The session keeps the bytes that the whole accesses read, in their order, and why
+-- it comes to no good end.
 pub record StandsWith (task : Task) (unit : ℕ) (told : List Exchange) (now : Plan) (misses : ℕ) (left : List Request)
     (tried bytes : List ℕ) (cause : Option Cause) : Type 0 where
   pub outcomes : List (Option (List ℕ))

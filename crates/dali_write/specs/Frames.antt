@@ -13,11 +13,11 @@ read_frames = length (read_requests 0 0)
 abbrev pub write_frames : ℕ
 write_frames = length (write_requests 0 0 0)
 
--- the frames of a read of so many locations
+-- the frames of a read of this many locations
 abbrev pub row_frames : ℕ → ℕ
 row_frames count = length (block_requests 0 (block 0 count))
 
--- the frames of a write to a location just behind one to another
+-- the frames of a write to a location just after one to another
 abbrev pub next_frames : Pace → ℕ → ℕ → ℕ
 next_frames Checked before location = write_frames
 next_frames Short before location = length (put_requests (up before == location) 0 0 0)

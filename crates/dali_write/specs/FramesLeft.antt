@@ -20,7 +20,7 @@ write_limit = most_tries * write_frames
 abbrev pub close_limit : ℕ
 close_limit = write_limit + read_limit
 
--- to read back what is read back from this index on, of so many
+-- to read back the bytes from this index on, of `count` bytes
 abbrev pub read_back_limit : ℕ → ℕ → ℕ
 read_back_limit count index = read_limit * (count - index) + close_limit
 

@@ -6,9 +6,9 @@ use Rattle.dali_write.specs.Exchanges.{Exchange}
 use Rattle.dali_write.specs.Worlds.{Selects}
 use Rattle.dali_write.specs.Touches.{Has}
 
--- Of the exchanges that the session was told, the newest comes first. The frame is to the unit alone, or sets DTR0 or
--- DTR1; it enables the unit only where there is something to write; and it writes a byte of these writes only after
--- both registers were asked back, and made sure that the unit has selected its location.
+-- Of the exchanges of the session, the newest comes first. The frame is to the unit alone, or sets DTR0 or DTR1; it
+-- enables the unit only if there is something to write; and it writes a byte of these writes only after both registers
+-- were asked back, and made sure that the unit has selected its location.
 abbrev pub IsGuarded : List (ℕ × ℕ) → ℕ → List Exchange → Frame → Type 0
 IsGuarded writes unit told (Dtr0 byte) = ⊤
 IsGuarded writes unit told (Dtr1 byte) = ⊤

@@ -1,4 +1,4 @@
--- What the simulated bus loses of the frames that are meant for one unit.
+-- The losses of the simulated bus, of frames that are meant for one unit.
 use Rattle.std.specs.Prelude.{◌≡◌, ◌≢◌, ℕ, ◌+◌, ◌<◌, ◌==◌, Bool, true, false, ◌&&◌, ◌||◌, is_some, IsSome, IsTrue, ◌⊎◌, List, [], ⊤}
 use Rattle.std.specs.Prelude.{◌∷◌, length, slice_get, if◌then◌else◌}
 use Rattle.std.specs.List.{list_any, AllByRecursion}
@@ -24,7 +24,7 @@ is_loss address state frame =
     is_lost (next_fate state.fates) address
     || ((next_fate state.fates).answer_lost && answers_at address (next_fate state.fates) frame state.units)
 
--- so many of the frames of a chain, by the states before them, are losses to the unit
+-- how many of the frames of a chain, by the states before them, are losses to the unit
 abbrev pub losses : ℕ → List BusEvent → List SimState → ℕ
 losses address (Carried frame answer ∷ past) (state ∷ states) =
     (if is_loss address state frame then 1 else 0) + losses address past states
@@ -49,7 +49,7 @@ IsAlone address unit (first ∷ units) =
     ((first ≡ unit) × (unit.address ≡ address) × AllByRecursion (IsElse address) units)
     ⊎ (IsElse address first × IsAlone address unit units)
 
--- the bank has so many locations from this one on
+-- the bank has this many locations from this one on
 abbrev pub HasFrom : BankState → ℕ → ℕ → Type 0
 HasFrom bank location count = (index : ℕ) → index < count → IsSome (slice_get bank.bytes (moved_on location index))
 
@@ -57,13 +57,13 @@ HasFrom bank location count = (index : ℕ) → index < count → IsSome (slice_
 abbrev pub StandsBehind : ℕ → UnitState → Type 0
 StandsBehind location unit = (unit.enabled ≡ true) × (unit.dtr1 ≡ 1) × (unit.dtr0 ≡ up location)
 
--- the unit has the locations to read, or can write the one and is behind a write where it is taken to be
+-- the unit has the locations to read, or can write the one, and if the access takes it to be just after a write, it is
 abbrev pub CanDo : Access → UnitState → Type 0
 CanDo (ReadFrom block) unit = HasFrom unit.bank1 block.location block.count
 CanDo (WriteTo location byte) unit = IsTrue (is_writable unit.bank1 location)
 CanDo (WriteOn before location byte) unit = IsTrue (is_writable unit.bank1 location) × StandsBehind before unit
 
--- the banks are the same but for the byte at this location
+-- the banks are the same except for the byte at this location
 pub record OnlyDiffers (old : BankState) (location : ℕ) (new : BankState) : Type 0 where
   pub others : (other : ℕ) → other ≢ location → slice_get new.bytes other ≡ slice_get old.bytes other
   pub lengths : length new.bytes ≡ length old.bytes

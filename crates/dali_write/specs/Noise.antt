@@ -16,7 +16,7 @@ pub record Noisy : Type 0 where
 abbrev pub HeardHere : ℕ → World → Frame → World → Type 0
 HeardHere unit old frame new = IfThere (λ before after. Heard unit before frame after) (old unit) (new unit)
 
--- what has to be so where nothing is unset after the frame
+-- what has to be so if nothing is unset after the frame
 abbrev pub MaySettle : ℕ → Noisy → Frame → Noisy → Type 0
 MaySettle unit old (Dtr0 byte) new = HeardHere unit old.world (Dtr0 byte) new.world
 MaySettle unit old (Dtr1 byte) new = HeardHere unit old.world (Dtr1 byte) new.world
@@ -29,8 +29,8 @@ Accesses (Read to) = ⊤
 Accesses (Write byte) = ⊤
 Accesses other = ⊥
 
--- The frame is carried as over any bus, but another byte may come back than was given, or a byte where none was: not
--- while a register is unset; and, unless bytes may be made up there, none to a read or a write where none was given.
+-- The frame is carried as over any bus, but another byte may come back than was given, or a byte if none was: not while
+-- a register is unset; and, unless bytes may be made up there, none to a read or a write if none was given.
 pub record NoisyCarry (made : Bool) (unit : ℕ) (old : Noisy) (frame : Frame) (answer : Option ℕ) (new : Noisy)
     : Type 0 where
   pub given : Option ℕ

@@ -1,4 +1,4 @@
--- What reads of blocks among exchanges show. The newest exchange comes first.
+-- The bytes that reads of blocks among exchanges show. The newest exchange comes first.
 use Rattle.std.specs.Prelude.{◌≡◌, ◌⊎◌, ℕ, suc, ◌<◌, min, List, [], ◌∷◌, ◌++◌, length, slice_get, Some, ⊤}
 use Rattle.dali_frame.specs.declared.forward.Frame.{Frame}
 use Rattle.dali_frame.specs.declared.forward.Frame.TheVariants.{Write, WriteSilent, Enable, Other}
@@ -29,8 +29,8 @@ abbrev pub HasRead : ℕ → List Exchange → Type 0
 HasRead unit [] = ⊥
 HasRead unit (x ∷ told) = ((location : ℕ) × (byte : ℕ) × EndsInRead unit location byte (x ∷ told)) ⊎ HasRead unit told
 
--- These bytes were told by reads, each of them still read: that of 00h, and those of each location up to the one that
--- it names, at most to FEh.
+-- Reads gave these bytes, and each of them is still read: that of 00h, and those of each location up to the one that it
+-- names, at most to FEh.
 pub record ReadsBank (told : List Exchange) (unit : ℕ) (bytes : List ℕ) : Type 0 where
   pub last : ℕ
   pub names : StillRead told unit 0 last

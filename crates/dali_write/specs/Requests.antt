@@ -31,16 +31,16 @@ select_requests unit location =
     request (Dtr1 1) Nothing ∷ request (AskDtr1 unit) (Exactly 1)
     ∷ request (Dtr0 location) Nothing ∷ request (AskDtr0 unit) (Exactly location) ∷ []
 
--- so many locations from this one on
+-- this many locations from this one on
 abbrev pub block : ℕ → ℕ → Block
 block location count = record { location = location; count = count }
 
--- where DTR0 stands after so many reads: so many further, and at FFh no further
+-- the location that DTR0 holds after `count` reads: that many further, and at FFh no further
 abbrev pub moved_on : ℕ → ℕ → ℕ
 moved_on location zero = location
 moved_on location (suc count) = up (moved_on location count)
 
--- so many reads, each of which wants a byte
+-- a count of reads, each of which wants a byte
 abbrev pub reads : ℕ → ℕ → List Request
 reads unit count = replicate count (request (Read unit) Anything)
 
@@ -68,8 +68,8 @@ write_requests unit location byte =
     request (Enable unit) Nothing ∷ request (Enable unit) Nothing
     ∷ select_requests unit location ++ request (Write byte) (Exactly byte) ∷ []
 
--- The frames of a try of an access behind so many that missed. A write just behind one to another location takes the
--- unit as that one left it, enabled and with DTR0 one further; behind a miss it is a checked write.
+-- The frames of a try of an access after this many that missed. A write just after one to another location takes the
+-- unit as that one left it, enabled and with DTR0 one further; after a miss it is a checked write.
 abbrev pub access_requests : ℕ → Access → ℕ → List Request
 access_requests unit (ReadFrom block) misses = block_requests unit block
 access_requests unit (WriteTo location byte) misses = write_requests unit location byte

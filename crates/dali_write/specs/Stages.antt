@@ -1,4 +1,4 @@
--- What is left to do at a stage of a session.
+-- The plan that is left at a stage of a session.
 use Rattle.std.specs.Prelude.{ℕ, zero, suc, ◌-◌, ◌+◌, get_or, List, [], ◌∷◌, take, drop, Option, Some, None, Result, Ok, Err}
 use Rattle.dali_bank.specs.Order.{Contents}
 use Rattle.dali_write.specs.declared.access.Access.{Access}
@@ -46,7 +46,7 @@ plan_of Closing = close Closed NotClosed
 plan_of Reading = read_all
 plan_of (ReadingBlock block) = read_block block
 
--- the location of the write before the update with this index: the first one comes behind the lock byte
+-- the location of the write before the update with this index: the first one comes after the lock byte
 abbrev pub written_before : List (ℕ × ℕ) → ℕ → ℕ
 written_before updates zero = 2
 written_before updates (suc index) = (get_or updates index (0, 0)).0
@@ -55,7 +55,7 @@ written_before updates (suc index) = (get_or updates index (0, 0)).0
 abbrev pub back_from : Task → ℕ → List (ℕ × ℕ)
 back_from task index = drop index (read_backs (updates_for task))
 
--- so many of these, which belong to a row that is read again
+-- the first `left` of these, which belong to a row that is read again
 abbrev pub pieces_at : Task → ℕ → ℕ → List (ℕ × List ℕ)
 pieces_at task index left = rows_of most_again (take left (back_from task index))
 

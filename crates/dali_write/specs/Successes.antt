@@ -1,4 +1,4 @@
--- How sessions end on the simulated bus where little is lost.
+-- How sessions end on the simulated bus if little is lost.
 use Rattle.std.specs.Prelude.{◌≡◌, ◌⊎◌, ℕ, ◌<◌, ◌≤◌, ◌==◌, Bool, false, ◌&&◌, nat_lt, List, [], ◌∷◌, length}
 use Rattle.std.specs.Prelude.{slice_index, if◌then◌else◌}
 use Rattle.std.specs.List.{list_any, AllByRecursion}
@@ -34,8 +34,8 @@ HasBank address bank (unit ∷ units) = ((unit.address ≡ address) × (unit.ban
 abbrev pub has_format : List ℕ → Bool
 has_format bytes = (slice_index bytes 0x11 == 0x00) && (slice_index bytes 0x12 == 0x03)
 
--- What is so of an order of these updates where bank 1 has these bytes: the first of three where it ends before the
--- greatest location, the second where an update is at 13h or above and the content format isn't 0003h, else the third.
+-- Of three values the one for an order of these updates, if bank 1 has these bytes: the first if it ends before the
+-- greatest location, the second if an update is at 13h or above and the content format isn't 0003h, else the third.
 abbrev pub by_bank : {A : Type 0} → A → A → A → List ℕ → List (ℕ × ℕ) → A
 by_bank short format suits bytes updates =
     if nat_lt (slice_index bytes 0) (greatest updates) then short

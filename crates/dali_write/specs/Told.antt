@@ -1,4 +1,4 @@
--- What a session was told.
+-- The exchanges that a session was given.
 use Rattle.std.specs.Prelude.{◌≡◌, ℕ, ◌+◌, ◌-◌, ◌*◌, List, [], length, drop, Option, slice_get}
 use Rattle.dali_write.specs.Exchanges.{Exchange}
 use Rattle.dali_write.specs.declared.block.Block.{Block}
@@ -55,14 +55,14 @@ request_at_hand s = slice_get (plan_requests s.unit (plan_at s.task s.stage) s.m
 abbrev pub BeginsTry : Session → Type 0
 BeginsTry s = (s.misses ≡ 0) × (s.number ≡ 0) × (s.tried.items ≡ [])
 
--- A session was told these.
+-- The session was given these exchanges.
 unfoldable pub Told : List Exchange → Session → Type 0
 Told told s =
     StandsWith s.task s.unit told (plan_at s.task s.stage) s.misses
     (drop s.number (plan_requests s.unit (plan_at s.task s.stage) s.misses)) s.tried.items s.bytes.items s.cause
 
--- the most frames that are still to come: those from the stage on, less those of the access at hand that its tries so
--- far used up, each of them as long as one behind a miss
+-- the most frames that are still to come: those from the stage on, less those that the tries of the access at hand used
+-- up so far, each of them as long as one after a miss
 abbrev pub frames_left : Session → ℕ
 frames_left s =
     limit_at s.task s.stage - (s.misses * length (plan_requests s.unit (plan_at s.task s.stage) 1) + s.number)

@@ -1,4 +1,4 @@
--- What a session may have changed.
+-- The changes that a session may have made.
 use Rattle.std.specs.Prelude.{◌≡◌, ◌≢◌, ◌⊎◌, ℕ, List, [], ◌∷◌, Option, Some, IsSome, is_some}
 use Rattle.dali_bus.specs.World.{World, Gear, byte_in}
 use Rattle.dali_write.specs.Worlds.{KeepsAt}

@@ -10,7 +10,7 @@ use Rattle.dali_write.specs.declared.ask.Ask.TheVariants.{Send, Ended}
 use Rattle.dali_write.specs.Requests.{Meets, request, access_requests, read_answer}
 use Rattle.dali_write.specs.Plans.{Plan, Finish, Make, plan_after}
 
--- an access has at most so many tries
+-- an access has at most this many tries
 abbrev pub most_tries : ℕ
 most_tries = 8
 
@@ -26,7 +26,8 @@ Missed requests [] = ⊥
 Missed requests (x ∷ told) =
     (wish : Wish) × (left : List Request) × (¬ Meets wish x.answer) × Trying requests told (request x.frame wish ∷ left)
 
--- so many tries, each of which ended at its first miss, where 'requests misses' are those of a try behind so many
+-- this many tries, each of which ended at its first miss, where 'requests misses' are those of a try after 'misses' of
+-- them
 abbrev pub Misses : (ℕ → List Request) → ℕ → List Exchange → Type 0
 Misses requests zero told = told ≡ []
 Misses requests (suc misses) told =
@@ -38,7 +39,7 @@ abbrev pub bytes_of : List Exchange → List ℕ
 bytes_of [] = []
 bytes_of (x ∷ told) = bytes_of told ++ read_answer x.frame x.answer
 
--- fewer than the most tries missed, and then one came to its end; the outcome is what its reads were answered
+-- fewer than the most tries missed, and then one came to its end; the outcome is the answers to its reads
 abbrev pub Succeeds : (ℕ → List Request) → Option (List ℕ) → List Exchange → Type 0
 Succeeds requests outcome told =
     (newer : List Exchange) × (older : List Exchange) × (count : ℕ) × (told ≡ newer ++ older)
@@ -62,7 +63,7 @@ AccessesEnd unit plan (outcome ∷ outcomes) told =
     (newer : List Exchange) × (older : List Exchange) × (told ≡ newer ++ older)
     × AccessEnds unit (plan_after plan outcomes) outcome newer × AccessesEnd unit plan outcomes older
 
--- the frames of a try of the access at hand behind so many that missed
+-- the frames of a try of the access at hand after this many that missed
 abbrev pub plan_requests : ℕ → Plan → ℕ → List Request
 plan_requests unit (Finish verdict) misses = []
 plan_requests unit (Make access after) misses = access_requests unit access misses
@@ -75,7 +76,7 @@ is_going plan left = true
 abbrev pub IsGoing : Plan → List Request → Type 0
 IsGoing plan left = is_going plan left ≡ true
 
--- What was told is whole accesses, then missed tries of the access at hand, then the try at hand.
+-- The exchanges are whole accesses, then missed tries of the access at hand, then the try at hand.
 pub record Stands (unit : ℕ) (plan : Plan) (outcomes : List (Option (List ℕ))) (told : List Exchange) (now : Plan)
     (misses : ℕ) (left : List Request) (bytes : List ℕ) : Type 0 where
   pub ended : List Exchange
@@ -96,7 +97,7 @@ ask_at (Finish verdict) left going = Ended verdict
 ask_at (Make access after) [] going = absurd (both_ways false refl going)
 ask_at (Make access after) (next ∷ left) going = Send next.frame
 
--- What a session with this plan wants, or how it ends, after these exchanges.
+-- The frame that a session with this plan wants, or how it ends, after these exchanges.
 pub record Wants (unit : ℕ) (plan : Plan) (told : List Exchange) (ask : Ask) : Type 0 where
   pub outcomes : List (Option (List ℕ))
   pub now : Plan

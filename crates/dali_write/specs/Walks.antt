@@ -18,7 +18,7 @@ Walk unit plan (outcome ∷ outcomes) told end =
     (newer : List Exchange) × (older : List Exchange) × (told ≡ newer ++ older) × AccessEnds unit plan outcome older
     × Walk unit (next_plan plan outcome) outcomes newer end
 
--- so many tries of an access missed
+-- this many tries of an access missed
 abbrev pub access_misses : (unit : ℕ) (plan : Plan) (outcome : Option (List ℕ)) (told : List Exchange)
     → AccessEnds unit plan outcome told → ℕ
 access_misses unit (Finish verdict) outcome told ends = 0
@@ -31,8 +31,8 @@ misses_of unit plan [] told end walk = 0
 misses_of unit plan (outcome ∷ outcomes) told end walk =
     access_misses unit plan outcome walk.1 walk.3 + misses_of unit (next_plan plan outcome) outcomes walk.0 end walk.4
 
--- The plan ended so. It took this many frames where no try missed, for each that did at most what a miss may take, and
--- for each of so many rows that told another byte what such a row may take.
+-- The plan ended so. It took `frames` frames if no try missed, for each that did at most what a miss may take, and for
+-- each of `others` rows that told another byte what such a row may take.
 pub record Took (pace : Pace) (unit : ℕ) (plan : Plan) (told : List Exchange) (verdict : Verdict) (frames others : ℕ)
     : Type 0 where
   pub outcomes : List (Option (List ℕ))

@@ -13,7 +13,7 @@ use Rattle.dali_write.specs.Blocks.{IsBlockRead}
 abbrev pub AllBut : ℕ → (ℕ → Type 0) → ℕ → Type 0
 AllBut unit loses address = loses address × (address ≢ unit)
 
--- Among the reads of a block, which lead from the first world to the last, so many came before this one. The unit held
+-- Among the reads of a block, which lead from the first world to the last, `index` came before this one. The unit held
 -- the byte at the location in the world in which the read reached it.
 pub record HeldAt (loses : ℕ → Type 0) (each : List Exchange) (first last : World) (unit location index byte : ℕ)
     : Type 0 where
@@ -32,7 +32,8 @@ pub record HeldAt (loses : ℕ → Type 0) (each : List Exchange) (first last : 
 -- there.
 pub record WhenBlock (loses : ℕ → Type 0) (told : List Exchange) (first last : World) (unit : ℕ) (block : Block)
     (bytes : List ℕ) : Type 0 where
-  -- what came behind it; its last two frames, its reads, the two before them and its first two; and what came before it
+  -- the exchanges after it; its last two frames, its reads, the two before them and its first two; and the exchanges
+  -- before it
   pub newer : List Exchange
   pub back : List Exchange
   pub each : List Exchange
@@ -43,8 +44,7 @@ pub record WhenBlock (loses : ℕ → Type 0) (told : List Exchange) (first last
   pub read : IsBlockRead unit block bytes (back ++ (each ++ (middle ++ two)))
   pub counts : (length back ≡ 2) × (length each ≡ block.count) × (length middle ≡ 2) × (length two ≡ 2)
   pub bytes_are : bytes_of each ≡ bytes
-  -- the worlds before it, behind its second frame, before its first read, behind its last read and behind its last
-  -- frame
+  -- the worlds before it, after its second frame, before its first read, after its last read and after its last frame
   pub begun : World
   pub asked : World
   pub selected : World

@@ -8,12 +8,12 @@ use Rattle.dali_write.specs.Exchanges.{Exchange}
 abbrev pub sent : Frame → Option ℕ → Exchange
 sent frame answer = record { frame = frame; answer = answer }
 
--- a try of a checked read more, that misses where DTR0 is asked back
+-- one more try of a checked read, that misses when DTR0 is asked back
 abbrev pub missed_read : ℕ → ℕ → List Exchange → List Exchange
 missed_read unit location told =
     sent (AskDtr0 unit) None ∷ sent (Dtr0 location) None ∷ sent (AskDtr1 unit) (Some 1) ∷ sent (Dtr1 1) None ∷ told
 
--- so many frames after one that missed
+-- this many frames after one that missed
 abbrev pub after_a_miss : ℕ → List Exchange
 after_a_miss zero = sent (AskDtr1 5) None ∷ []
 after_a_miss (suc frames) = sent (Dtr1 1) None ∷ after_a_miss frames
@@ -26,7 +26,7 @@ told_more byte told = sent (Read 5) (Some byte) ∷ told
 abbrev pub three_read : ℕ → ℕ → ℕ → List Exchange → List Exchange
 three_read one two three told = told_more three (told_more two (told_more one (sent (Dtr0 0x03) None ∷ told)))
 
--- so many frames after reads of four locations from 03h on, which told 1, 2, 3 and this byte
+-- this many frames after reads of four locations from 03h on, which told 1, 2, 3 and this byte
 abbrev pub after_a_row : ℕ → ℕ → List Exchange
 after_a_row byte zero = told_more byte (three_read 1 2 3 [])
 after_a_row byte (suc frames) = sent (Dtr1 1) None ∷ after_a_row byte frames

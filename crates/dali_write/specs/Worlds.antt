@@ -1,4 +1,4 @@
--- What exchanges do to a world of units.
+-- The effect of exchanges on a world of units.
 use Rattle.std.specs.Prelude.{◌≡◌, ◌≢◌, ◌⊎◌, ℕ, false, List, [], ◌∷◌, ◌++◌, Option, Some, None, IsSome, is_some}
 use Rattle.std.specs.Option.{option_map}
 use Rattle.dali_bus.specs.World.{World, Gear, Memory, stored, byte_at, is_enabled}
@@ -28,7 +28,7 @@ pub record Run {S : Type 0} (step : S → BusEvent → S → Type 0) (loses : �
 abbrev pub memory_at : World → ℕ → Option Memory
 memory_at world address = option_map (λ gear. gear.memory) (world address)
 
--- the unit stays there, keeps its memory but for lock bytes where it is one that loses its power, and isn't newly
+-- the unit stays there, keeps its memory except for lock bytes if it is one that loses its power, and isn't newly
 -- enabled
 pub record KeepsAt (loses : ℕ → Type 0) (first last : World) (address : ℕ) : Type 0 where
   pub there : is_some (last address) ≡ is_some (first address)

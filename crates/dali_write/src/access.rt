@@ -15,7 +15,7 @@ use dali_frame::Frame;
 pub(crate) enum Access {
     ReadFrom(Block),
     WriteTo(u8, u8),
-    /// To the second location, just behind a write to the first: its first try takes the unit as that one left it.
+    /// To the second location, just after a write to the first: its first try takes the unit as that one left it.
     WriteOn(u8, u8, u8),
 }
 
@@ -32,7 +32,7 @@ impl Access {
         }
     }
 
-    // The frame of a try of this access behind so many that missed that has a number, counted from 0.
+    // The frame of a try of this access after this many that missed that has a number, counted from 0.
     pub(crate) fn request(self, unit: u8, misses: u8, number: usize) -> Option<Request>
         ensures request { result ≡ slice_get (access_requests unit self misses) number }
         ensures proper { unit ≤ 63 → IfSome result (λ request. IsProper request.frame) }
@@ -56,7 +56,7 @@ impl Access {
 /// The frames that select a location of memory bank 1 at a unit, and make sure of it: they set DTR1 and DTR0, and ask
 /// each back (IEC 62386-102: memory access).
 ///
-/// They are proper where the short address is at most 63.
+/// They are proper if the short address is at most 63.
 pub fn selection(unit: u8, location: u8) -> [Request; 4]
     ensures requests { result ≡ select_requests unit location }
     ensures proper { unit ≤ 63 → All (λ request. IsProper request.frame) result }
@@ -79,7 +79,7 @@ fn put(unit: u8, location: u8, byte: u8) -> [Request; 3]
     [bank_back, place_back, write]
 }
 
-// The same where DTR0 stands elsewhere. It is set before both are asked back: so a question that is heard as a write
+// The same if DTR0 holds another location. It is set before both are asked back: so a question that is heard as a write
 // writes to this location, too.
 fn put_elsewhere(unit: u8, location: u8, byte: u8) -> [Request; 4]
     ensures requests { result ≡ put_requests false unit location byte }

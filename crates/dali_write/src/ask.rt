@@ -3,8 +3,8 @@ use dali_frame::Frame;
 /// How a session ended (profile).
 #[derive(Clone, Copy, PartialEq, Eq)]
 pub enum Verdict {
-    /// A fresh session: the unit's bank 1 is long enough for the order, and has the content format
-    /// 0003h where the order needs it.
+    /// A fresh session: the unit's bank 1 is long enough for the order, and has the content format 0003h if the order
+    /// needs it.
     MayOpen,
     /// An opened session: each update was read back, the lock byte is FFh, and the unit isn't
     /// write-enabled.
@@ -40,7 +40,7 @@ pub enum Cause {
     Another(u8, u8),
 }
 
-/// What a session wants (profile).
+/// The frame that a session wants, or its end (profile).
 #[derive(Clone, Copy, PartialEq, Eq)]
 pub enum Ask {
     /// This frame is to be sent.

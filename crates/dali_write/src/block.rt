@@ -8,7 +8,7 @@ use dali_frame::Frame;
 
 /// So many locations of memory bank 1 in a row (profile).
 ///
-/// A *block read* selects the first location as a checked read does, reads so many times, and asks both registers back:
+/// A *block read* selects the first location as a checked read does, reads `count` times, and asks both registers back:
 /// DTR0 has moved on by that many, and DTR1 is 01h still. That of one location is the checked read.
 #[derive(Clone, Copy, PartialEq, Eq)]
 pub struct Block {
@@ -20,7 +20,7 @@ pub struct Block {
 
 impl Block {
     /// The frame of a try of the block read that has a number, counted from 0, with the answer that it wants. None
-    /// behind the last one.
+    /// after the last one.
     #[tactic(auto, using(crate::proofs::PlaceLemmas::place_behind))]
     pub fn request(self, unit: u8, number: usize) -> Option<Request>
         ensures request { result ≡ slice_get (block_requests unit self) number }

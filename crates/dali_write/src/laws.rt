@@ -46,7 +46,7 @@ ghost use Rattle.dali_write.specs.Noise.{Noisy, NoisyStep, as_noisy};
 ghost use Rattle.dali_write.specs.WhenBlock.{WhenTold};
 ghost use Rattle.dali_write.specs.Blocks.{IsAmid};
 
-/// A session wants what its plan asks after what it was told, and ends so.
+/// A session wants what its plan asks for after its exchanges, and ends as its plan does.
 pub fn sessions_follow_their_plans()
     ensures { (told : List Exchange) (s : Session) → Told told s
         → Wants (unit_of s) (plan_of (task_of s)) told (aim_of s) }
@@ -68,7 +68,7 @@ pub fn checked_reads_are_true()
         → (address : ℕ) → KeepsAt (IsAmong loses) first last address }
 {}
 
-/// What a read of a block told is still so until a frame enables a unit or writes; the lock byte of a unit that
+/// The bytes that a read of a block told are there until a frame enables a unit or writes; the lock byte of a unit that
 /// lost its power may be FFh.
 pub fn still_reads_are_true()
     ensures { (loses : List ℕ) (told : List Exchange) (first last : World) (unit location byte : ℕ)
@@ -76,16 +76,16 @@ pub fn still_reads_are_true()
         → Shows (IsAmong loses) last unit location byte }
 {}
 
-/// What a read told was there when its read reached the unit, and from the answer to its second frame to that to its
-/// last one the unit kept its power, whichever units lose theirs before, between and behind.
+/// The byte that a read told was there when the read reached the unit. The unit kept its power from the answer to the
+/// second frame of the read to that to its last one, whichever units lose theirs before, between and after.
 pub fn read_bytes_were_there()
     ensures { (loses : List ℕ) (told : List Exchange) (first last : World) (unit location byte : ℕ)
         → Run WorldStep (IsAmong loses) told first last → StillRead told unit location byte
         → WhenTold (IsAmong loses) told first last unit location byte }
 {}
 
-/// Where the unit was made sure to have selected the location, and no other unit is enabled, a
-/// write stores its byte there or nothing, whichever units lose their power before it.
+/// If the unit was made sure to have selected the location, and no other unit is enabled, a write stores its byte there
+/// or nothing, whichever units lose their power before it.
 pub fn guarded_writes_are_safe()
     ensures { (loses : List ℕ) (told : List Exchange) (first before last : World) (unit location byte : ℕ)
         (answer : Option ℕ)
@@ -108,7 +108,7 @@ pub fn sessions_end_by_their_kind()
         → Wants unit (read_block block) told (Ask.Ended verdict) → EndsReading verdict }
 {}
 
-/// What a session's verdict rests on: checked reads of its own that still stand.
+/// The verdict of a session rests on checked reads of its own that still hold.
 pub fn verdicts_rest_on_reads()
     ensures opened { (told : List Exchange) (unit : ℕ) (pace : Pace) (updates : List (ℕ × ℕ)) (verdict : Verdict)
         → Wants unit (unlock pace updates) told (Ask.Ended verdict) → Rests (StillRead told unit) updates verdict }
@@ -121,7 +121,8 @@ pub fn verdicts_rest_on_reads()
         → aim_of s ≡ Ask.Ended Verdict.Read → ReadsBank told (unit_of s) (bytes_read s) }
 {}
 
-/// What a reading session has read at each moment: the bytes that its accesses so far told, in their order, at most
+/// The bytes that a reading session has read at each moment: those that its accesses so far told, in their order, at
+/// most
 /// 255. The others have read nothing.
 pub fn sessions_keep_what_they_read()
     ensures reading { (told : List Exchange) (s : Session) → Told told s
@@ -131,7 +132,7 @@ pub fn sessions_keep_what_they_read()
         → bytes_read s ≡ [] }
 {}
 
-/// What a session of a block comes to: the bytes that it keeps are those of one access, the read of its block, which
+/// The result of a session of a block: the bytes that it keeps are those of one access, the read of its block, which
 /// succeeded; or each try of it missed.
 pub fn sessions_read_blocks()
     ensures read { (told : List Exchange) (s : Session) (unit : ℕ) (block : Block) → Told told s
@@ -144,7 +145,7 @@ pub fn sessions_read_blocks()
         → IsReadingBlock unit block s → aim_of s ≡ Ask.Send frame → IsAmid unit block told frame }
 {}
 
-/// What a session's verdict says of the world, whichever units lose their power meanwhile.
+/// A session's verdict says this of the world, whichever units lose their power meanwhile.
 pub fn verdicts_are_true()
     ensures opened { (loses : List ℕ) (told : List Exchange) (first last : World) (unit : ℕ)
         (pace : Pace) (updates : List (ℕ × ℕ)) (verdict : Verdict)
@@ -178,10 +179,9 @@ pub fn readers_are_quiet()
         → (address : ℕ) → KeepsAt (IsAmong loses) first last address }
 {}
 
-/// Where no other unit is enabled, a session changes only the places that it writes, at its unit,
-/// and each of them holds its old byte or a written one. No other unit's memory changes, and none
-/// is newly enabled. Lock bytes of units that lose their power, and its unit's indicator byte, may
-/// change besides.
+/// If no other unit is enabled, a session changes only the places that it writes, at its unit, and each of them holds
+/// its old byte or a written one. No other unit's memory changes, and none is newly enabled. Lock bytes of units that
+/// lose their power, and its unit's indicator byte, may change besides.
 pub fn sessions_touch_their_places_alone()
     ensures opened { (loses : List ℕ) (told : List Exchange) (first last : World) (unit : ℕ)
         (pace : Pace) (updates : List (ℕ × ℕ)) (ask : Ask)
@@ -201,7 +201,7 @@ pub fn sessions_touch_their_places_alone()
 
 /// Over a bus that alters answers and makes some up, but none while a register is unset (`NoisyStep`), a session
 /// changes only the places that it writes, and no other unit is enabled; a fresh one changes nothing. For the short
-/// plan, and for what else is said, no byte comes back to a read or a write where none was given: `Done` is true, and
+/// plan, and for what else is said, no byte comes back to a read or a write if none was given: `Done` is true, and
 /// after `Doubt` and `Closed` the unit isn't enabled. All that a bus does that alters none it may do.
 pub fn altered_answers_do_no_harm()
     ensures opened { (made : Bool) (loses : List ℕ) (told : List Exchange) (first last : Noisy) (unit : ℕ)
@@ -254,17 +254,16 @@ pub fn wanted_frames_are_guarded()
         → Wants unit (read_block block) told (Ask.Send frame) → IsGuarded [] unit told frame }
 {}
 
-/// What the simulated bus does with exchanges, while units of these addresses may lose their power, is what its units
-/// may do.
+/// While units of these addresses may lose their power, the simulated bus does with exchanges only what its units may
+/// do.
 pub fn simulated_runs_are_runs()
     ensures { (loses : List ℕ) (told : List Exchange) (first last : SimState)
         → Run SimStep (IsAmong loses) told first last
         → Run WorldStep (IsAmong loses) told (world_of first.units) (world_of last.units) }
 {}
 
-/// On the simulated bus, where no fate refuses, no other unit is write-enabled, and the unit has
-/// the location to read or can write it, a try misses only by a loss to the unit. Other units may lose
-/// their power meanwhile.
+/// On the simulated bus, if no fate refuses, no other unit is write-enabled, and the unit has the location to read or
+/// can write it, a try misses only by a loss to the unit. Other units may lose their power meanwhile.
 pub fn tries_miss_by_losses()
     ensures { (loses : List ℕ) (at : ℕ) (access : Access) (misses : ℕ) (unit : UnitState) (told : List Exchange)
         (first last : SimState) (run : Run SimStep (IsAmong loses) told first last)
@@ -308,8 +307,8 @@ pub fn counts_are_these()
     ensures others { (other_frames Pace.Checked ≡ 0) × (other_frames Pace.Short ≡ 64) }
 {}
 
-/// How many frames an opened session took that ended Done. For each byte that was told and isn't the one that has to be
-/// there it may have read a row again.
+/// The count of frames of an opened session that ended Done. For each byte that came back and isn't the one that has to
+/// be there it may have read a row again.
 pub fn done_sessions_take_exactly()
     ensures { (told : List Exchange) (unit : ℕ) (pace : Pace) (updates : List (ℕ × ℕ))
         → Wants unit (unlock pace updates) told (Ask.Ended Verdict.Done)
@@ -317,9 +316,9 @@ pub fn done_sessions_take_exactly()
         (others_in (read_backs updates) told) }
 {}
 
-/// How many frames the other sessions took that didn't give up; one that may open reads the format
-/// only where a location is past 12h. A closing session whose write failed goes on to its read: the
-/// frames of that write are all of missed tries, and within what those allow.
+/// How many frames the other sessions took that didn't give up; one that may open reads the format only if a location
+/// is past 12h. A closing session whose write failed goes on to its read: the frames of that write are all of missed
+/// tries, and within what those allow.
 pub fn sessions_take_exactly()
     ensures short { (told : List Exchange) (unit : ℕ) (pace : Pace) (updates : List (ℕ × ℕ))
         → Wants unit (read_length pace updates) told (Ask.Ended Verdict.Short)
@@ -341,8 +340,8 @@ pub fn sessions_take_exactly()
         → TookAll unit told }
 {}
 
-/// A session gives up only where the access that it had last failed, in each of its tries: a read of
-/// the length or of the content format, of the lock byte, or of a location.
+/// A session gives up only if the access that it had last failed, in each of its tries: a read of the length or of the
+/// content format, of the lock byte, or of a location.
 pub fn sessions_give_up_late()
     ensures fresh { (told : List Exchange) (unit : ℕ) (pace : Pace) (updates : List (ℕ × ℕ))
         → Wants unit (read_length pace updates) told (Ask.Ended Verdict.Silent) → EndsUnlooked pace unit told }
@@ -355,7 +354,7 @@ pub fn sessions_give_up_late()
         → Wants unit read_all told (Ask.Ended Verdict.Silent) → (location : ℕ) × EndsUnread unit location told }
 {}
 
-/// Where a closing session ends as `NotClosed`, no read of a block of its unit told a byte since it began.
+/// If a closing session ends as `NotClosed`, no read of a block of its unit told a byte since it began.
 pub fn unreached_units_were_not_read()
     ensures { (told : List Exchange) (unit : ℕ)
         → Wants unit (close Verdict.Closed Verdict.NotClosed) told (Ask.Ended Verdict.NotClosed) → HasRead unit told
@@ -372,10 +371,10 @@ pub fn doubts_have_a_cause()
         ⊎ FoundAnother unit (unlock pace updates) (all_rows (rows_of (most_of pace) (read_backs updates))) told }
 {}
 
-/// What a session tells as the cause is what it was told: each try of an access missed, or a read told this byte of
-/// this location, which is the first in its block that is another one than has to be there. For that the updates rise
-/// above the lock byte, as those of an order do. A session that carries an order out and doesn't end as `Done`, and a
-/// fresh one that ends as `Silent`, tell one.
+/// The cause that a session reports is shown by its exchanges: each try of an access missed, or a read told this byte
+/// of this location, the first in its block that isn't the one that has to be there. For that the updates rise above
+/// the lock byte, as those of an order do. A session that carries an order out and doesn't end as `Done`, and a fresh
+/// one that ends as `Silent`, report one.
 pub fn causes_are_told()
     ensures shown { (task : Task) (unit : ℕ) (told : List Exchange) (cause : Cause)
         → RisesAbove 2 (updates_for task) → IsCause task unit told (Some cause)
@@ -400,9 +399,8 @@ pub fn successful_writes_are_stored()
         × (slice_get now.bank1.bytes location ≡ Some byte) }
 {}
 
-/// On the simulated bus an access leaves its unit alone at its address, whatever is lost or refused, and
-/// whichever other units lose their power. A read leaves bank 1 as it was, and so does a checked write but
-/// for its location.
+/// On the simulated bus an access leaves its unit alone at its address, whatever is lost or refused, and whichever
+/// other units lose their power. A read leaves bank 1 as it was, and so does a checked write except for its location.
 pub fn accesses_keep_the_bank()
     ensures read { (loses : List ℕ) (at : ℕ) (block : Block) (unit : UnitState) (outcome : Option (List ℕ))
         (told : List Exchange) (first last : SimState)
@@ -420,29 +418,28 @@ pub fn accesses_keep_the_bank()
         → (now : UnitState) × IsAlone at now last.units × OnlyDiffers unit.bank1 location now.bank1 }
 {}
 
-/// Where the units are at different addresses and no other is enabled, the unit at an address is
-/// alone.
+/// If the units are at different addresses and no other is enabled, the unit at an address is alone.
 pub fn apart_units_are_alone()
     ensures { (at : ℕ) (units : List UnitState) (gear : Gear) → AreApart units → OnlyEnabled at (world_of units)
         → world_of units at ≡ Some gear
         → (unit : UnitState) × IsAlone at unit units × (gear_of unit ≡ gear) }
 {}
 
-/// After what it was told, a session with a plan wants one thing alone.
+/// After its exchanges, a session with a plan wants one thing alone.
 pub fn wants_are_determined()
     ensures { (told : List Exchange) (unit : ℕ) (plan : Plan) (one other : Ask) → Wants unit plan told one
         → Wants unit plan told other → one ≡ other }
 {}
 
-/// Each frame that a session was told of was the one that it wanted.
+/// Each frame of the exchanges that a session was given was the one that it wanted.
 pub fn each_frame_was_wanted()
     ensures { (told : List Exchange) (x : Exchange) (unit : ℕ) (plan : Plan) (ask : Ask)
         → Wants unit plan (x ∷ told) ask → Wants unit plan told (Ask.Send x.frame) }
 {}
 
-/// The misses among exchanges are those of the tries of the session's accesses, and an access that failed
-/// missed as often as it has tries. For that each write that takes the unit as another left it comes just behind that
-/// one, as those of each session do.
+/// The misses among exchanges are those of the tries of the session's accesses, and an access that failed missed as
+/// often as it has tries. For that each write that takes the unit as another left it comes just after that one, as
+/// those of each session do.
 pub fn misses_are_those_of_the_tries()
     ensures failed { (unit : ℕ) (told : List Exchange) → HasFailed unit told → most_tries ≤ misses_in told }
     ensures unread { (unit location : ℕ) (told : List Exchange) → EndsUnread unit location told
@@ -453,11 +450,10 @@ pub fn misses_are_those_of_the_tries()
     ensures turn { (task : Task) → IsInTurn None (plan_of task) }
 {}
 
-/// On the simulated bus, where no fate refuses, no other unit is write-enabled and the unit loses
-/// less than an access has tries, each session comes to its good end, and misses no more often than
-/// the unit loses: a fresh one ends as the bytes of bank 1 say, an opened one as `Done` if each of
-/// its locations is there and none is fixed, a closing one as `Closed`, and a reading one as `Read`.
-/// Other units may lose their power meanwhile.
+/// On the simulated bus, if no fate refuses, no other unit is write-enabled and the unit loses less than an access has
+/// tries, each session comes to its good end, and misses no more often than the unit loses: a fresh one ends as the
+/// bytes of bank 1 say, an opened one as `Done` if each of its locations is there and none is fixed, a closing one as
+/// `Closed`, and a reading one as `Read`. Other units may lose their power meanwhile.
 pub fn spared_sessions_succeed()
     ensures fresh { (loses : List ℕ) (at : ℕ) (unit : UnitState) (pace : Pace) (updates : List (ℕ × ℕ))
         (verdict : Verdict)

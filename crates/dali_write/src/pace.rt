@@ -4,9 +4,9 @@
 pub enum Pace {
     /// Each write enables its unit by two frames, and each location is read by itself.
     Checked,
-    /// The short plan: only the first write of a session, the one that closes a unit, and tries behind a miss enable
-    /// the unit and set both registers. Any other write sets DTR0 alone, and to the location just behind the one before
-    /// neither. The content format is read as one block, and what was written in rows of at most 16 neighbours. A row
+    /// The short plan: only the first write of a session, the one that closes a unit, and tries after a miss enable the
+    /// unit and set both registers. Any other write sets DTR0 alone, and to the location just after the one before
+    /// neither. The content format is read as one block, and the bytes written in rows of at most 16 neighbours. A row
     /// of more than three that fails, or tells other bytes, is read again in rows of at most two.
     Short,
 }

@@ -6,7 +6,7 @@ ghost use Rattle.dali_write.specs.Causes.{another, is_wanted};
 
 use crate::ask::Cause;
 
-/// How many of the updates behind a location are in one row with it, where a row has at most so many locations.
+/// How many of the updates after a location are in one row with it, if a row has at most `most` locations.
 pub(crate) fn others_in_row(most: usize, location: u8, behind: &[(u8, u8)]) -> usize
     requires { most ≤ 16 }
     ensures rows { (byte : ℕ) → rows_of most ((location, byte) ∷ behind.now)
@@ -23,7 +23,7 @@ pub(crate) fn others_in_row(most: usize, location: u8, behind: &[(u8, u8)]) -> u
     }
 }
 
-/// Whether these bytes were read: this one, and those of the first so many updates.
+/// Whether these bytes were read: this one, and those of the first `others` updates.
 pub(crate) fn holds(read: &[u8], byte: u8, others: usize, behind: &[(u8, u8)]) -> bool
     ensures { result ≡ bytes_eq read.now (byte ∷ map (λ update. update.1) (take others behind.now)) }
 {
@@ -36,8 +36,8 @@ pub(crate) fn holds(read: &[u8], byte: u8, others: usize, behind: &[(u8, u8)]) -
     }
 }
 
-/// The first of these bytes, read from a location on, that isn't the one that has to be there behind the writes of
-/// these updates; where each is, the last one.
+/// The first of these bytes, read from a location on, that isn't the one that has to be there after the writes of these
+/// updates; if each is, the last one.
 pub(crate) fn another(updates: &[(u8, u8)], location: u8, read: &[u8]) -> Cause
     ensures { result ≡ another (read_backs updates.now) location read.now }
 {
@@ -54,7 +54,7 @@ pub(crate) fn another(updates: &[(u8, u8)], location: u8, read: &[u8]) -> Cause
     }
 }
 
-// Whether the byte has to be at the location behind the writes of these updates: the lock byte is FFh.
+// Whether the byte has to be at the location after the writes of these updates: the lock byte is FFh.
 fn is_written(updates: &[(u8, u8)], location: u8, byte: u8) -> bool
     ensures { result ≡ is_wanted (read_backs updates.now) location byte }
 {
@@ -81,7 +81,7 @@ fn is_update(updates: &[(u8, u8)], location: u8, byte: u8) -> bool
     }
 }
 
-/// Where DTR0 stands behind a read or a write of this location.
+/// The location that DTR0 holds after a read or a write of this location.
 #[tactic(auto, using(crate::proofs::PlaceLemmas::up_is))]
 pub(crate) fn next_to(location: u8) -> u8
     ensures { result ≡ up location }

@@ -79,8 +79,8 @@ impl Session {
         Session::fresh_with_pace(order, Pace::Checked)
     }
 
-    /// Looks whether bank 1 of the order's unit suits the order: its last location, and the content
-    /// format where the order writes from 13h on. Ends as `MayOpen`, `Short`, `Format` or `Silent`.
+    /// Looks whether bank 1 of the order's unit suits the order: its last location, and the content format if the order
+    /// writes from 13h on. Ends as `MayOpen`, `Short`, `Format` or `Silent`.
     pub fn fresh_with_pace(order: Order, pace: Pace) -> Session
         ensures unit { unit_of result ≡ order.unit }
         ensures task { task_of result ≡ Task.Fresh order pace }
@@ -100,9 +100,9 @@ impl Session {
         Session::opened_with_pace(order, Pace::Checked)
     }
 
-    /// Carries the order out: unlocks bank 1, writes each update, locks it and reads all back. Where
-    /// an access fails that isn't read again in smaller rows, or another byte is read back, closes the
-    /// unit. Ends as `Done`, `Doubt` or `DoubtOpen`.
+    /// Carries the order out: unlocks bank 1, writes each update, locks it and reads all back. If an access fails that
+    /// isn't read again in smaller rows, or another byte is read back, closes the unit. Ends as `Done`, `Doubt` or
+    /// `DoubtOpen`.
     pub fn opened_with_pace(order: Order, pace: Pace) -> Session
         ensures unit { unit_of result ≡ order.unit }
         ensures task { task_of result ≡ Task.Opened order pace }
@@ -207,8 +207,8 @@ impl Session {
         }
     }
 
-    /// What a reading session has read so far, at most 255 bytes: bank 1 from location 00h on, or its block. Empty for
-    /// the others.
+    /// The bytes that a reading session has read so far, at most 255: bank 1 from location 00h on, or its block. Empty
+    /// for the others.
     pub fn bytes(&self) -> &[u8]
         ensures value { result.now ≡ bytes_read self.now }
         ensures few { length result.now ≤ 255 }
@@ -216,8 +216,8 @@ impl Session {
         self.bytes.as_slice()
     }
 
-    /// Why the session comes to no good end, as far as it was told: its first access that failed and wasn't read again,
-    /// or that read another byte back than the one that was written. None where all went well so far.
+    /// Why the session comes to no good end, as far as its exchanges show: its first access that failed and wasn't read
+    /// again, or that read another byte back than the one that was written. None if all went well so far.
     pub fn cause(&self) -> Option<Cause>
         ensures { result ≡ cause_of self.now }
     {

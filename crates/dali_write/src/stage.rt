@@ -19,7 +19,7 @@ use crate::pace::Pace;
 use crate::row::{another, holds, others_in_row};
 use dali_bank::Order;
 
-/// What a session is for.
+/// The task of a session.
 #[derive(Drop)]
 pub(crate) enum Task {
     Fresh(Order, Pace),
@@ -79,7 +79,7 @@ impl Pace {
         }
     }
 
-    // A write just behind one to another location.
+    // A write just after one to another location.
     fn write(self, before: u8, location: u8, byte: u8) -> Access
         ensures { result ≡ write_next self before location byte }
     {
@@ -93,7 +93,7 @@ impl Pace {
 // A row that failed, or told other bytes, and has more locations than this is read again.
 const MOST_ONCE: usize = 3;
 
-// It is read again in rows of at most so many.
+// It is read again in rows of at most this many.
 const MOST_AGAIN: usize = 2;
 
 // The read of the row that begins at a location, before these updates.
@@ -107,7 +107,7 @@ fn row(most: usize, location: u8, behind: &[(u8, u8)]) -> Access
     Access::ReadFrom(Block { location, count })
 }
 
-// How many of these updates were read back in one row with this one before them; none where other bytes were read.
+// How many of these updates were read back in one row with this one before them; none if other bytes were read.
 fn row_held(most: usize, own: (u8, u8), behind: &[(u8, u8)], read: &[u8]) -> Option<usize>
     requires { most ≤ 16 }
     ensures some { IfSome result (λ others. read_back (rows_of most (drop others behind.now))
@@ -134,7 +134,7 @@ fn row_held(most: usize, own: (u8, u8), behind: &[(u8, u8)], read: &[u8]) -> Opt
     }
 }
 
-// What is read back with this index, the lock byte the first, and what is read back behind it.
+// The byte that is read back with this index, the lock byte the first, and those that are read back after it.
 fn back_from(updates: &[(u8, u8)], index: usize) -> Option<((u8, u8), &[(u8, u8)])>
     ensures some { IfSome result (λ own. drop index (read_backs updates.now) ≡ own.0 ∷ own.1.now) }
     ensures count { IfSome result (λ own. index + 1 + length own.1.now ≡ 1 + length updates.now) }
@@ -150,7 +150,7 @@ fn back_from(updates: &[(u8, u8)], index: usize) -> Option<((u8, u8), &[(u8, u8)
     }
 }
 
-// The same among so many of them.
+// The same among `left` of them.
 fn piece_from(updates: &[(u8, u8)], index: usize, left: usize) -> Option<((u8, u8), &[(u8, u8)])>
     ensures some { IfSome result (λ own. take left (drop index (read_backs updates.now)) ≡ own.0 ∷ own.1.now) }
     ensures count { IfSome result (λ own. index + 1 + length own.1.now ≤ 1 + length updates.now) }
@@ -162,7 +162,7 @@ fn piece_from(updates: &[(u8, u8)], index: usize, left: usize) -> Option<((u8, u
     }
 }
 
-// The location of the write before the update with this index: the first one comes behind the lock byte.
+// The location of the write before the update with this index: the first one comes after the lock byte.
 fn written_before(updates: &[(u8, u8)], index: usize) -> u8
     ensures { result ≡ written_before updates.now index }
 {
@@ -180,7 +180,7 @@ fn read_at(location: u8) -> Access
     Access::ReadFrom(Block { location, count: 1 })
 }
 
-/// What a session is about to do.
+/// The next step of a session.
 #[derive(Clone, Copy)]
 pub(crate) enum Stage {
     ReadLength,
@@ -192,7 +192,7 @@ pub(crate) enum Stage {
     WriteOn(usize),
     /// Read back what is to be read back with this index, the lock byte first, and what comes after it.
     ReadBack(usize),
-    /// Read so many of these again, of a row that failed or told other bytes, in smaller rows.
+    /// Read this many of these again, of a row that failed or told other bytes, in smaller rows.
     ReadPiece(usize, usize),
     /// Lock the unit, and see whether it answers: then the first verdict, else the second.
     Close(Verdict, Verdict),
@@ -292,7 +292,7 @@ impl Stage {
         }
     }
 
-    // Why the session gives up behind this stage, where it does: its access read these bytes.
+    // Why the session gives up after this stage, if it does: its access read these bytes.
     #[tactic(auto, using(crate::proofs::CauseLemmas::ends_without))]
     pub(crate) fn another(self, task: &Task, read: &[u8]) -> Option<Cause>
         ensures { result ≡ cause_by (updates_for task.now) (plan_at task.now self) (Some read.now) }
@@ -304,7 +304,7 @@ impl Stage {
         }
     }
 
-    // The same where its access failed: a row that is read again is no cause.
+    // The same if its access failed: a row that is read again is no cause.
     #[tactic(auto, using(crate::proofs::CauseLemmas::fails_without))]
     pub(crate) fn failure(self, task: &Task) -> Option<Cause>
         ensures { result ≡ cause_by (updates_for task.now) (plan_at task.now self) None }
@@ -372,7 +372,7 @@ fn byte_in(read: &[u8], index: usize) -> u8
     read.get(index).copied().unwrap_or(0)
 }
 
-// What follows the read of the last location.
+// The stage after the read of the last location.
 fn judge_length(updates: &[(u8, u8)], last: u8) -> Stage
     ensures plan { (task : Task) → updates_for task ≡ updates.now
         → plan_at task result ≡ judge_length (pace_for task) updates.now last }
@@ -388,7 +388,7 @@ fn judge_length(updates: &[(u8, u8)], last: u8) -> Stage
     }
 }
 
-/// The greatest location of the updates, each a location and a byte; 0 where there are none.
+/// The greatest location of the updates, each a location and a byte; 0 if there are none.
 pub fn greatest_location(updates: &[(u8, u8)]) -> u8
     ensures { result ≡ greatest updates.now }
 {
@@ -401,7 +401,7 @@ pub fn greatest_location(updates: &[(u8, u8)]) -> u8
     greatest
 }
 
-// What follows the read of the content format's second byte.
+// The stage after the read of the content format's second byte.
 fn judge_format(high: u8, low: u8) -> Stage
     ensures plan { (task : Task) → plan_at task result ≡ judge_format high low }
     ensures limit { (task : Task) → limit_at task result ≡ 0 }

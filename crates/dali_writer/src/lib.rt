@@ -1,5 +1,7 @@
-//! All that writing is (profile), in one crate for whoever uses it: a writer of orders, runs of it over a bus, drives
-//! of it over streams, and the laws of both. Each item stands in the crate that it comes from.
+//! All of writing (profile), in one crate for whoever uses it: a writer of orders, runs of it over a bus, drives of it
+//! over streams, and the laws of both. Each item is in the crate that it comes from.
+//!
+//! A crate of its own: it is for programs that embed the writer, and re-exports it in one.
 #![tactic(auto)]
 
 pub use dali_drive::{

@@ -4,7 +4,7 @@ from . import frame
 
 
 class Response:
-    """What came back to a command."""
+    """The result of a command."""
 
     def __init__(self, val):
         if val is not None and not isinstance(val, frame.BackwardFrame):

@@ -1,7 +1,7 @@
-"""What the interface does that is played: a list of turns, one for each frame, or simulated units.
+"""The deeds of the interface that is played: a list of turns, one for each frame, or simulated units.
 
-A turn's parts are seconds to wait, the two digits of what comes back, `none`, `damaged`, `fail`, `gone`, `lost` (the
-device is gone behind this frame's answer), `nothing` for no response at all, and `words` for a fault that has some.
+A turn's parts are seconds to wait, the two digits of an answer, `none`, `damaged`, `fail`, `gone`, `lost` (the device
+is gone after this frame's answer), `nothing` for no response at all, and `words` for a fault that has some.
 """
 
 import asyncio

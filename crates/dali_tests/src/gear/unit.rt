@@ -5,7 +5,7 @@ use dali_shared_tests::expect_that;
 use std::alloc::Global;
 use std::test::Fail;
 
-// Bank 1 of 17 bytes, without the fields behind the content format.
+// Bank 1 of 17 bytes, without the fields after the content format.
 const SHORT_BANK: [u8; 17] = [
     0x10, 0xFF, 0xFF, 0xFF, 0xFF, 0xFF, 0xFF, 0xFF, 0xFF, 0xFF, 0xFF, 0xFF, 0xFF, 0xFF, 0xFF, 0xFF,
     0xFF,
@@ -93,7 +93,7 @@ fn unit_of(alloc: Global) -> Result<Unit, GearFault> {
     Unit::with_bank1(alloc, 5, &BLANK, &[0x05])
 }
 
-// What was stored stays when the power goes, and the lock bytes don't.
+// The stored bytes stay when the power goes, and the lock bytes don't.
 #[test]
 fn a_unit_hears_and_loses_its_power(rt: HostRuntime) -> Result<(), Fail> {
     let mut unit = unit_of(rt.alloc())?;

@@ -19,8 +19,8 @@ static OLD_LEFT: [u8; 56] = [
     0x04, 0xA4, 0x05, 0xCE, 0x06, 0xEF, 0x07, 0xAD, 0x08, 0xAB, 0x4F, 0x06, 0x45, 0x00,
 ];
 
-// What stands at the end of each record: how many bytes count in version 1 and in version 2, how many orders were
-// begun, and the first letter of the standing.
+// The state at the end of each record: how many bytes count in version 1 and in version 2, how many orders were begun,
+// and the first letter of the standing.
 static STANDS: [(usize, usize, u32, u8); 8] = [
     (0, 4, 0, b'I'),
     (23, 35, 1, b'B'),
@@ -32,7 +32,7 @@ static STANDS: [(usize, usize, u32, u8); 8] = [
     (56, 76, 2, b'I'),
 ];
 
-// What stands where so many first bytes of a version are there.
+// The state when the first `len` bytes of a version are there.
 fn right_of(version: Version, len: usize) -> (usize, usize, u32, u8) {
     let mut right = (0, 4, 0, b'I');
     for &(old, new, orders, letter) in &STANDS {
@@ -89,7 +89,7 @@ static LOADS: [u32; 8] = [11_516, 0, 0, 6_833, 340, 2, 0, 765];
 
 static OLD_LOADS: [u32; 8] = [7_416, 0, 0, 6_577, 340, 2, 0, 1];
 
-// The number of the fault of the bytes with one of them replaced, 0 where they are a journal.
+// The number of the fault of the bytes with one of them replaced, 0 if they are a journal.
 fn fault_of(alloc: Global, bytes: &[u8], place: usize, value: u8) -> Result<u8, Fail> {
     let mut replaced = bytes.to_vec(alloc)?;
     if let Some(byte) = replaced.get_mut(place) {

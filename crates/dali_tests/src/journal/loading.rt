@@ -9,8 +9,8 @@ use std::test::Fail;
 // length that counts, or why there is no journal. Others are in examples/journal.cases, with the most orders there.
 //
 // No bytes are of version 2, and all that begin with 44h have to begin with the whole header. A cut record isn't tested
-// against the standing, the numbers or the limit. The first fault is told, and of one record the first of its faults.
-// No unit has the address 64, an order has 1 to 115 updates, and 115 updates from 05h on don't fit.
+// against the standing, the numbers or the limit. The first fault is reported, and of one record the first of its
+// faults. No unit has the address 64, an order has 1 to 115 updates, and 115 updates from 05h on don't fit.
 const CASES: &str = "0: Limit
 1: Two 0
 100000: Two 0
@@ -64,7 +64,7 @@ fn bytes_of(alloc: Global, text: &str) -> Result<Vec<u8>, Fail> {
     Ok(bytes)
 }
 
-// What these words load as in a journal for so many orders.
+// How these words load in a journal for at most `limit` orders.
 fn load(alloc: Global, limit: u32, text: &str) -> Result<String, Fail> {
     let bytes = bytes_of(alloc, text)?;
     Ok(match Journal::load(alloc, limit, &bytes) {

@@ -3,8 +3,8 @@ use dali_shared_tests::expect_that;
 use std::alloc::Global;
 use std::test::Fail;
 
-// A byte behind each front of the longest record in version 1, from its letter on: the least that may come, and the
-// greatest. A program that shares nothing with this one made both. In version 2 the eight bytes of the number stand
+// A byte after each front of the longest record in version 1, from its letter on: the least that may come, and the
+// greatest. A program that shares nothing with this one made both. In version 2 the eight bytes of the number come
 // before these, of which each may be any, and the first eight of these are the moment's.
 static LEAST: [u8; 240] = [
     0x00, 0x00, 0x00, 0x00, 0x00, 0x00, 0x00, 0x00, 0x00, 0x01, 0x03, 0x00, 0x04, 0x00, 0x05, 0x00,
@@ -42,8 +42,8 @@ static GREATEST: [u8; 240] = [
     0x70, 0xFF, 0x71, 0xFF, 0x72, 0xFF, 0x73, 0xFF, 0x74, 0xFF, 0x75, 0xFF, 0x76, 0xFF, 0x77, 0xFF,
 ];
 
-// How many updates an order has, the location of the first, 0 where it is to come, and of the next the least
-// location and the greatest. 11h and 12h are none. A program that shares nothing with this one made it.
+// How many updates an order has, the location of the first, 0 if it is to come, and of the next the least location and
+// the greatest. 11h and 12h are none. A program that shares nothing with this one made it.
 static ROOM: [(u8, u8, u8, u8); 15] = [
     (1, 0, 0x03, 0x77),
     (2, 0, 0x03, 0x76),
@@ -62,7 +62,7 @@ static ROOM: [(u8, u8, u8, u8); 15] = [
     (115, 0x03, 0x04, 0x04),
 ];
 
-// What the bytes begin with in a version: how long the record is, 0 where it is cut, none where there is none.
+// The record at the start of the bytes in a version: its length, 0 if it is cut, none if there is none.
 fn len_of(version: Version, bytes: &[u8]) -> Option<usize> {
     let piece = match version {
         Version::One => Record::read_old(bytes),
@@ -75,7 +75,7 @@ fn len_of(version: Version, bytes: &[u8]) -> Option<usize> {
     }
 }
 
-// Puts a byte behind the front and takes it away: a record may go on so, or may not.
+// Puts a byte after the front and takes it away: a record may go on so, or may not.
 fn judge_byte(version: Version, front: &mut Vec<u8>, byte: u8, may_come: bool) -> Result<(), Fail> {
     front.push(byte)?;
     expect_that(
@@ -96,7 +96,7 @@ fn front_of(alloc: Global, version: Version) -> Result<Vec<u8>, Fail> {
     Ok(front)
 }
 
-// Puts each byte behind each front of the longest record, which goes on with the greatest.
+// Puts each byte after each front of the longest record, which goes on with the greatest.
 fn judge_longest(version: Version, front: &mut Vec<u8>) -> Result<(), Fail> {
     for (&least, &greatest) in LEAST.iter().zip(&GREATEST) {
         expect_that(len_of(version, front) == Some(0), "a cut record")?;
@@ -129,7 +129,7 @@ fn judge_room(version: Version, front: &mut Vec<u8>, least: u8, greatest: u8) ->
     Ok(())
 }
 
-// The front of an order for unit 5 with so many updates, and the location of the first one, where that is there.
+// The front of an order for unit 5 with `count` updates, and the location of the first one, if that is there.
 fn front_with(alloc: Global, version: Version, count: u8, first: u8) -> Result<Vec<u8>, Fail> {
     let mut front = front_of(alloc, version)?;
     front.extend_from_slice(&[0, 0, 0, 0, 0, 0, 0, 1, 5, count])?;

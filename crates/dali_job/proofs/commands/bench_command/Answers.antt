@@ -26,8 +26,11 @@ returns c =
     let journals =
     with_added _ c.with_made-shows.result c.journal_command.result c.with_made-journals.result _ _ shows
     c.journal_command.ensures c.with_made-journals.ensures in
+    let fields =
+    with_added _ c.with_made-journals.result (Ok c.plain_command.result) c.with_made-fields.result _ _ journals
+    c.plain_command.ensures c.with_made-fields.ensures in
     let drives =
-    with_added _ c.with_made-journals.result c.drive_command.result c.with_made-drives.result _ _ journals
+    with_added _ c.with_made-fields.result c.drive_command.result c.with_made-drives.result _ _ fields
     c.drive_command.ensures c.with_made-drives.ensures in
     let reads =
     with_added _ c.with_made-drives.result c.read_command.result c.with_made-reads.result _ _ drives

@@ -24,7 +24,8 @@ returns-in-Some-value_of-4-clause-named c =
 pub returns-clause-none : goal.returns-clause-none
 returns-clause-none c =
     none_then c.read_in.result _ _
-    (no_job _ c.in_default.ensures.none c.in_default-value_of.ensures.none c.in_default-value_of-2.ensures.none
+    (no_job _ (λ entered. let is = c.is_entered.ensures.1 entered in let other = c.if-is_entered.false in cc)
+    c.in_default.ensures.none c.in_default-value_of.ensures.none c.in_default-value_of-2.ensures.none
     c.in_default-value_of-3.ensures.none
     c.in_default-value_of-4.ensures.none)
     c.read_in.ensures.none

@@ -30,7 +30,9 @@ LINK = f'#!/bin/sh\n{OUT_OF}printf \'#!/bin/sh\\necho ran\\n\' >"$out"; chmod +x
 NEEDS = (r"dali_bench: {} and the program take {} on four cores, up to 2.1 GB of disk \(\d+\.\d GB are"
          r" free\) and at least 4.3 GB of memory \(\d+\.\d GB are free\)")
 NAMES = json.loads((ROOT / "scripts/build_seconds.json").read_text())
-IS_PROVED = re.compile(r"dali_bench: (dali_\w+) is proved: (\d+) of 23 libraries, (a|some \d+) minutes? left")
+# All of them but the program.
+LIBRARIES = len(NAMES) - 1
+IS_PROVED = re.compile(rf"dali_bench: (dali_\w+) is proved: (\d+) of {LIBRARIES} libraries, (a|some \d+) minutes? left")
 
 
 # A program over four libraries, and the seconds that each took where it was measured.
@@ -116,11 +118,11 @@ def test_the_first_command_tells_how_far_it_is(folder):
     first, needs, *proved, last = build(root, environment)
     want((first, last), ("dali_bench: proving and building the program, once for these sources; this takes minutes",
                          "dali_bench: built"))
-    assert re.fullmatch(NEEDS.format("23 libraries", r"some \d+ minutes"), needs), needs
+    assert re.fullmatch(NEEDS.format(f"{LIBRARIES} libraries", r"some \d+ minutes"), needs), needs
     found = [IS_PROVED.fullmatch(line) for line in proved]
     assert None not in found, proved
     want(sorted(it[1] for it in found), sorted(set(NAMES) - {"dali_bench"}))
-    want([int(it[2]) for it in found], list(range(1, 24)))
+    want([int(it[2]) for it in found], list(range(1, LIBRARIES + 1)))
     want(build(root, environment), [])
 
 
@@ -155,8 +157,8 @@ def test_a_later_build_counts_what_is_left(folder):
     # Those of that library and of the program, one after the other.
     minutes = progress.about(NAMES["dali_file_commands"] + NAMES["dali_bench"])
     assert re.fullmatch(NEEDS.format("1 library", minutes), needs), needs
-    want(len(proved), 23)
-    assert proved[0].endswith(f" is proved: 1 of 23 libraries, {minutes} left"), proved[0]
+    want(len(proved), LIBRARIES)
+    assert proved[0].endswith(f" is proved: 1 of {LIBRARIES} libraries, {minutes} left"), proved[0]
 
 
 if __name__ == "__main__":

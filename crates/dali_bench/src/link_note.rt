@@ -2,9 +2,9 @@
 // are instead, in the words of `check`, and that there is no adapter. No answer depends on it.
 use dali_faults::Status;
 use dali_file_commands::FileCommand;
+use dali_file_commands::notes::{FirstLines, Kind};
 use dali_input::Input;
-use dali_link_commands::{LinkCommand, Linked};
-use dali_notes::{FirstLines, Kind};
+use dali_job::LinkCommand;
 use dali_text::{Escaped, Output};
 use std::io::{LineWriter, Read, Write};
 use std::os::unix::fs::FileTypeExt;
@@ -14,9 +14,9 @@ use std::{fs, io};
 const FRONT: usize = 4096;
 
 /// Tells why a command may have been refused.
-pub(crate) fn tell_refused(rt: &HostRuntime, command: &Linked<'_>) {
+pub(crate) fn tell_refused(rt: &HostRuntime, command: &LinkCommand<'_>) {
     match command {
-        Linked::Bank(LinkCommand::Drive(task)) => {
+        LinkCommand::Drive(task) => {
             if task.follow {
                 tell_lines(rt, task.orders);
             } else {
@@ -24,8 +24,8 @@ pub(crate) fn tell_refused(rt: &HostRuntime, command: &Linked<'_>) {
             }
             tell_journal(rt, task.journal);
         }
-        Linked::Bank(LinkCommand::Verify { orders, .. }) => tell_orders(rt, orders),
-        Linked::Bank(LinkCommand::Read { .. } | LinkCommand::Scan { .. }) | Linked::Address(_) => {}
+        LinkCommand::Verify { orders, .. } => tell_orders(rt, orders),
+        LinkCommand::Read { .. } | LinkCommand::Scan { .. } | LinkCommand::Address(_) => {}
     }
     if has_no_link(rt) {
         let _ = eprintln!(rt; "standard input is empty: start this over an adapter (docs/LINK.md)");

@@ -3,9 +3,8 @@
 //! A crate of its own: it is the program, whose edge to the system has no contract.
 #![tactic(auto)]
 
-ghost use Rattle.std.specs.Prelude.{◌≤◌};
-ghost use Rattle.std.specs.List.{AllByRecursion};
-ghost use Rattle.dali_link_commands.specs.AddressAnswers.{IsLinkedShort};
+ghost use Rattle.dali_job.specs.Jobs.{IsShortJob};
+ghost use Rattle.dali_job.specs.LinkOptions.{IsShort};
 
 mod fault_stream;
 mod link_note;
@@ -14,23 +13,19 @@ mod settled;
 
 use crate::fault_stream::{FaultStream, out_of_memory, print_fault, tell_cause, unopened};
 use crate::link_note::tell_refused;
-use crate::refusal::refused;
+use crate::refusal::{tell_refusal, tell_usage};
 use crate::settled::Settled;
-use dali_address::Task;
-use dali_drive::{Sought, StdSink, StdSource, StoreDesk};
+use dali_drive::{StdSink, StdSource, StoreDesk};
 use dali_faults::Status;
 use dali_file_commands::FileCommand;
 use dali_file_commands::fields::fields;
 use dali_file_commands::frame::frame;
+use dali_file_commands::notes::FirstLines;
 use dali_input::Input;
-use dali_job::{Job, job_of};
-use dali_link_commands::address::{AddressCommand, Asked};
+use dali_job::{Job, LinkCommand, job_of};
 use dali_link_commands::asked::read_asked;
-use dali_link_commands::drive::{DriveTask, pace_of};
 use dali_link_commands::lines::Lines;
-use dali_link_commands::required::Required;
-use dali_link_commands::{LinkCommand, Linked};
-use dali_notes::FirstLines;
+use dali_link_commands::link_command::{carry_out, store_of, watched_of};
 use dali_report::{Cleared, Counted, Progress, progress_of};
 use dali_text::{Escaped, Output};
 use std::alloc::{AllocError, Global};
@@ -44,16 +39,6 @@ const VERSION: &str = "dali_bench 1.0, proved with the Rattle logic dac8208d650f
 // The line if a command over a link is started with no link.
 const AT_A_TERMINAL: &str =
     "error: the frames go to standard output, which is a terminal: start this over an adapter (docs/LINK.md)";
-
-// The line if `address` is asked for several things, or to give short addresses and to give none.
-const SEVERAL_ASKED: &str =
-    "error: --all, --list and --count ask for different things: name one of them";
-
-const UNITS_UNASKED: &str =
-    "error: --list and --count give no short address, and tell of all units: leave UNIT out";
-
-// The line if older journals are named, but no journal to ask.
-const OLDER_ALONE: &str = "error: --older stands beside --journal: name that too";
 
 fn main(rt: HostRuntime) -> ExitCode {
     let status = match std::env::args(&rt) {
@@ -86,113 +71,35 @@ fn run(rt: &HostRuntime, words: &Vec<String>) -> Status {
     let Ok(words) = texts_of(rt.alloc(), words) else {
         return out_of_memory(rt, stream);
     };
-    let words = words.as_slice();
-    match job_of(rt.alloc(), words) {
-        Ok(
-            Job::Check {
-                orders,
-                journal,
-                older,
-            },
-        ) => on_check(rt, orders, journal, older.as_slice()),
-        Ok(
-            Job::Run {
-                scenario,
-                single_frames,
-            },
-        ) => on_file(rt, scenario, FileCommand::Run { single_frames }),
-        Ok(Job::Frame(digits)) => on_word(rt, digits),
-        Ok(Job::Show(dump)) => on_file(rt, dump, FileCommand::Show),
-        Ok(
-            Job::Journal {
-                records,
-                with_updates,
-            },
-        ) => on_file(rt, records, FileCommand::Journal { with_updates }),
-        Ok(Job::Fields) => on_fields(rt),
-        Ok(
-            Job::Drive {
-                orders,
-                journal,
-                moment,
-                follow,
-                short_plan,
-                require_done,
-                require_now,
-                require_journal,
-                progress,
-                report,
-                older,
-            },
-        ) => {
-            let task = DriveTask {
-                orders,
-                journal,
-                older: older.as_slice(),
-                moment,
-                pace: pace_of(short_plan),
-                required: Required::of(require_done, require_now),
-                require_journal,
-                follow,
-                report,
-            };
-            on_link(rt, Linked::Bank(LinkCommand::Drive(task)), progress)
-        }
-        Ok(
-            Job::Read {
-                unit,
-                bank,
-                progress,
-            },
-        ) => { on_link(rt, Linked::Bank(LinkCommand::Read { unit, bank }), progress) }
-        Ok(
-            Job::Verify {
-                orders,
-                report,
-                progress,
-            },
-        ) => {
-            on_link(
-                rt,
-                Linked::Bank(LinkCommand::Verify { orders, report }),
-                progress,
-            )
-        }
-        Ok(
-            Job::Scan {
-                units,
-                with_gtin,
-                progress,
-            },
-        ) => on_scan(rt, units.as_slice(), with_gtin, progress),
-        Ok(
-            Job::Address {
-                units,
-                all,
-                list,
-                count,
-                journal,
-                progress,
-            },
-        ) => {
-            if all && list || all && count || list && count {
-                return refuse(rt, SEVERAL_ASKED);
-            }
-            let command = AddressCommand {
-                asked: Asked::by(all, list, count),
-                units: units.as_slice(),
-                journal,
-            };
-            on_address(rt, command, progress)
-        }
-        Err(error) if error.kind() == clap::error::ErrorKind::OutOfMemory => out_of_memory(
-            rt, stream,
-        ),
-        Err(error) if error.use_stderr() => refused(rt, words, &error, stream),
-        Err(help) => match help.print(rt) {
-            Ok(()) => Status::Good,
-            Err(cause) => tell_cause(rt, Status::Unwritten, Some(cause.kind())),
-        },
+    match job_of(rt.alloc(), words.as_slice()) {
+        Ok(job) => on_job(rt, job),
+        Err(error) => tell_usage(rt, words.as_slice(), &error, stream),
+    }
+}
+
+// Carries out a job.
+fn on_job(rt: &HostRuntime, job: Job<'_>) -> Status
+    requires { IsShortJob job }
+{
+    match job {
+        Job::Check {
+            orders,
+            journal,
+            older,
+        } => on_check(rt, orders, journal, older.as_slice()),
+        Job::Run {
+            scenario,
+            single_frames,
+        } => on_file(rt, scenario, FileCommand::Run { single_frames }),
+        Job::Frame(digits) => on_word(rt, digits),
+        Job::Show(dump) => on_file(rt, dump, FileCommand::Show),
+        Job::Journal {
+            records,
+            with_updates,
+        } => on_file(rt, records, FileCommand::Journal { with_updates }),
+        Job::Fields => on_fields(rt),
+        Job::Link { command, progress } => on_link(rt, &command, progress),
+        Job::Refused(refusal) => tell_refusal(rt, refusal),
     }
 }
 
@@ -246,10 +153,7 @@ fn on_fields(rt: &HostRuntime) -> Status {
 // Checks the orders of a file; if another file is named, its journal answers for each of them.
 fn on_check(rt: &HostRuntime, orders: &str, journal: Option<&str>, older: &[&str]) -> Status {
     let Some(journal) = journal else {
-        if older.is_empty() {
-            return on_file(rt, orders, FileCommand::Check { known: None });
-        }
-        return refuse(rt, OLDER_ALONE);
+        return on_file(rt, orders, FileCommand::Check { known: None });
     };
     match read_asked(rt, journal, older) {
         Ok(known) => on_file(
@@ -259,13 +163,13 @@ fn on_check(rt: &HostRuntime, orders: &str, journal: Option<&str>, older: &[&str
                 known: Some(&known),
             },
         ),
-        Err(unasked) => {
-            let words = unasked
+        Err(problem) => {
+            let words = problem
                 .words
                 .as_deref()
                 .unwrap_or("a journal can't be used");
             let _ = eprintln!(rt; "error: {words}");
-            print_fault(rt, unasked.fault, FaultStream::Output)
+            print_fault(rt, problem.fault, FaultStream::Output)
         }
     }
 }
@@ -390,88 +294,31 @@ fn is_one_whole(command: FileCommand<'_>) -> bool {
     matches!(command, FileCommand::Show | FileCommand::Journal { .. })
 }
 
-// Looks which of these units answer, or which of all if none is named. One that is named twice is reported, and none is
-// asked.
-fn on_scan(rt: &HostRuntime, units: &[u8], with_gtin: bool, is_watched: bool) -> Status
-    requires { AllByRecursion (λ unit. unit ≤ 63) units.now }
-{
-    if is_repeated(rt, units) {
-        return Status::Refused;
-    }
-    let sought = if with_gtin {
-        Sought::Identity
-    } else {
-        Sought::Last
-    };
-    let command = LinkCommand::Scan {
-        addresses: units,
-        sought,
-    };
-    on_link(rt, Linked::Bank(command), is_watched)
-}
-
-// Gives these short addresses, or the lowest that are free if none is named, or lists all or counts. One that is named
-// twice is reported, and nothing is sent.
-fn on_address(rt: &HostRuntime, command: AddressCommand<'_>, is_watched: bool) -> Status {
-    let gives_none = matches!(command.asked, Asked::Run(Task::List) | Asked::Count);
-    if gives_none && !command.units.is_empty() {
-        return refuse(rt, UNITS_UNASKED);
-    }
-    if is_repeated(rt, command.units) {
-        return Status::Refused;
-    }
-    on_link(rt, Linked::Address(command), is_watched)
-}
-
-// Tells why the command line is refused.
-fn refuse(rt: &HostRuntime, why: &str) -> Status {
-    let _ = eprintln!(rt; "{why}");
-    Status::Refused
-}
-
-// Whether a unit is named twice, which is reported then.
-fn is_repeated(rt: &HostRuntime, units: &[u8]) -> bool {
-    let Some(unit) = named_twice(units) else {
-        return false;
-    };
-    let _ = eprintln!(rt; "error: unit {unit} is named twice: name each unit once");
-    true
-}
-
-// The first unit that was named before.
-fn named_twice(units: &[u8]) -> Option<u8> {
-    for (index, unit) in units.iter().enumerate() {
-        if units[..index].contains(unit) {
-            return Some(*unit);
-        }
-    }
-    None
-}
-
 // Carries out a command over standard input and output. If standard error can't be written, nothing more is. If
 // standard output is a terminal, a line for a person names what is missing: the frames would be printed there, and the
 // answers waited for. A person who asks for it sees the progress of the command, and what may be wrong if it is
 // refused.
-fn on_link(rt: &HostRuntime, command: Linked<'_>, is_watched: bool) -> Status
-    requires { IsLinkedShort command }
+fn on_link(rt: &HostRuntime, command: &LinkCommand<'_>, is_watched: bool) -> Status
+    requires { IsShort command.now }
 {
     if rt.stdout().is_terminal() {
-        return refuse(rt, AT_A_TERMINAL);
+        let _ = eprintln!(rt; "{AT_A_TERMINAL}");
+        return Status::Refused;
     }
-    let progress = progress_of(*rt, is_watched, command.watched());
+    let progress = progress_of(*rt, is_watched, watched_of(command));
     let status = carried_out(rt, command, progress.as_ref());
     if let Some(progress) = &progress {
         progress.end();
     }
     if is_watched && status == Status::Refused {
-        tell_refused(rt, &command);
+        tell_refused(rt, command);
     }
     status
 }
 
 // Carries out a command over standard input and output, beside what is watched, if that is.
-fn carried_out(rt: &HostRuntime, command: Linked<'_>, progress: Option<&Progress>) -> Status
-    requires { IsLinkedShort command }
+fn carried_out(rt: &HostRuntime, command: &LinkCommand<'_>, progress: Option<&Progress>) -> Status
+    requires { IsShort command.now }
 {
     let Ok(lines) = LineWriter::new(rt.alloc(), Cleared::new(rt.stderr(), progress)) else {
         return out_of_memory(rt, FaultStream::Lines);
@@ -482,12 +329,12 @@ fn carried_out(rt: &HostRuntime, command: Linked<'_>, progress: Option<&Progress
             let mut desk = StoreDesk {
                 link_in: StdSource::new(rt.stdin()),
                 link_out: StdSink::new(Counted::new(rt.stdout(), progress)),
-                journal: command.store(rt),
+                journal: store_of(rt, command),
                 out: Lines {
                     output: Output::new(lines),
                 },
             };
-            match command.carry_out(rt, &mut desk, progress) {
+            match carry_out(rt, command, &mut desk, progress) {
                 Status::Unwritten => Status::Failed,
                 status => status,
             }

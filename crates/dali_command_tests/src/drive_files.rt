@@ -1,16 +1,16 @@
 // `drive` over files. Its contract and that of a store say what it does with other orders, answers and journals.
 use dali_drive::{StdSink, StdSource, StoreDesk};
 use dali_faults::Status;
-use dali_link_commands::drive::DriveTask;
+use dali_job::{DriveTask, Required};
 use dali_link_commands::drive_files::drive_files;
 use dali_link_commands::journal_files::JournalFiles;
 use dali_link_commands::lines::Lines;
-use dali_link_commands::required::Required;
 use dali_report::Report;
 use dali_shared_tests::expect_that;
 use dali_store::FileStore;
 use dali_text::Output;
 use dali_writer::Pace;
+use std::alloc::Global;
 use std::fs::{File, Files};
 use std::test::Fail;
 use std::{fs, io};
@@ -82,11 +82,11 @@ static DRIVES: [Drive<'static>; 3] = [
 ];
 
 // The task of a drive over orders in a file of this name.
-fn task_of<'a>(drive: &Drive<'a>, name: &'a str) -> DriveTask<'a> {
+fn task_of<'a>(alloc: Global, drive: &Drive<'a>, name: &'a str) -> DriveTask<'a> {
     DriveTask {
         orders: name,
         journal: drive.journal,
-        older: &[],
+        older: Vec::new(alloc),
         moment: 0,
         pace: Pace::Checked,
         required: Required::Nothing,
@@ -105,7 +105,7 @@ fn is_driven<'a, R: Files<File = File> + AllocGlobal + JournalFiles>(
     fs::write(rt, name, ORDER)?;
     let mut sent = Vec::new(rt.alloc());
     let mut told = Vec::new(rt.alloc());
-    let task = task_of(drive, name);
+    let task = task_of(rt.alloc(), drive, name);
     let mut desk = StoreDesk {
         link_in: StdSource::new(drive.answers.as_bytes()),
         link_out: StdSink::new(&mut sent),
@@ -115,7 +115,7 @@ fn is_driven<'a, R: Files<File = File> + AllocGlobal + JournalFiles>(
         },
     };
     let mut report: Report<io::Sink> = Report::new(rt.alloc(), 1, None, None);
-    let status = drive_files(rt, task, &mut desk, &mut report);
+    let status = drive_files(rt, &task, &mut desk, &mut report);
     drop(desk);
     fs::remove_file(rt, name)?;
     Ok(

@@ -3,9 +3,9 @@ use crate::drive_files::{LINK, ORDER, SILENCE, TAKEN};
 use dali_drive::{StdSink, StdSource, StoreDesk};
 use dali_faults::Status;
 use dali_input::Input;
-use dali_link_commands::drive::{DriveTask, drive_input};
+use dali_job::{DriveTask, Required};
+use dali_link_commands::drive::drive_input;
 use dali_link_commands::lines::Lines;
-use dali_link_commands::required::Required;
 use dali_report::Report;
 use dali_shared_tests::expect_that;
 use dali_store::MemoryStore;
@@ -33,7 +33,7 @@ fn is_driven(alloc: Global) -> bool {
     let task = DriveTask {
         orders: "orders",
         journal: "journal",
-        older: &[],
+        older: Vec::new(alloc),
         moment: 7,
         pace: Pace::Checked,
         required: Required::Done,
@@ -51,7 +51,7 @@ fn is_driven(alloc: Global) -> bool {
     };
     let mut report = Report::new(alloc, 1, Some(Output::new(&mut reported)), None);
     let mut input = Input::new(ORDER.as_bytes());
-    let status = drive_input(alloc, None, task, &mut input, &mut desk, &mut report);
+    let status = drive_input(alloc, None, &task, &mut input, &mut desk, &mut report);
     let is_kept = desk.journal.bytes() == SILENT_AT_7.as_slice();
     drop(desk);
     drop(report);

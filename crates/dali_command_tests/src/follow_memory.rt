@@ -4,11 +4,10 @@ use crate::drive_memory::SILENT_AT_7;
 use crate::streams::{Behind, TestReader};
 use dali_drive::{StdSink, StdSource, StoreDesk};
 use dali_faults::Status;
-use dali_follow::OrderLines;
-use dali_link_commands::drive::DriveTask;
+use dali_job::{DriveTask, Required};
 use dali_link_commands::follow::follow_lines;
 use dali_link_commands::lines::Lines;
-use dali_link_commands::required::Required;
+use dali_link_commands::stream::OrderLines;
 use dali_report::Report;
 use dali_shared_tests::expect_that;
 use dali_store::MemoryStore;
@@ -69,7 +68,7 @@ fn is_followed(alloc: Global, stream: &Stream<'_>) -> bool {
     let task = DriveTask {
         orders: "orders",
         journal: "journal",
-        older: &[],
+        older: Vec::new(alloc),
         moment: 7,
         pace: Pace::Checked,
         required: Required::Nothing,
@@ -88,7 +87,7 @@ fn is_followed(alloc: Global, stream: &Stream<'_>) -> bool {
         },
     };
     let mut report: Report<io::Sink> = Report::new(alloc, 1, None, None);
-    let status = follow_lines(alloc, None, task, &mut orders, &mut desk, &mut report);
+    let status = follow_lines(alloc, None, &task, &mut orders, &mut desk, &mut report);
     let is_kept = desk.journal.bytes() == stream.kept;
     drop(desk);
     status == stream.status && told.as_slice() == stream.told.as_bytes() && is_kept

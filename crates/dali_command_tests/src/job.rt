@@ -16,7 +16,7 @@ fn words_of(alloc: Global, line: &str) -> Result<Vec<&str>, AllocError> {
 fn a_command_line(rt: HostRuntime) -> Result<(), Fail> {
     let words = words_of(rt.alloc(), "dali_bench frame A303")?;
     expect_that(
-        job_of(rt.alloc(), &words).ok() == Some(Job::Frame("A303")),
+        matches!(job_of(rt.alloc(), &words), Ok(Job::Frame("A303"))),
         "the job of a frame",
     )
 }

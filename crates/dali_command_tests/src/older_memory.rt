@@ -1,6 +1,7 @@
 // Two older journals in memory that are one journal together, and two of which one can't be used.
 use crate::drive_files::SILENT;
-use dali_link_commands::older::{OlderFault, Unusable, joined_older};
+use dali_faults::Fault;
+use dali_link_commands::older::joined_older;
 use dali_shared_tests::expect_that;
 use dali_store::MemoryStore;
 use std::alloc::Global;
@@ -12,11 +13,11 @@ const SILENT_0: [u8; 37] = [
     0xA4, 5, 0xCE, 6, 0xEF, 7, 0xAD, 8, 0xAB, 0x45, 3,
 ];
 
-// A journal after that of order 1: how many orders they have as one, or which of them can't be used, and why.
+// A journal after that of order 1: how many orders they have as one, or the words for which of them can't be used.
 struct Two<'a> {
     second: &'a [u8],
     orders: u32,
-    unusable: Option<Unusable>,
+    unusable: Option<&'a str>,
 }
 
 static TWO: [Two<'static>; 2] = [
@@ -28,10 +29,7 @@ static TWO: [Two<'static>; 2] = [
     Two {
         second: b"DB1\x02B",
         orders: 0,
-        unusable: Some(Unusable {
-            index: 1,
-            fault: OlderFault::Cut,
-        }),
+        unusable: Some("the older journal's end is cut: second: drive it once more"),
     },
 ];
 
@@ -46,11 +44,14 @@ fn are_as_told(alloc: Global, two: &Two<'_>) -> Result<bool, Fail> {
         store_of(alloc, SILENT.as_slice())?,
         store_of(alloc, two.second)?,
     ];
-    Ok(match joined_older(alloc, &mut stores) {
-        Ok(Some(journal)) => two.unusable.is_none() && journal.orders() == two.orders,
-        Ok(None) => false,
-        Err(unusable) => two.unusable == Some(unusable),
-    })
+    Ok(
+        match joined_older(alloc, &["first", "second"], &mut stores) {
+            Ok(Some(journal)) => two.unusable.is_none() && journal.orders() == two.orders,
+            Ok(None) => false,
+            Err(problem) => problem.fault == Fault::Older
+                && problem.words.as_deref() == two.unusable,
+        },
+    )
 }
 
 #[test]

@@ -6,6 +6,8 @@ use Rattle.std.specs.Prelude.{⊤}
 use Rattle.std.specs.Io.KnownBytes.{Appends}
 use Rattle.dali_bank.specs.Order.{Contents}
 use Rattle.dali_frame.specs.declared.forward.Frame.{Frame}
+use Rattle.dali_store.specs.declared.opening.OpenFault.{OpenFault}
+use Rattle.dali_store.specs.declared.opening.OpenFault.TheVariants.{Join}
 use Rattle.dali_trace.specs.declared.happening.Happening.{Happening}
 use Rattle.dali_trace.specs.declared.happening.Happening.TheVariants.{Answered}
 use Rattle.dali_trace.specs.declared.fault.DriveFault.{DriveFault}
@@ -17,8 +19,9 @@ use Rattle.dali_engine.specs.WriterState.{WriterState}
 use Rattle.dali_drive.specs.declared.following.Given.{Given}
 use Rattle.dali_drive.specs.declared.following.Given.TheVariants as gives
 use Rattle.dali_drive.specs.declared.listed.ListedOrders.{ListedOrders}
-use Rattle.dali_drive.specs.declared.stored.StoredFault.TheVariants.{Drive}
-use Rattle.dali_drive.specs.Behind.{IsFollowBehind, IsFollowBehindBreak, IsDriveBehind, IsDriveBehindBreak}
+use Rattle.dali_drive.specs.declared.stored.StoredFault.{StoredFault}
+use Rattle.dali_drive.specs.declared.stored.StoredFault.TheVariants.{Open, Drive}
+use Rattle.dali_drive.specs.Behind.{EndsBehind, IsFollowBehind, IsFollowBehindBreak, IsDriveBehind, IsDriveBehindBreak}
 use Rattle.dali_drive.specs.Desks.{Look}
 use Rattle.dali_drive.specs.Driven.{at_moment, IsDriven, orders_asked}
 use Rattle.dali_drive.specs.Followed.{Step, happenings, told_lines, given_in, submitted, as_given, muted, IsOver}
@@ -179,3 +182,28 @@ pub stored_end : {B : Type 0} (told : Start → B → B → List Happening → T
     → EndsAtFault limit most pace orders (Drive fault) old new
 stored_end told told_end limit most pace orders old new before after fault o =
     let b = rw o.behind.whole at o.observed.breaks in ((o.behind.begun, b.drive), b.left)
+
+-- a drive of a list without an older journal ends as over the store, whatever broke it off
+pub listed_end : {B : Type 0} (told : Start → B → B → List Happening → Type 0)
+    (told_end : Start → B → B → List Happening → DriveFault → Frame → List ℕ → Type 0) (limit most : ℕ) (pace : Pace)
+    (orders : List Contents) (moment : ℕ) (listed : ListedOrders)
+    → state_of listed ≡ record { rest = orders; moment = moment } → (old : Look) (before : B) (left : ListedOrders)
+    (new : Look) (after : B) (fault : StoredFault)
+    → EndsBehind GaveListed told told_end None limit most pace listed fault old before left new after
+    → EndsAtFault limit most pace (at_moment moment orders) fault old new
+listed_end told told_end limit most pace orders moment listed is old before left new after (Open (Join _)) ends =
+    absurd ends.why
+listed_end told told_end limit most pace orders moment listed is old before left new after (Open _) ends = ends.0
+listed_end told told_end limit most pace orders moment listed is old before left new after (Drive fault) ends =
+    stored_end told told_end limit most pace (at_moment moment orders) old new before after fault
+    (behind_broken told told_end None limit most pace orders moment listed is old.streams before left new.streams after
+    new.may_leave fault ends)
+
+-- a journal that is opened is joined to no older one then
+pub unopened : {G B : Type 0} (gave : G → G → List Given → Type 0) (told : Start → B → B → List Happening → Type 0)
+    (told_end : Start → B → B → List Happening → DriveFault → Frame → List ℕ → Type 0) (older : Option JournalState)
+    (limit most : ℕ) (pace : Pace) (orders : G) (fault : OpenFault) (old : Look) (before : B) (new : Look)
+    → EndsAtFault limit most pace [] (Open fault) old new
+    → EndsBehind gave told told_end older limit most pace orders (Open fault) old before orders new before
+unopened gave told told_end older limit most pace orders (Join fault) old before new ends = absurd ends.0.0
+unopened gave told told_end older limit most pace orders _ old before new ends = (ends, refl, refl)

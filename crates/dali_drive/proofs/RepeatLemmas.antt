@@ -38,6 +38,7 @@ unopened_same limit most found left (openings.Journal fault) (why, same) = inl s
 unopened_same limit most found left (openings.Store TooBig) (long, same) = inl same
 unopened_same limit most found left (openings.Store Failed) same = same
 unopened_same limit most found left (openings.Store NoMemory) same = inl same
+unopened_same limit most found left (openings.Join fault) never = absurd never
 
 -- the same file loads to the same records
 pub loads_still : (limit : ℕ) (records : List Record) (old new : List ℕ) → IsSameFile limit old new

@@ -4,12 +4,13 @@ use Rattle.std.proofs.Common.{◌≡◌, ℕ, List, [], Option, Some, codes}
 use Rattle.dali_frame.specs.declared.forward.Frame.{Frame}
 use Rattle.dali_journal.specs.declared.behind.JoinFault.{JoinFault}
 use Rattle.dali_journal.specs.JournalState.{JournalState}
-use Rattle.dali_store.specs.declared.opening.OpenFault.{OpenFault}
+use Rattle.dali_store.specs.declared.opening.OpenFault.TheVariants.{Store}
+use Rattle.dali_store.specs.declared.store.StoreFault.{StoreFault}
 use Rattle.dali_trace.specs.declared.fault.DriveFault.{DriveFault}
 use Rattle.dali_trace.specs.declared.happening.Happening.{Happening}
 use Rattle.dali_trace.specs.Trace.{Start}
-use Rattle.dali_drive.specs.declared.behind.BehindFault.TheVariants.{Open}
 use Rattle.dali_drive.specs.declared.following.Given.{Given}
+use Rattle.dali_drive.specs.declared.stored.StoredFault.TheVariants.{Open}
 use Rattle.dali_drive.specs.Behind.{EndsBehind, EndsUnjoined}
 use Rattle.dali_drive.specs.Desks.{Look}
 use Rattle.dali_write.specs.declared.pace.Pace.{Pace}
@@ -32,9 +33,10 @@ module _ {G B : Type 0} (older : Option JournalState) (limit most : ℕ) (orders
 
   module _ (gave : G → G → List Given → Type 0) (told : Start → B → B → List Happening → Type 0)
       (told_end : Start → B → B → List Happening → DriveFault → Frame → List ℕ → Type 0) (pace : Pace)
-      (fault : OpenFault) where
+      (fault : StoreFault) where
     abbrev EndsUnopened : Type 0
-    EndsUnopened = EndsBehind gave told told_end older limit most pace orders (Open fault) first before left last after
+    EndsUnopened =
+        EndsBehind gave told told_end older limit most pace orders (Open (Store fault)) first before left last after
 
     pub unopened_and_given : EndsUnopened → (left ≡ orders → ⊥) → ⊥
     unopened_and_given ends given = given ends.1

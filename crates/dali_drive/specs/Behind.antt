@@ -12,18 +12,19 @@ use Rattle.dali_journal.specs.JournalState.{JournalState, AreKept, order_count}
 use Rattle.dali_journal.specs.Orders.{kept_of}
 use Rattle.dali_journal.specs.Sentence.{is_begun, standing_of}
 use Rattle.dali_journal.specs.Spelling.{header, journal_spelling}
+use Rattle.dali_store.specs.declared.opening.OpenFault.{OpenFault}
+use Rattle.dali_store.specs.declared.opening.OpenFault.TheVariants.{Join}
 use Rattle.dali_trace.specs.declared.happening.Happening.{Happening}
 use Rattle.dali_trace.specs.declared.happening.Reply.{Reply}
 use Rattle.dali_trace.specs.Replies.{IsReply, IsKnownReply}
 use Rattle.dali_trace.specs.Trace.{Start, records_of}
 use Rattle.dali_engine.specs.WriterState.{WriterState, start_by}
-use Rattle.dali_drive.specs.declared.behind.BehindFault.{BehindFault}
-use Rattle.dali_drive.specs.declared.behind.BehindFault.TheVariants.{Open, Join, Drive}
 use Rattle.dali_trace.specs.declared.fault.DriveFault.{DriveFault}
 use Rattle.dali_drive.specs.declared.following.Given.{Given}
-use Rattle.dali_drive.specs.declared.stored.StoredFault.TheVariants as stored
+use Rattle.dali_drive.specs.declared.stored.StoredFault.{StoredFault}
+use Rattle.dali_drive.specs.declared.stored.StoredFault.TheVariants.{Open, Drive}
 use Rattle.dali_drive.specs.Followed.{IsObservedFollow, IsObservedFollowBreak}
-use Rattle.dali_drive.specs.Desks.{Failures, Look, IsDurableAt, IsUnfailed, FailsOpen, ShowsFault}
+use Rattle.dali_drive.specs.Desks.{Look, IsDurableAt, IsUnfailed}
 use Rattle.dali_drive.specs.Observed.{IsObserved, IsObservedBreak}
 use Rattle.dali_drive.specs.Stored.{IsBegun, EndsAtFault}
 use Rattle.dali_drive.specs.Transcript.{Streams}
@@ -101,21 +102,14 @@ pub record EndsUnjoined {G B : Type 0} (fault : JoinFault) (older : Option Journ
 -- why not all was followed
 abbrev pub EndsBehind : {G B : Type 0} → (G → G → List Given → Type 0) → (Start → B → B → List Happening → Type 0)
     → (Start → B → B → List Happening → DriveFault → Frame → List ℕ → Type 0) → Option JournalState → ℕ → ℕ → Pace → G
-    → BehindFault → Look → B → G → Look → B → Type 0
-EndsBehind gave told told_end older limit most pace orders (Open fault) first before orders_left last after =
-    EndsAtFault limit most pace [] (stored.Open fault) first last × (orders_left ≡ orders) × (after ≡ before)
-EndsBehind gave told told_end older limit most pace orders (Join fault) first before orders_left last after =
+    → StoredFault → Look → B → G → Look → B → Type 0
+EndsBehind gave told told_end older limit most pace orders (Open (Join fault)) first before orders_left last after =
     EndsUnjoined fault older limit most orders first.streams before orders_left last after
+EndsBehind gave told told_end older limit most pace orders (Open fault) first before orders_left last after =
+    EndsAtFault limit most pace [] (Open fault) first last × (orders_left ≡ orders) × (after ≡ before)
 EndsBehind gave told told_end older limit most pace orders (Drive fault) first before orders_left last after =
     IsFollowBehindBreak gave told told_end older limit most pace orders fault first.streams before orders_left
-    last.streams
-    after last.may_leave
-
--- which streams have failed where this fault comes
-abbrev pub BehindShows : BehindFault → Failures → Type 0
-BehindShows (Open fault) failed = FailsOpen fault failed
-BehindShows (Join fault) failed = IsUnfailed failed
-BehindShows (Drive fault) failed = ShowsFault fault failed
+    last.streams after last.may_leave
 
 -- With older journals each order acts once: none of the older orders is begun again, each gets the reply that they keep
 -- for it, or its number is another order's, and the records that the store keeps are a journal by themselves.

@@ -3,31 +3,20 @@ ghost use Rattle.std.specs.Prelude.{◌≡◌, IfOk, IfErr, IfSome, OnOk};
 ghost use Rattle.dali_journal.specs.declared.standing.Standing.TheVariants.{Idle};
 ghost use Rattle.dali_journal.specs.Sentence.{standing_of};
 ghost use Rattle.dali_store.specs.Stores.{LeavesOnly};
-ghost use Rattle.dali_drive.specs.Behind.{IsFollowBehind, IsReadyBehind, EndsBehind, BehindShows, IsWhole, IsUnjoined};
+ghost use Rattle.dali_drive.specs.Behind.{IsFollowBehind, IsReadyBehind, EndsBehind, IsWhole, IsUnjoined};
 ghost use Rattle.dali_drive.specs.Desks.{IsDurableAt};
-ghost use Rattle.dali_drive.specs.Stored.{LeavesPart};
+ghost use Rattle.dali_drive.specs.Stored.{LeavesPart, StoredShows};
 ghost use Rattle.dali_drive.specs.WorkedOn.{IsReady};
 
 use crate::desk::OpenDesk;
 use crate::following::{Orders, follow};
 use crate::observer::Observer;
+use crate::stored::StoredFault;
 use dali_engine::Writer;
 use dali_journal::{JoinFault, Journal};
 use dali_store::OpenFault;
-use dali_trace::DriveFault;
 use dali_write::Pace;
 use std::alloc::Global;
-
-/// Why orders weren't all followed after older journals.
-#[derive(Clone, Copy, Debug, PartialEq, Eq)]
-pub enum BehindFault {
-    /// The journal isn't opened, and no stream was touched.
-    Open(OpenFault),
-    /// The journal and the older ones are none together, and no stream was touched.
-    Join(JoinFault),
-    /// The drive broke off.
-    Drive(DriveFault),
-}
 
 /// The terms of a drive (profile).
 #[derive(Clone, Copy, PartialEq, Eq)]
@@ -52,7 +41,7 @@ pub fn follow_stored<D: OpenDesk, G: Orders, B: Observer>(
     orders: &mut G,
     desk: &mut D,
     observer: &mut B,
-) -> Result<Writer, BehindFault>
+) -> Result<Writer, StoredFault>
     requires ready { IsReadyBehind older (D.look desk.old) }
     ensures followed { IfOk result (λ writer. IsFollowBehind G.gave G.over B.told older terms.orders terms.bytes
         terms.pace
@@ -62,21 +51,21 @@ pub fn follow_stored<D: OpenDesk, G: Orders, B: Observer>(
         terms.pace
         orders.old fault (D.look desk.old) observer.old orders.new (D.look desk.new) observer.new) }
     ensures settled { OnOk result (IsDurableAt (D.look desk.new)) }
-    ensures err { IfErr result (λ fault. BehindShows fault (D.look desk.new).failed) }
+    ensures err { IfErr result (λ fault. StoredShows fault (D.look desk.new).failed) }
     ensures any_moment { LeavesOnly D.moment D.left_since desk.old desk.new (LeavesPart terms.orders
         (D.look desk.old).streams.journal (D.look desk.new).streams.journal (D.look desk.old).may_leave) }
 {
     let own = match desk.open(alloc, terms.orders, terms.bytes) {
         Ok(own) => own,
-        Err(fault) => return Err(BehindFault::Open(fault)),
+        Err(fault) => return Err(StoredFault::Open(fault)),
     };
     let whole = match joined(own, older) {
         Ok(whole) => whole,
-        Err(fault) => return Err(BehindFault::Join(fault)),
+        Err(fault) => return Err(StoredFault::Open(OpenFault::Join(fault))),
     };
     match follow(Writer::with_pace(whole, terms.pace), orders, desk, observer) {
         Ok(writer) => Ok(writer),
-        Err(fault) => Err(BehindFault::Drive(fault)),
+        Err(fault) => Err(StoredFault::Drive(fault)),
     }
 }
 

@@ -25,7 +25,7 @@ mod survey;
 mod survey_lines;
 mod unit_lines;
 
-pub use behind::{BehindFault, Terms, follow_stored};
+pub use behind::{Terms, follow_stored};
 pub use dali_trace::DriveFault;
 pub use desk::{Desk, OpenDesk};
 pub use driving::{drive, drive_at};

@@ -6,7 +6,7 @@ ghost use Rattle.dali_drive.specs.Desks.{IsUnfailed, IsDurableAt};
 ghost use Rattle.dali_drive.specs.Driven.{at_moment};
 ghost use Rattle.dali_drive.specs.WorkedOn.{IsReady};
 
-use crate::behind::{BehindFault, Terms, follow_stored};
+use crate::behind::{Terms, follow_stored};
 use crate::desk::OpenDesk;
 use crate::listed::ListedOrders;
 use crate::observer::Nobody;
@@ -16,10 +16,10 @@ use dali_store::OpenFault;
 use dali_trace::DriveFault;
 use std::alloc::Global;
 
-/// Why the orders of a store weren't all driven.
+/// Why orders weren't all driven or followed with the journal of a store.
 #[derive(Clone, Copy, Debug, PartialEq, Eq)]
 pub enum StoredFault {
-    /// The journal isn't opened, and no stream was touched.
+    /// The journal isn't opened, or can't follow the older ones, and no other stream was touched.
     Open(OpenFault),
     /// The drive broke off.
     Drive(DriveFault),
@@ -50,10 +50,5 @@ pub fn drive_stored<D: OpenDesk>(
         (D.look desk.old).streams.journal (D.look desk.new).streams.journal (D.look desk.old).may_leave) }
 {
     let mut listed = ListedOrders::new(orders, moment);
-    match follow_stored(alloc, None, terms, &mut listed, desk, &mut Nobody) {
-        Ok(writer) => Ok(writer),
-        Err(BehindFault::Open(fault)) => Err(StoredFault::Open(fault)),
-        Err(BehindFault::Join(_)) => unreachable!(),
-        Err(BehindFault::Drive(fault)) => Err(StoredFault::Drive(fault)),
-    }
+    follow_stored(alloc, None, terms, &mut listed, desk, &mut Nobody)
 }

@@ -10,7 +10,7 @@ use Rattle.dali_frame.specs.Frame.{Spells}
 use Rattle.dali_text.specs.FrameLine.{frame_line}
 use Rattle.dali_text.specs.declared.output.Output.{Output}
 use Rattle.dali_text.specs.Output.{held}
-use Rattle.dali_notes.specs.Notes.{Tells}
+use Rattle.dali_file_commands.specs.NoteLines.{Tells}
 use Rattle.dali_faults.specs.declared.fault.Status.{Status}
 use Rattle.dali_faults.specs.declared.fault.Status.TheVariants.{Good}
 use Rattle.dali_file_commands.specs.FrameAnswers.{AreFourDigits}

@@ -3,6 +3,7 @@ pub mod KnownLemmas
 pub mod FrameLemmas
 pub mod ReportLemmas
 pub mod RunLemmas
+mod NoteLineLemmas
 pub mod NoteLemmas
 mod WorkedNoteLemmas
 mod WorkedKnownLemmas

@@ -5,7 +5,7 @@ use Rattle.std.specs.Io.KnownBytes.{Appends}
 use Rattle.dali_text.specs.declared.output.Output.{Output}
 use Rattle.dali_text.proofs.StreamLemmas.{appends_both}
 use Rattle.dali_input.specs.Orders.{Outcome}
-use Rattle.dali_notes.specs.Notes.{Tells}
+use Rattle.dali_file_commands.specs.NoteLines.{Tells}
 use Rattle.dali_faults.specs.declared.fault.Fault.{Fault}
 use Rattle.dali_faults.specs.declared.fault.Status.{Status}
 use Rattle.dali_faults.specs.Faults.{told_line}

@@ -18,7 +18,7 @@ use Rattle.dali_faults.specs.declared.fault.Status.TheVariants.{Good}
 use Rattle.dali_faults.specs.Faults.{told_line, status_of}
 use Rattle.dali_text.specs.declared.output.Output.{Output}
 use Rattle.dali_text.specs.Output.{held}
-use Rattle.dali_notes.specs.Notes.{Tells}
+use Rattle.dali_file_commands.specs.NoteLines.{Tells}
 use Rattle.dali_file_commands.specs.Notes.{IsNotedAnswer}
 use Rattle.dali_file_commands.specs.RunAnswers.{IsRan, IsRunAnswer, IsUnderstood, IsUnrun}
 use Rattle.std.proofs.KnownBytes.{Appends-nil}

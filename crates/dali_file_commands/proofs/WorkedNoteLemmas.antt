@@ -2,7 +2,7 @@
 use Rattle.std.proofs.Common.{◌≡◌, ℕ, zero, suc, ◌+◌, List, [], ◌∷◌, ◌++◌, Err, length, inl, inr, ap, ◌∙◌, arith, codes}
 use Rattle.std.proofs.Common.{length-append}
 use Rattle.dali_input.specs.declared.item.ItemFault.{ItemFault}
-use Rattle.dali_notes.specs.Notes.{ArePlain, SomeLines, number_front, order_front}
+use Rattle.dali_file_commands.specs.NoteLines.{ArePlain, SomeLines, number_front, order_front}
 use Rattle.dali_file_commands.specs.Notes.{IsItemNote}
 
 -- no line is nothing

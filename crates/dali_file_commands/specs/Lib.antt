@@ -7,4 +7,5 @@ pub mod BankAnswers
 pub mod RunAnswers
 pub mod JournalAnswers
 pub mod FileCommands
+pub mod NoteLines
 pub mod Notes

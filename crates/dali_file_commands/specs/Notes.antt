@@ -1,7 +1,7 @@
 -- The notes for a person that go with what a command writes: on each item and each fault, by the number that is written
 -- there too.
 use Rattle.std.specs.Prelude.{◌≡◌, ◌⊎◌, ℕ, List, [], Option, Ok, Err, codes}
-use Rattle.dali_notes.specs.Notes.{SomeAbout, SomeLines}
+use Rattle.dali_file_commands.specs.NoteLines.{SomeAbout, SomeLines}
 use Rattle.dali_input.specs.declared.fault.InputFault.{InputFault}
 use Rattle.dali_input.specs.declared.fault.InputFault.TheVariants.{Json, Document, TooBig, Hex, Memory, File}
 use Rattle.dali_input.specs.declared.setup.SetupFault.TheVariants as setup

@@ -6,7 +6,7 @@ ghost use Rattle.dali_input.specs.Items.{Judges};
 ghost use Rattle.dali_input.specs.ItemsLeft.{AreLeft, IsItem};
 ghost use Rattle.dali_input.specs.Orders.{Outcome, JudgesEach, orders_limit};
 ghost use Rattle.dali_faults.specs.Ends.{TellsEnd};
-ghost use Rattle.dali_notes.specs.Notes.{SomeAbout, Tells};
+ghost use Rattle.dali_file_commands.specs.NoteLines.{SomeAbout, Tells};
 ghost use Rattle.dali_file_commands.specs.Known.{asked};
 ghost use Rattle.dali_file_commands.specs.Survey.{IsSurveyed};
 ghost use Rattle.dali_file_commands.specs.Report.{accepted_count, refused_count, report_status, AreEach, AreItemLines};
@@ -14,12 +14,13 @@ ghost use Rattle.dali_file_commands.specs.Report.{IsAnswered, IsChecked, IsRepor
 ghost use Rattle.dali_file_commands.specs.Notes.{AreItemNotes, IsItemNote, IsNotedCheck};
 
 use crate::known::{Ledger, write_free, write_known};
-use crate::notes::write_noted_failure;
+use crate::notes::{
+    Note, Repeats, note_of_accepted, note_of_item, note_of_orders, write_noted_failure,
+};
 use dali_bank::Order;
 use dali_faults::{Fault, Status, write_refused_item};
 use dali_input::{Input, Item, ItemFault, Items, ORDERS_LIMIT, read_input};
 use dali_journal::Journal;
-use dali_notes::{Note, Repeats, note_of_accepted, note_of_item, note_of_orders};
 use dali_text::{Output, OutputFailed, write_order, write_tally};
 use json::Scratch;
 use std::alloc::Global;

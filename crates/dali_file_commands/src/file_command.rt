@@ -1,7 +1,7 @@
 ghost use Rattle.std.specs.Prelude.{◌≡◌, ◌≢◌, ◌↔◌, ℕ, List, true};
 ghost use Rattle.dali_text.specs.Output.{Takes, has_failed, is_flushed};
 ghost use Rattle.dali_input.specs.Input.{ReadsAtMost, state_of};
-ghost use Rattle.dali_notes.specs.Notes.{Tells};
+ghost use Rattle.dali_file_commands.specs.NoteLines.{Tells};
 ghost use Rattle.dali_file_commands.specs.FileCommands.{IsCarriedOut, limit_of};
 ghost use Rattle.dali_file_commands.specs.Notes.{IsNoted};
 

@@ -10,7 +10,7 @@ mod file_command;
 pub mod frame;
 pub mod journal;
 pub mod known;
-mod notes;
+pub mod notes;
 pub mod run_scenario;
 pub mod show;
 

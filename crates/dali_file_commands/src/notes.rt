@@ -1,69 +1,41 @@
-ghost use Rattle.std.specs.Prelude.{◌≡◌, ◌≢◌, IfOk, OnOk};
-ghost use Rattle.dali_text.specs.Output.{Takes};
-ghost use Rattle.dali_notes.specs.Notes.{Tells};
-ghost use Rattle.dali_faults.specs.Ends.{TellsEnd};
-ghost use Rattle.dali_faults.specs.Faults.{status_of, told_line};
-ghost use Rattle.dali_file_commands.specs.Notes.{IsFaultNote, IsInputNote};
+//! The notes for a person that go with an answer (profile): where in an input a fault is, what is there, and what has
+//! to be there. The lines are for standard error; an answer never depends on them.
+//!
+//! A `Note` holds the lines on one fault. It is written to an `Output` whose failure is ignored: later calls write
+//! nothing more there then.
 
-use dali_faults::{Fault, Status, write_failure};
-use dali_input::{InputFault, SetupFault};
-use dali_journal::JournalFault;
-use dali_notes::Note;
-use dali_text::{Output, OutputFailed};
-use dali_trace::{DriveFault, RunFault};
-use std::io::Write;
+mod accepted_note;
+mod bank_note;
+mod described;
+mod failure;
+mod first_lines;
+mod firsts;
+mod flaw;
+mod front;
+mod item_note;
+mod journal_note;
+mod json_note;
+mod kind;
+mod near_key;
+mod note;
+mod position;
+mod repeats;
+mod scenario_note;
+mod scenario_rule;
+mod setup_note;
+mod told_key;
+mod word_note;
 
-/// Writes why a command gave up, and nothing after it, and tells a person in `notes` what is wrong there.
-pub fn write_noted_failure<W: Write, N: Write>(
-    output: &mut Output<W>,
-    fault: Fault,
-    notes: &mut Output<N>,
-    note: &Note,
-) -> Result<Status, OutputFailed>
-    ensures told { OnOk result (Takes W.contents output.old output.new (told_line fault)) }
-    ensures status { IfOk result (λ status. status ≡ status_of fault) }
-    ensures end { fault ≢ Fault.Drive DriveFault.Out → TellsEnd result output.new }
-    ensures noted { Tells N.contents notes.old notes.new (IsFaultNote fault) }
-{
-    note_fault(notes, fault, note);
-    write_failure(output, fault)
-}
-
-// Tells what is wrong if a fault has such a note.
-fn note_fault<N: Write>(notes: &mut Output<N>, fault: Fault, note: &Note)
-    ensures { Tells N.contents notes.old notes.new (IsFaultNote fault) }
-{
-    match fault {
-        Fault::Input(fault) | Fault::Setup(SetupFault::Input(fault)) => {
-            note_input_fault(notes, fault, note)
-        }
-        Fault::Setup(SetupFault::Unit(number, _)) => note.tell_about(notes, "unit", number),
-        Fault::Setup(SetupFault::Order(number, _)) => note.tell_about(notes, "event", number),
-        Fault::Setup(SetupFault::SameAddress)
-        | Fault::Run(RunFault::Limit)
-        | Fault::Journal(
-            JournalFault::Limit
-            | JournalFault::Record(_)
-            | JournalFault::Sequence(_)
-            | JournalFault::Repeated(_)
-            | JournalFault::Full(_)
-            | JournalFault::Header,
-        ) => note.tell(notes),
-        Fault::Run(RunFault::NoMemory)
-        | Fault::Journal(JournalFault::NoMemory)
-        | Fault::Drive(_)
-        | Fault::Older => {}
-    }
-}
-
-// Notes what is wrong with an input as a whole, if the fault is about what it says or how long it is.
-fn note_input_fault<N: Write>(notes: &mut Output<N>, fault: InputFault, note: &Note)
-    ensures { Tells N.contents notes.old notes.new (IsInputNote fault) }
-{
-    match fault {
-        InputFault::Json | InputFault::Document | InputFault::TooBig | InputFault::Hex => {
-            note.tell(notes)
-        }
-        InputFault::Memory | InputFault::File => {}
-    }
-}
+pub use accepted_note::note_of_accepted;
+pub use bank_note::note_of_bank;
+pub use failure::write_noted_failure;
+pub use first_lines::FirstLines;
+pub use item_note::note_of_item;
+pub use journal_note::note_of_journal;
+pub use json_note::{note_of_json, note_of_orders, note_of_size};
+pub use kind::Kind;
+pub use note::Note;
+pub use repeats::Repeats;
+pub use scenario_note::note_of_scenario;
+pub use setup_note::note_of_setup;
+pub use word_note::note_of_word;

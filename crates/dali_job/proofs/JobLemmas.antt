@@ -1,8 +1,10 @@
 -- Lemmas on what the command line names.
 use Rattle.std.proofs.Common.{◌≡◌, ◌<◌, ◌≤◌, List, [], ◌∷◌, ◌++◌, ℕ, zero, suc, map, take, length, get_or, arith}
-use Rattle.std.proofs.Common.{Bool, Bor, Option, Some, None, IfSome, IfNone, true, false, option_map}
+use Rattle.std.proofs.Common.{Bool, Bor, Option, Some, None, IfSome, IfNone, true, false, option_map, inl, inr}
 use Rattle.std.proofs.Common.{Result, Ok, Err, IfOk, IsOkAnd, codes, refl, ap, ap₂, sym, subst, ◌∙◌, ◌||◌}
+use Rattle.std.proofs.lemmas.Bool.{eqb-true, eqb-false}
 use mathlib.Core.Bool.{beq}
+use Rattle.std.specs.Prelude.{◌==◌, ◌≢◌, is_some, not}
 use Rattle.std.specs.Bool.{Decides}
 use Rattle.std.specs.Option.{option_eq}
 use Rattle.std.specs.Str.Parse.{ParsesBool, ParsesUnsigned}
@@ -14,12 +16,20 @@ use Rattle.clap.specs.declared.builder.arg.Arg.{Arg}
 use Rattle.clap.specs.declared.builder.command.Command.{Command}
 use Rattle.clap.specs.declared.parser.matches.ArgMatches.{ArgMatches}
 use Rattle.clap.proofs.OnLiterals.{clap_on_literals}
-use Rattle.dali_job.specs.Jobs.{HasFlag, HasNumber, HasOption, HasValue, IsEntered, IsJob, IsNoCheck, IsNoDrive}
-use Rattle.dali_job.specs.Jobs.{AreUnits, IsApp, IsNoAddress, IsNoScan, IsRule}
-use Rattle.dali_job.specs.Jobs.{IsNoJob, IsNumber, bench_app}
+use Rattle.dali_job.specs.Jobs.{HasAsked, HasFlag, HasNumber, HasOption, HasValue, IsApp, IsCommand, IsEntered, IsErrorIn, IsJob, IsLeftOut}
+use Rattle.dali_job.specs.Jobs.{AreUnits, IsJobError, IsNoCheck, IsNoLink, IsNothing, IsNumber, IsRefused, IsRule}
+use Rattle.dali_job.specs.Jobs.{IsJobOf, IsShortJob, IsTaskOf, IsWantOfMemory, bench_app}
+use Rattle.dali_job.specs.LinkOptions.{IsShort, asked_of}
 use Rattle.dali_job.specs.declared.job.Job.{Job}
-use Rattle.dali_job.specs.declared.job.Job.TheVariants.{Address, Check, Run, Frame, Show, Journal, Fields, Drive, Read}
-use Rattle.dali_job.specs.declared.job.Job.TheVariants.{Verify, Scan}
+use Rattle.dali_job.specs.declared.job.Job.TheVariants.{Check, Run, Frame, Show, Journal, Fields, Link}
+use Rattle.dali_job.specs.declared.job.Job.TheVariants as jobs
+use Rattle.dali_job.specs.declared.link_command.Asked.{Asked}
+use Rattle.dali_job.specs.declared.link_command.LinkCommand.{LinkCommand}
+use Rattle.dali_job.specs.declared.link_command.LinkCommand.TheVariants.{Drive, Read, Verify, Scan, Address}
+use Rattle.dali_job.specs.declared.refusal.JobError.{JobError}
+use Rattle.dali_job.specs.declared.refusal.JobError.TheVariants.{Clap, Refused}
+use Rattle.dali_job.specs.declared.refusal.Refusal.{Refusal}
+use Rattle.dali_job.specs.declared.refusal.Refusal.TheVariants.{OlderAlone, SeveralAsked, UnitsUnasked, NamedTwice}
 
 bench_is_simple : is_simple bench_app ≡ true
 unfolding clap_on_literals
@@ -196,35 +206,91 @@ with_added E program made (Err error) before next was_is is_next added = tt
 
 -- ---- jobs
 
+-- if a parse entered no command over a link, no such job is that of the command that it entered
+no_link_job : (entered : Option (Text × List Row)) → IsNoLink entered → (command : LinkCommand)
+    → ¬ IsCommand entered command
+no_link_job entered none (Drive task) = none.3 task
+no_link_job entered none (Read unit bank) = λ named. none.0.1 unit bank.now named.0 named.1
+no_link_job entered none (Verify orders report) = λ named. none.0.0 orders.now named.0
+no_link_job entered none (Scan addresses sought) = λ named. none.1 addresses.items named.0
+no_link_job entered none (Address command) = λ named. none.2 command.units.items named.units_are
+
 -- if no command has its value, the parse entered no job's
-pub no_job : (entered : Option (Text × List Row))
+no_job : (entered : Option (Text × List Row))
     → ¬ IsEntered entered (codes "fields")
     → ((value : Text) → ¬ HasValue entered (codes "run") (codes "SCENARIO") value)
     → ((value : Text) → ¬ HasValue entered (codes "frame") (codes "HEX") value)
     → ((value : Text) → ¬ HasValue entered (codes "show") (codes "HEXFILE") value)
     → ((value : Text) → ¬ HasValue entered (codes "journal") (codes "FILE") value)
-    → ((value : Text) → ¬ HasValue entered (codes "verify") (codes "ORDERS") value)
-    → ((unit : ℕ) (bank : Bor Text) (progress : Bool) → ¬ IsJob entered (Read unit bank progress))
-    → IsNoCheck entered → IsNoScan entered → IsNoAddress entered → IsNoDrive entered → IsNoJob entered
-no_job _ no_fields _ _ _ _ _ _ _ _ _ _ Fields = no_fields
-no_job _ _ no_scenario _ _ _ _ _ _ _ _ _ (Run scenario _) = λ named. no_scenario scenario.now named.0
-no_job _ _ _ no_digits _ _ _ _ _ _ _ _ (Frame digits) = no_digits digits.now
-no_job _ _ _ _ no_dump _ _ _ _ _ _ _ (Show dump) = no_dump dump.now
-no_job _ _ _ _ _ no_records _ _ _ _ _ _ (Journal records _) = λ named. no_records records.now named.0
-no_job _ _ _ _ _ _ no_compared _ _ _ _ _ (Verify orders _ _) = λ named. no_compared orders.now named.0
-no_job _ _ _ _ _ _ _ no_read _ _ _ _ (Read unit bank progress) = no_read unit bank progress
-no_job _ _ _ _ _ _ _ _ no_check _ _ _ (Check orders journal older) = no_check orders journal older
-no_job _ _ _ _ _ _ _ _ _ no_scan _ _ (Scan units with_gtin progress) = no_scan units with_gtin progress
-no_job _ _ _ _ _ _ _ _ _ _ no_address _ (Address units all list count journal progress) =
-    no_address units all list count journal progress
-no_job _ _ _ _ _ _ _ _ _ _ _ no_drive
-    (Drive orders journal moment follow short_plan require_done require_now require_journal progress report older) =
-    no_drive orders journal moment follow short_plan require_done require_now require_journal progress report older
+    → IsNoCheck entered → IsNoLink entered → (job : Job) → ¬ IsJob entered job
+no_job _ no_fields _ _ _ _ _ _ Fields = no_fields
+no_job _ _ no_scenario _ _ _ _ _ (Run scenario _) = λ named. no_scenario scenario.now named.0
+no_job _ _ _ no_digits _ _ _ _ (Frame digits) = no_digits digits.now
+no_job _ _ _ _ no_dump _ _ _ (Show dump) = no_dump dump.now
+no_job _ _ _ _ _ no_records _ _ (Journal records _) = λ named. no_records records.now named.0
+no_job _ _ _ _ _ _ no_check _ (Check orders journal older) =
+    λ named. no_check orders.now (map (λ (value : Bor Text). value.now) older.items) named.0 named.2
+no_job entered _ _ _ _ _ _ no_link (Link command progress) = λ named. no_link_job entered no_link command named.0
+no_job _ _ _ _ _ _ _ _ (jobs.Refused refusal) = λ named. named
 
--- what follows from what there is if no job was found
-pub none_then : (found : Option Job) (P Q : Type 0) → (P → Q) → IfNone found P → IfNone found Q
-none_then None P Q follows none = follows none
-none_then (Some job) P Q follows none = tt
+-- nor is it refused
+none_refused : (entered : Option (Text × List Row)) → IsNoCheck entered → IsNoLink entered
+    → (refusal : Refusal) → ¬ IsRefused entered refusal
+none_refused entered no_check no_link OlderAlone = λ is. no_check is.0 is.1 is.2 is.4
+none_refused entered no_check no_link SeveralAsked = λ is. no_link.2 is.0 is.1
+none_refused entered no_check no_link UnitsUnasked = λ is. no_link.2 is.1 is.4
+none_refused entered no_check no_link (NamedTwice unit) = either
+  where
+    either : ¬ IsRefused entered (NamedTwice unit)
+    either (inl scan) = no_link.1 scan.0 scan.1
+    either (inr address) = no_link.2 address.1 address.4
+
+pub nothing_named : (entered : Option (Text × List Row))
+    → ¬ IsEntered entered (codes "fields")
+    → ((value : Text) → ¬ HasValue entered (codes "run") (codes "SCENARIO") value)
+    → ((value : Text) → ¬ HasValue entered (codes "frame") (codes "HEX") value)
+    → ((value : Text) → ¬ HasValue entered (codes "show") (codes "HEXFILE") value)
+    → ((value : Text) → ¬ HasValue entered (codes "journal") (codes "FILE") value)
+    → IsNoCheck entered → IsNoLink entered → IsNothing entered
+nothing_named entered no_fields no_run no_frame no_show no_journal no_check no_link =
+    let none = no_job entered no_fields no_run no_frame no_show no_journal no_check no_link in
+    (none, none_refused entered no_check no_link)
+
+-- an error of the command that the words enter is one of the words
+pub error_of_words : (words : List Text) (error : JobError) → IsErrorIn (subcommand_of bench_app words) error
+    → IsJobError words error
+error_of_words words (Clap error) is = inl (inl is)
+error_of_words words (Refused refusal) is = is
+
+-- a command over a link names only short addresses of units
+command_is_short : (entered : Option (Text × List Row)) (command : LinkCommand) → IsCommand entered command
+    → IsShort command
+command_is_short entered (Drive task) is = tt
+command_is_short entered (Read unit bank) is = is.0.1
+command_is_short entered (Verify orders report) is = tt
+command_is_short entered (Scan addresses sought) is = is.0.2.1
+command_is_short entered (Address command) is = tt
+
+pub job_is_short : (words : List Text) (job : Job) → IsTaskOf words job → IsShortJob job
+job_is_short words (Link command progress) is = command_is_short _ command is.0
+job_is_short words (Check orders journal older) is = tt
+job_is_short words (Run scenario single_frames) is = tt
+job_is_short words (Frame digits) is = tt
+job_is_short words (Show dump) is = tt
+job_is_short words (Journal records with_updates) is = tt
+job_is_short words Fields is = tt
+job_is_short words (jobs.Refused refusal) is = tt
+
+-- the command that the words name is a job of theirs
+pub job_of_task : (words : List Text) (job : Job) → IsTaskOf words job → IsJobOf words job
+job_of_task words (Link command progress) is = is
+job_of_task words (Check orders journal older) is = is
+job_of_task words (Run scenario single_frames) is = is
+job_of_task words (Frame digits) is = is
+job_of_task words (Show dump) is = is
+job_of_task words (Journal records with_updates) is = is
+job_of_task words Fields is = is
+job_of_task words (jobs.Refused refusal) is = absurd is
 
 -- what `get_one` reads of a text as a `bool` is true exactly when the text is `true`
 read_as_true : (E : Type 0) (text : Option Text) (o : Option Bool) → (text ≡ None → o ≡ None)
@@ -252,3 +318,37 @@ flag_decided E entered command id rows o e none value =
     let same : Some rows ≡ Some flag.0 = ap second (sym e ∙ flag.1) in
     let given : one_of id flag.0 ≡ Some (codes "true") = flag.2 in cc)
     (read_as_true E (one_of id rows) o none value)
+
+-- ---- the flags of `address`
+
+-- the task that they ask for
+pub asks_for : (entered : Option (Text × List Row)) (all list count : Bool) (asked : Option Asked)
+    → Decides all (HasFlag entered (codes "address") (codes "all"))
+    → Decides list (HasFlag entered (codes "address") (codes "list"))
+    → Decides count (HasFlag entered (codes "address") (codes "count"))
+    → asked ≡ asked_of all list count → IfSome asked (HasAsked entered)
+asks_for entered all list count None all_is list_is count_is is = tt
+asks_for entered all list count (Some asked) all_is list_is count_is is =
+    (all, list, count, all_is, list_is, count_is, sym is)
+
+-- ---- older journals beside none to ask
+
+pub left_out : (entered : Option (Text × List Row)) (command id : Text) (o : Option (Bor Text))
+    → HasOption entered command id o → is_some o ≡ false → IsLeftOut entered command id
+left_out entered command id None has none = has
+left_out entered command id (Some value) has none = cc
+
+pub none_where : {A : Type 0} (items : List A) (count : ℕ) (b : Bool) → count ≡ length items → b ≡ (count == 0)
+    → b ≡ true → items ≡ []
+none_where [] count b is tested holds = refl
+none_where (item ∷ items) count b is tested holds =
+    let none : suc (length items) ≡ 0 = sym is ∙ eqb-true count 0 (sym tested ∙ holds) in absurd (omega (arith, none))
+
+pub some_where : (texts : List (Bor Text)) (count : ℕ) (b : Bool) → count ≡ length texts → b ≡ (count == 0)
+    → b ≡ false → texts_of texts ≢ []
+some_where [] count b is tested fails = λ none. eqb-false count 0 (sym tested ∙ fails) is
+some_where (text ∷ texts) count b is tested fails = λ none. cc
+
+pub not_none : (o : Option (Bor Text)) (b : Bool) → is_some o ≡ not b → b ≡ false → o ≢ None
+not_none None b is fails = λ none. let clash : false ≡ true = is ∙ ap not fails in cc
+not_none (Some value) b is fails = λ none. cc

@@ -7,7 +7,11 @@ use Rattle.std.specs.declared.alloc.Global.{Global}
 use Rattle.clap.specs.Words.{Row, Text, all_of, fault_of, first_of, one_of, subcommand_of}
 use Rattle.clap.specs.declared.error.kind.ErrorKind.TheVariants.{UnknownArgument}
 use Rattle.clap.proofs.OnLiterals.{clap_on_literals}
-use Rattle.dali_job.specs.declared.job.Job.TheVariants.{Address, Check, Run, Fields, Read, Verify, Scan}
+use Rattle.dali_drive.specs.declared.sought.Sought.{Sought}
+use Rattle.dali_drive.specs.declared.sought.Sought.TheVariants.{Last}
+use Rattle.dali_job.specs.declared.job.Job.TheVariants.{Check, Run, Fields, Link}
+use Rattle.dali_job.specs.declared.link_command.AddressCommand.{AddressCommand}
+use Rattle.dali_job.specs.declared.link_command.LinkCommand.TheVariants.{Address, Read, Verify, Scan}
 use Rattle.dali_job.specs.Jobs.{AreUnits, HasFlag, HasNumber, HasOption, HasUnits, HasValue, HasValues, IsJobOf}
 use Rattle.dali_job.specs.Jobs.{IsNumber, bench_app}
 
@@ -73,16 +77,23 @@ values_are entered command id values (rows, is, given) =
 -- ---- commands without options
 
 pub scan_asked : (units : Vec ℕ Global) → units.items ≡ []
-    → IsJobOf (codes "dali_bench" ∷ codes "scan" ∷ []) (Scan units false false)
+    → IsJobOf (codes "dali_bench" ∷ codes "scan" ∷ []) (Link (Scan units Last) false)
 unfolding clap_on_literals
 scan_asked units none =
     let rows = rows_in (entered_by (codes "scan" ∷ [])) in (
-      ([], (rows, refl, refl), rw none (tt, tt)),
       (
-        λ is. cc,
-        λ has.
-            let given : Some (codes "false") ≡ Some (codes "true") =
-            flag_is (entered_by (codes "scan" ∷ [])) (codes "scan") (codes "gtin") has in cc,
+        ([], (rows, refl, refl), rw none (tt, tt)),
+        rw none refl,
+        (
+          false,
+          (
+            λ is. cc,
+            λ has.
+                let given : Some (codes "false") ≡ Some (codes "true") =
+                flag_is (entered_by (codes "scan" ∷ [])) (codes "scan") (codes "gtin") has in cc,
+          ),
+          refl,
+        ),
       ),
       (
         λ is. cc,
@@ -111,11 +122,11 @@ gtin_asked = (rows_in scanned, refl, refl)
 pub unit_64_not_scanned : (texts : List Text) → ¬ AreUnits texts (5 ∷ 64 ∷ [])
 unit_64_not_scanned texts = λ are. omega (arith, are.1.1.0)
 
-pub no_scan_asked_by_check : (units : Vec ℕ Global) (with_gtin progress : Bool)
-    → ¬ IsJobOf (codes "dali_bench" ∷ codes "check" ∷ codes "a" ∷ []) (Scan units with_gtin progress)
+pub no_scan_asked_by_check : (units : Vec ℕ Global) (sought : Sought) (progress : Bool)
+    → ¬ IsJobOf (codes "dali_bench" ∷ codes "check" ∷ codes "a" ∷ []) (Link (Scan units sought) progress)
 unfolding clap_on_literals
-no_scan_asked_by_check units with_gtin progress = λ is.
-    let (texts, (rows, entered, given), are) = is.0 in
+no_scan_asked_by_check units sought progress = λ is.
+    let (texts, (rows, entered, given), are) = is.0.0 in
     let other : codes "check" ≡ codes "scan" = ap name_in entered in cc
 
 -- the rows of a check of one file
@@ -129,6 +140,7 @@ check_asked orders older is none = (
   (rows_in (checked []), refl, rw is refl),
   (rows_in (checked []), refl, refl),
   (rows_in (checked []), refl, rw none refl),
+  λ left_out. none,
 )
 
 pub no_other_file_checked : (orders : Bor Text) (journal : Option (Bor Text)) (older : Vec (Bor Text) Global)
@@ -180,16 +192,16 @@ pub progress_asked : HasFlag (entered_by (codes "scan" ∷ codes "--progress" �
 unfolding clap_on_literals
 progress_asked = (rows_in (entered_by (codes "scan" ∷ codes "--progress" ∷ [])), refl, refl)
 
-pub no_progress_unasked : (units : Vec ℕ Global) (with_gtin : Bool)
-    → ¬ IsJobOf (codes "dali_bench" ∷ codes "scan" ∷ []) (Scan units with_gtin true)
+pub no_progress_unasked : (units : Vec ℕ Global) (sought : Sought)
+    → ¬ IsJobOf (codes "dali_bench" ∷ codes "scan" ∷ []) (Link (Scan units sought) true)
 unfolding clap_on_literals
-no_progress_unasked units with_gtin = λ is.
+no_progress_unasked units sought = λ is.
     let given : Some (codes "false") ≡ Some (codes "true") =
-    flag_is (entered_by (codes "scan" ∷ [])) (codes "scan") (codes "progress") (is.2.0 refl) in cc
+    flag_is (entered_by (codes "scan" ∷ [])) (codes "scan") (codes "progress") (is.1.0 refl) in cc
 
-pub progress_not_dropped : (units : Vec ℕ Global) (with_gtin : Bool)
-    → ¬ IsJobOf (codes "dali_bench" ∷ codes "scan" ∷ codes "--progress" ∷ []) (Scan units with_gtin false)
-progress_not_dropped units with_gtin = λ is. let given = is.2.1 progress_asked in cc
+pub progress_not_dropped : (units : Vec ℕ Global) (sought : Sought)
+    → ¬ IsJobOf (codes "dali_bench" ∷ codes "scan" ∷ codes "--progress" ∷ []) (Link (Scan units sought) false)
+progress_not_dropped units sought = λ is. let given = is.1.1 progress_asked in cc
 
 pub frames_not_dropped : (scenario : Bor Text)
     → ¬ IsJobOf (codes "dali_bench" ∷ codes "run" ∷ codes "a" ∷ codes "--frames" ∷ []) (Run scenario false)
@@ -198,15 +210,15 @@ frames_not_dropped scenario = λ is. let given = is.1.1 frames_asked in cc
 -- ---- units, options and moments
 
 pub unit_64_not_read : (bank : Bor Text) (progress : Bool)
-    → ¬ IsJobOf (codes "dali_bench" ∷ codes "read" ∷ codes "64" ∷ codes "b" ∷ []) (Read 64 bank progress)
-unit_64_not_read bank progress = λ is. omega (arith, is.0.1)
+    → ¬ IsJobOf (codes "dali_bench" ∷ codes "read" ∷ codes "64" ∷ codes "b" ∷ []) (Link (Read 64 bank) progress)
+unit_64_not_read bank progress = λ is. omega (arith, is.0.0.1)
 
 pub report_not_dropped : (orders : Bor Text) (progress : Bool)
     → ¬ IsJobOf (codes "dali_bench" ∷ codes "verify" ∷ codes "a" ∷ codes "--report" ∷ codes "r" ∷ [])
-    (Verify orders None progress)
+    (Link (Verify orders None) progress)
 unfolding clap_on_literals
 report_not_dropped orders progress = λ is.
-    let (rows, entered, none) = is.1 in
+    let (rows, entered, none) = is.0.1 in
     let left_out : Some (codes "r") ≡ None = ap (λ e. first_of (codes "report") (rows_in e)) entered ∙ none in cc
 
 pub no_report_unasked : (report : Bor Text)
@@ -267,31 +279,9 @@ addresses_in_their_order = (
   (search arith, search arith),
 )
 
-pub all_asked : HasFlag (entered_by anew) (codes "address") (codes "all")
+pub idle_journal_not_dropped : (command : AddressCommand) (progress : Bool) → command.journal ≡ None
+    → ¬ IsJobOf (codes "dali_bench" ∷ anew) (Link (Address command) progress)
 unfolding clap_on_literals
-all_asked = (rows_in (entered_by anew), refl, refl)
-
-pub all_not_dropped : (units : Vec ℕ Global) (list count progress : Bool) (journal : Option (Bor Text))
-    → ¬ IsJobOf (codes "dali_bench" ∷ anew) (Address units false list count journal progress)
-all_not_dropped units list count progress journal = λ is. let given = is.1.1 all_asked in cc
-
-pub no_list_unasked : (units : Vec ℕ Global) (all count progress : Bool) (journal : Option (Bor Text))
-    → ¬ IsJobOf (codes "dali_bench" ∷ anew) (Address units all true count journal progress)
-unfolding clap_on_literals
-no_list_unasked units all count progress journal = λ is.
-    let given : Some (codes "false") ≡ Some (codes "true") =
-    flag_is (entered_by anew) (codes "address") (codes "list") (is.2.0 refl) in cc
-
-pub no_count_unasked : (units : Vec ℕ Global) (all list progress : Bool) (journal : Option (Bor Text))
-    → ¬ IsJobOf (codes "dali_bench" ∷ anew) (Address units all list true journal progress)
-unfolding clap_on_literals
-no_count_unasked units all list progress journal = λ is.
-    let given : Some (codes "false") ≡ Some (codes "true") =
-    flag_is (entered_by anew) (codes "address") (codes "count") (is.3.0 refl) in cc
-
-pub idle_journal_not_dropped : (units : Vec ℕ Global) (all list count progress : Bool)
-    → ¬ IsJobOf (codes "dali_bench" ∷ anew) (Address units all list count None progress)
-unfolding clap_on_literals
-idle_journal_not_dropped units all list count progress = λ is.
-    let (rows, entered, none) = is.4 in
+idle_journal_not_dropped command progress dropped = λ is.
+    let (rows, entered, none) = rw dropped at is.0.journal_is in
     let left_out : Some (codes "j") ≡ None = ap (λ e. first_of (codes "journal") (rows_in e)) entered ∙ none in cc

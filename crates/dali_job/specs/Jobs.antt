@@ -1,23 +1,36 @@
 -- The command line, and what it asks for.
-use Rattle.std.specs.Prelude.{◌≡◌, ◌<◌, ◌≤◌, ◌^◌, ℕ, Bool, List, [], ◌∷◌, Option, Some, None, codes, map, true}
-use Rattle.std.specs.Prelude.{false, unwrap_or}
+use Rattle.std.specs.Prelude.{◌≡◌, ◌≢◌, ◌⊎◌, ◌<◌, ◌≤◌, ◌^◌, ℕ, Bool, List, [], ◌∷◌, Option, Some, None, codes, map, true}
+use Rattle.std.specs.Prelude.{false, unwrap_or, ⊤}
 use Rattle.std.specs.Bool.{Decides}
 use Rattle.std.specs.List.{AllByRecursion, AllZip}
 use Rattle.std.specs.Borrow.{Bor}
 use Rattle.std.specs.Str.Parse.{IsNumeral, digits_value, without_leading_plus}
-use Rattle.std.specs.declared.vec.Vec.{Vec}
-use Rattle.std.specs.declared.alloc.Global.{Global}
-use Rattle.clap.specs.Words.{App, Row, Rule, Text, all_of, app_of, first_of, new_app, new_rule, one_of}
+use Rattle.clap.specs.Words.{App, HasKind, Row, Rule, Text, all_of, app_of, fault_of, first_of, new_app, new_rule, one_of}
 use Rattle.clap.specs.Words.{rule_of, subcommand_of, with_rule, with_subcommand}
+use Rattle.clap.specs.Values.{kind_of}
 use Rattle.clap.specs.declared.builder.arg.Arg.{Arg}
 use Rattle.clap.specs.declared.builder.command.Command.{Command}
 use Rattle.clap.specs.declared.builder.command.Command.TheViews.{out-Command as fields_of}
 use Rattle.clap.specs.declared.builder.ArgAction.{ArgAction}
 use Rattle.clap.specs.declared.builder.ArgAction.TheVariants.{Append, Set, SetTrue}
 use Rattle.clap.specs.declared.builder.ValueParser.TheVariants.{Unsigned}
+use Rattle.clap.specs.declared.error.kind.ErrorKind.TheVariants.{OutOfMemory}
+use Rattle.dali_drive.specs.declared.sought.Sought.{Sought}
+use Rattle.dali_write.specs.declared.pace.Pace.{Pace}
 use Rattle.dali_job.specs.declared.job.Job.{Job}
-use Rattle.dali_job.specs.declared.job.Job.TheVariants.{Address, Check, Run, Frame, Show, Journal, Fields, Drive, Read}
-use Rattle.dali_job.specs.declared.job.Job.TheVariants.{Verify, Scan}
+use Rattle.dali_job.specs.declared.job.Job.TheVariants.{Check, Run, Frame, Show, Journal, Fields, Link}
+use Rattle.dali_job.specs.declared.job.Job.TheVariants as jobs
+use Rattle.dali_job.specs.declared.link_command.AddressCommand.{AddressCommand}
+use Rattle.dali_job.specs.declared.link_command.Asked.{Asked}
+use Rattle.dali_job.specs.declared.link_command.DriveTask.{DriveTask}
+use Rattle.dali_job.specs.declared.link_command.LinkCommand.{LinkCommand}
+use Rattle.dali_job.specs.declared.link_command.LinkCommand.TheVariants.{Drive, Read, Verify, Scan, Address}
+use Rattle.dali_job.specs.declared.link_command.Required.{Required}
+use Rattle.dali_job.specs.declared.refusal.JobError.{JobError}
+use Rattle.dali_job.specs.declared.refusal.JobError.TheVariants.{Clap, Refused}
+use Rattle.dali_job.specs.declared.refusal.Refusal.{Refusal}
+use Rattle.dali_job.specs.declared.refusal.Refusal.TheVariants.{OlderAlone, SeveralAsked, UnitsUnasked, NamedTwice}
+use Rattle.dali_job.specs.LinkOptions.{IsShort, asked_of, command_name, gives_none, named_twice, pace_by, required_by, sought_by}
 
 -- `clap` sees this command, none of whose arguments is also one of its own commands
 abbrev pub IsApp : App → Command → Type 0
@@ -187,12 +200,81 @@ abbrev pub HasUnits : Option (Text × List Row) → Text → Text → List ℕ �
 HasUnits entered command id units =
     (texts : List Text) × HasValues entered command id texts × AreUnits texts units
 
+-- ---- commands over a link
+
+-- the plan of the drive that a parse entered
+abbrev pub HasPace : Option (Text × List Row) → Pace → Type 0
+HasPace entered pace = (short_plan : Bool)
+    × Decides short_plan (HasFlag entered (codes "drive") (codes "short-plan")) × (pace ≡ pace_by short_plan)
+
+-- the last replies that it requires
+abbrev pub HasRequired : Option (Text × List Row) → Required → Type 0
+HasRequired entered required = (done : Bool) × (now : Bool)
+    × Decides done (HasFlag entered (codes "drive") (codes "require-done"))
+    × Decides now (HasFlag entered (codes "drive") (codes "require-now")) × (required ≡ required_by done now)
+
+-- what the scan that a parse entered reads
+abbrev pub HasSought : Option (Text × List Row) → Sought → Type 0
+HasSought entered sought = (with_gtin : Bool)
+    × Decides with_gtin (HasFlag entered (codes "scan") (codes "gtin")) × (sought ≡ sought_by with_gtin)
+
+-- the flags of `address` ask for this, or for several things
+abbrev pub AsksFor : Option (Text × List Row) → Option Asked → Type 0
+AsksFor entered asked = (all : Bool) × (list : Bool) × (count : Bool)
+    × Decides all (HasFlag entered (codes "address") (codes "all"))
+    × Decides list (HasFlag entered (codes "address") (codes "list"))
+    × Decides count (HasFlag entered (codes "address") (codes "count")) × (asked_of all list count ≡ asked)
+
+abbrev pub HasAsked : Option (Text × List Row) → Asked → Type 0
+HasAsked entered asked = AsksFor entered (Some asked)
+
+abbrev pub AsksSeveral : Option (Text × List Row) → Type 0
+AsksSeveral entered = AsksFor entered None
+
+-- the task is that of the drive that a parse entered
+pub record IsDrive (entered : Option (Text × List Row)) (task : DriveTask) : Type 0 where
+  pub orders_is : HasValue entered (codes "drive") (codes "ORDERS") task.orders.now
+  pub journal_is : HasValue entered (codes "drive") (codes "JOURNAL") task.journal.now
+  pub older_are : HasValues entered (codes "drive") (codes "older") (map (λ value. value.now) task.older.items)
+  pub moment_is : HasNumber entered (codes "drive") (codes "moment") task.moment
+  pub pace_is : HasPace entered task.pace
+  pub required_is : HasRequired entered task.required
+  pub journal_required : Decides task.require_journal (HasFlag entered (codes "drive") (codes "require-journal"))
+  pub follow_is : Decides task.follow (HasFlag entered (codes "drive") (codes "follow"))
+  pub report_is : HasOption entered (codes "drive") (codes "report") task.report
+
+-- the command is the `address` that a parse entered: it asks for one thing, and names each unit once, or none if it
+-- gives no short address
+pub record IsAddress (entered : Option (Text × List Row)) (command : AddressCommand) : Type 0 where
+  pub asked_is : HasAsked entered command.asked
+  pub units_are : HasUnits entered (codes "address") (codes "UNIT") command.units.items
+  pub none_unasked : gives_none command.asked ≡ true → command.units.items ≡ []
+  pub each_once : named_twice command.units.items ≡ None
+  pub journal_is : HasOption entered (codes "address") (codes "journal") command.journal
+
+-- the command over a link is the one that a parse entered, with its values, flags, numbers and options
+abbrev pub IsCommand : Option (Text × List Row) → LinkCommand → Type 0
+IsCommand entered (Drive task) = IsDrive entered task
+IsCommand entered (Read unit bank) =
+    HasUnit entered (codes "read") (codes "UNIT") unit
+    × HasValue entered (codes "read") (codes "HEXFILE") bank.now
+IsCommand entered (Verify orders report) =
+    HasValue entered (codes "verify") (codes "ORDERS") orders.now
+    × HasOption entered (codes "verify") (codes "report") report
+IsCommand entered (Scan addresses sought) =
+    HasUnits entered (codes "scan") (codes "UNIT") addresses.items × (named_twice addresses.items ≡ None)
+    × HasSought entered sought
+IsCommand entered (Address command) = IsAddress entered command
+
+-- ---- jobs
+
 -- the job is the command that a parse entered, with its values, flags, numbers and options
 abbrev pub IsJob : Option (Text × List Row) → Job → Type 0
 IsJob entered (Check orders journal older) =
     HasValue entered (codes "check") (codes "ORDERS") orders.now
     × HasOption entered (codes "check") (codes "journal") journal
     × HasValues entered (codes "check") (codes "older") (map (λ value. value.now) older.items)
+    × (journal ≡ None → older.items ≡ [])
 IsJob entered (Run scenario single_frames) =
     HasValue entered (codes "run") (codes "SCENARIO") scenario.now
     × Decides single_frames (HasFlag entered (codes "run") (codes "frames"))
@@ -202,69 +284,89 @@ IsJob entered (Journal records with_updates) =
     HasValue entered (codes "journal") (codes "FILE") records.now
     × Decides with_updates (HasFlag entered (codes "journal") (codes "updates"))
 IsJob entered Fields = IsEntered entered (codes "fields")
-IsJob entered
-    (Drive orders journal moment follow short_plan require_done require_now require_journal progress report older) =
-    HasValue entered (codes "drive") (codes "ORDERS") orders.now
-    × HasValue entered (codes "drive") (codes "JOURNAL") journal.now
-    × HasNumber entered (codes "drive") (codes "moment") moment
-    × Decides follow (HasFlag entered (codes "drive") (codes "follow"))
-    × Decides short_plan (HasFlag entered (codes "drive") (codes "short-plan"))
-    × Decides require_done (HasFlag entered (codes "drive") (codes "require-done"))
-    × Decides require_now (HasFlag entered (codes "drive") (codes "require-now"))
-    × Decides require_journal (HasFlag entered (codes "drive") (codes "require-journal"))
-    × Decides progress (HasFlag entered (codes "drive") (codes "progress"))
-    × HasOption entered (codes "drive") (codes "report") report
-    × HasValues entered (codes "drive") (codes "older") (map (λ value. value.now) older.items)
-IsJob entered (Read unit bank progress) =
-    HasUnit entered (codes "read") (codes "UNIT") unit
-    × HasValue entered (codes "read") (codes "HEXFILE") bank.now
-    × Decides progress (HasFlag entered (codes "read") (codes "progress"))
-IsJob entered (Verify orders report progress) =
-    HasValue entered (codes "verify") (codes "ORDERS") orders.now
-    × HasOption entered (codes "verify") (codes "report") report
-    × Decides progress (HasFlag entered (codes "verify") (codes "progress"))
-IsJob entered (Scan units with_gtin progress) =
-    HasUnits entered (codes "scan") (codes "UNIT") units.items
-    × Decides with_gtin (HasFlag entered (codes "scan") (codes "gtin"))
-    × Decides progress (HasFlag entered (codes "scan") (codes "progress"))
-IsJob entered (Address units all list count journal progress) =
-    HasUnits entered (codes "address") (codes "UNIT") units.items
-    × Decides all (HasFlag entered (codes "address") (codes "all"))
-    × Decides list (HasFlag entered (codes "address") (codes "list"))
-    × Decides count (HasFlag entered (codes "address") (codes "count"))
-    × HasOption entered (codes "address") (codes "journal") journal
-    × Decides progress (HasFlag entered (codes "address") (codes "progress"))
+IsJob entered (Link command progress) =
+    IsCommand entered command × Decides progress (HasFlag entered (command_name command) (codes "progress"))
+IsJob entered (jobs.Refused refusal) = ⊥
 
--- no job of checking is that of the command that a parse entered
+-- if it is one over a link, each short address that it reads or asks is one
+abbrev pub IsShortJob : Job → Type 0
+IsShortJob (Link command progress) = IsShort command
+IsShortJob other = ⊤
+
+-- the command that a parse entered is refused: `check` names older journals and none to ask; `address` asks for several
+-- things; it names units where it gives no short address; `scan`, or `address` where it gives some, names a unit twice,
+-- first this one
+abbrev pub IsRefused : Option (Text × List Row) → Refusal → Type 0
+IsRefused entered OlderAlone = (orders : Text) × (older : List Text)
+    × HasValue entered (codes "check") (codes "ORDERS") orders × IsLeftOut entered (codes "check") (codes "journal")
+    × HasValues entered (codes "check") (codes "older") older × (older ≢ [])
+IsRefused entered SeveralAsked =
+    (units : List ℕ) × HasUnits entered (codes "address") (codes "UNIT") units × AsksSeveral entered
+IsRefused entered UnitsUnasked = (asked : Asked) × (units : List ℕ) × HasAsked entered asked
+    × (gives_none asked ≡ true) × HasUnits entered (codes "address") (codes "UNIT") units × (units ≢ [])
+IsRefused entered (NamedTwice unit) =
+    ((units : List ℕ) × HasUnits entered (codes "scan") (codes "UNIT") units × (named_twice units ≡ Some unit))
+    ⊎ ((asked : Asked) × (units : List ℕ) × HasAsked entered asked
+    × (gives_none asked ≡ false) × HasUnits entered (codes "address") (codes "UNIT") units
+    × (named_twice units ≡ Some unit))
+
+-- memory ran out
+abbrev pub IsWantOfMemory : JobError → Type 0
+IsWantOfMemory (Clap error) = kind_of error ≡ OutOfMemory
+IsWantOfMemory (Refused refusal) = ⊥
+
+-- the error is of the command that a parse entered: it is refused, or memory ran out
+abbrev pub IsErrorIn : Option (Text × List Row) → JobError → Type 0
+IsErrorIn entered (Clap error) = kind_of error ≡ OutOfMemory
+IsErrorIn entered (Refused refusal) = IsRefused entered refusal
+
+-- ---- no jobs
+
+-- a parse didn't enter `check`
 abbrev pub IsNoCheck : Option (Text × List Row) → Type 0
-IsNoCheck entered = (orders : Bor Text) (journal : Option (Bor Text)) (older : Vec (Bor Text) Global)
-    → ¬ IsJob entered (Check orders journal older)
+IsNoCheck entered = (orders : Text) (older : List Text) → HasValue entered (codes "check") (codes "ORDERS") orders
+    → ¬ HasValues entered (codes "check") (codes "older") older
 
--- no job of driving is that of the command that a parse entered
-abbrev pub IsNoDrive : Option (Text × List Row) → Type 0
-IsNoDrive entered = (orders journal : Bor Text) (moment : ℕ)
-    (follow short_plan require_done require_now require_journal progress : Bool)
-    (report : Option (Bor Text)) (older : Vec (Bor Text) Global)
-    → ¬ IsJob entered
-    (Drive orders journal moment follow short_plan require_done require_now require_journal progress report older)
+-- nor `verify` and `read`
+abbrev pub IsNoReading : Option (Text × List Row) → Type 0
+IsNoReading entered =
+    ((orders : Text) → ¬ HasValue entered (codes "verify") (codes "ORDERS") orders)
+    × ((unit : ℕ) (bank : Text) → HasUnit entered (codes "read") (codes "UNIT") unit
+    → ¬ HasValue entered (codes "read") (codes "HEXFILE") bank)
 
--- no job of looking which units answer is that of the command that a parse entered
 abbrev pub IsNoScan : Option (Text × List Row) → Type 0
-IsNoScan entered = (units : Vec ℕ Global) (with_gtin progress : Bool) → ¬ IsJob entered (Scan units with_gtin progress)
+IsNoScan entered = (units : List ℕ) → ¬ HasUnits entered (codes "scan") (codes "UNIT") units
 
--- no job of giving short addresses is that of the command that a parse entered
 abbrev pub IsNoAddress : Option (Text × List Row) → Type 0
-IsNoAddress entered = (units : Vec ℕ Global) (all list count : Bool) (journal : Option (Bor Text)) (progress : Bool)
-    → ¬ IsJob entered (Address units all list count journal progress)
+IsNoAddress entered = (units : List ℕ) → ¬ HasUnits entered (codes "address") (codes "UNIT") units
 
--- no job is that of the command that a parse entered
-abbrev pub IsNoJob : Option (Text × List Row) → Type 0
-IsNoJob entered = (job : Job) → ¬ IsJob entered job
+abbrev pub IsNoDrive : Option (Text × List Row) → Type 0
+IsNoDrive entered = (task : DriveTask) → ¬ IsDrive entered task
+
+-- a parse entered no command over a link
+abbrev pub IsNoLink : Option (Text × List Row) → Type 0
+IsNoLink entered = IsNoReading entered × IsNoScan entered × IsNoAddress entered × IsNoDrive entered
+
+-- no job is that of the command that a parse entered, and it isn't refused
+abbrev pub IsNothing : Option (Text × List Row) → Type 0
+IsNothing entered = ((job : Job) → ¬ IsJob entered job) × ((refusal : Refusal) → ¬ IsRefused entered refusal)
+
+-- ---- command lines
 
 -- the job that the words name
-abbrev pub IsJobOf : List Text → Job → Type 0
-IsJobOf words job = IsJob (subcommand_of bench_app words) job
+abbrev pub IsTaskOf : List Text → Job → Type 0
+IsTaskOf words job = IsJob (subcommand_of bench_app words) job
 
--- the words name no job
-abbrev pub NamesNoJob : List Text → Type 0
-NamesNoJob words = IsNoJob (subcommand_of bench_app words)
+-- the words name no job, and none that is refused
+abbrev pub NamesNothing : List Text → Type 0
+NamesNothing words = IsNothing (subcommand_of bench_app words)
+
+-- the words have this error: one of `clap`, or there is no job and none that is refused, or it is refused
+abbrev pub IsJobError : List Text → JobError → Type 0
+IsJobError words (Clap error) = HasKind (fault_of bench_app words) error ⊎ NamesNothing words
+IsJobError words (Refused refusal) = IsRefused (subcommand_of bench_app words) refusal
+
+-- the job that the words name: their command, or why they are refused
+abbrev pub IsJobOf : List Text → Job → Type 0
+IsJobOf words (jobs.Refused refusal) = IsRefused (subcommand_of bench_app words) refusal
+IsJobOf words job = IsTaskOf words job

@@ -1,1 +1,2 @@
+pub mod LinkOptions
 pub mod Jobs

@@ -5,11 +5,13 @@ use Rattle.dali_journal.specs.declared.record.Record.{Record}
 use Rattle.dali_journal.specs.declared.standing.Standing.TheVariants.{Idle}
 use Rattle.dali_journal.specs.JournalState.{JournalState}
 use Rattle.dali_journal.specs.Sentence.{next_standing, standing_of}
-use Rattle.dali_drive.specs.declared.behind.BehindFault.{BehindFault}
-use Rattle.dali_drive.specs.declared.behind.BehindFault.TheVariants as behind
 use Rattle.dali_drive.specs.declared.following.Given.{Given}
-use Rattle.dali_drive.specs.Behind.{EndsBehind, BehindShows}
+use Rattle.dali_drive.specs.declared.stored.StoredFault.{StoredFault}
+use Rattle.dali_drive.specs.declared.stored.StoredFault.TheVariants.{Open, Drive}
+use Rattle.dali_drive.specs.Behind.{EndsBehind}
 use Rattle.dali_drive.specs.Desks.{Look}
+use Rattle.dali_drive.specs.Stored.{StoredShows}
+use Rattle.dali_store.specs.declared.opening.OpenFault.TheVariants.{Join}
 use Rattle.dali_report.specs.declared.report.Report.{Report}
 use Rattle.dali_report.specs.Told.{IsTold, IsToldEnd}
 use Rattle.dali_faults.specs.declared.fault.Status.{Status}
@@ -22,16 +24,16 @@ use Rattle.dali_write.specs.declared.pace.Pace.{Pace}
 -- the cause that broke a drive off was reported, and only its lines were written for that
 pub break_told : {G N : Type 0} (gave : G → G → List Given → Type 0) (contents : N → Option (List ℕ))
     (older : Option JournalState) (pace : Pace) (before after : Report N) (orders left : G) (first last : Look)
-    (replies : Option (List ℕ)) (lost : Bool) (status : Status) (fault : BehindFault)
+    (replies : Option (List ℕ)) (lost : Bool) (status : Status) (fault : StoredFault)
     → EndsBehind gave (IsTold contents) (IsToldEnd contents) older order_limit journal_limit pace orders fault first
     before left (with_lines last replies lost) after
-    → BehindShows fault (with_lines last replies lost).failed → IsBreakTold fault status replies last.streams.out
+    → StoredShows fault (with_lines last replies lost).failed → IsBreakTold fault status replies last.streams.out
     → BreaksBehind gave contents older pace before after orders left first status last
-break_told gave contents older pace before after orders left first last replies lost status (behind.Open why) ends shows
-    told = inl (search)
-break_told gave contents older pace before after orders left first last replies lost status (behind.Join why) ends shows
-    told = inr (inl (search))
-break_told gave contents older pace before after orders left first last replies lost status (behind.Drive why) ends
+break_told gave contents older pace before after orders left first last replies lost status (Open (Join why)) ends
+    shows told = inr (inl (search))
+break_told gave contents older pace before after orders left first last replies lost status (Open _) ends shows told =
+    inl (search)
+break_told gave contents older pace before after orders left first last replies lost status (Drive why) ends
     shows told = inr (inr (search))
 
 -- records after others that are at rest have the standing that they have by themselves

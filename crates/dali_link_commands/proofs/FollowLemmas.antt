@@ -1,7 +1,7 @@
 -- Lemmas on how the following of a stream ended.
 use Rattle.std.proofs.Common.{◌≡◌, ℕ, Bool, false}
-use Rattle.dali_follow.specs.declared.order_lines.OrderLines.{OrderLines}
-use Rattle.dali_follow.specs.Gave.{state_of}
+use Rattle.dali_link_commands.specs.declared.stream.order_lines.OrderLines.{OrderLines}
+use Rattle.dali_link_commands.specs.LinesGave.{state_of}
 use Rattle.dali_link_commands.specs.FollowAnswers.{AreUnread}
 
 -- new orders of a source that hasn't failed

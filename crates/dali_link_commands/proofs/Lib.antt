@@ -1,5 +1,6 @@
 pub mod WordsLemmas
 pub mod ReportLemmas
+pub mod ProblemLemmas
 pub mod DriveLemmas
 pub mod FollowLemmas
 pub mod BehindLemmas
@@ -19,3 +20,8 @@ pub mod AddressLemmas
 mod WorkedOlderLemmas
 mod WorkedUnreadLemmas
 mod WorkedAddressLemmas
+pub mod LineFaultLemmas
+pub mod LinesGaveLemmas
+pub mod LinesJudgedLemmas
+mod WorkedLinesJudgedLemmas
+mod WorkedStreamLineLemmas

@@ -9,7 +9,7 @@ use Rattle.dali_journal.specs.declared.standing.Standing.TheVariants.{Idle}
 use Rattle.dali_journal.specs.JournalState.{JournalState}
 use Rattle.dali_journal.specs.Sentence.{standing_of}
 use Rattle.dali_store.specs.Stores.{IsDurable}
-use Rattle.dali_link_commands.specs.declared.older.OlderFault.{OlderFault}
+use Rattle.dali_faults.specs.declared.fault.Fault.{Fault}
 use Rattle.dali_link_commands.specs.Older.{AreJoined, AreOne, AreReadAtRest, IsFirstUnusable, IsJoinedBehind}
 use Rattle.dali_link_commands.specs.Older.{IsReadAtRest, IsReadBehind, IsUnusable, held_under, records_in, records_named}
 
@@ -140,9 +140,9 @@ module _ {S : Type 0} (seen : S → Option (List ℕ)) (failed : S → Bool) (ma
       }
 
   pub first_unusable : (first now : List S) (count : ℕ) (item new : S) (older : Option JournalState)
-      (fault : OlderFault) → HaveJoined first now count older → count < length now → item ≡ get_or now count item
+      (fault : Fault) → HaveJoined first now count older → count < length now → item ≡ get_or now count item
       → IsUnusable older (seen (get_or now count item)) (failed (get_or now count item)) (failed new) fault
-      → IsFirstUnusable seen failed first (set now count new) count fault
+      → IsFirstUnusable seen failed first (set now count new) fault
   first_unusable first now count item new older fault h within is unusable =
       let (rest, firsts, nows) = at_turn first now h.earlier h.read h.later count item new h.firsts h.nows h.reads
       within is in
@@ -154,7 +154,7 @@ module _ {S : Type 0} (seen : S → Option (List ℕ)) (failed : S → Bool) (ma
         later = rest;
         befores_are = firsts;
         afters_are = nows;
-        index_is = h.counts;
+        as_many = omega (arith, h.counts, h.reads);
         older = older;
         joined = h.joined;
         unusable = rw (← is) at unusable;

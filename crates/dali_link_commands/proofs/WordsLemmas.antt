@@ -1,19 +1,15 @@
 -- Lemmas on words on one line.
-use Rattle.std.proofs.Common.{◌≡◌, ℕ, zero, suc, ◌/◌, ◌%◌, List, [], ◌∷◌, ◌++◌, codes, arith, Option, Result, IfOk}
+use Rattle.std.proofs.Common.{◌≡◌, ℕ, zero, suc, ◌/◌, ◌%◌, List, [], ◌∷◌, ◌++◌, codes, arith, Option, Result}
 use Rattle.std.proofs.Common.{OnOk, ◌==◌, false, true}
 use Rattle.std.proofs.lemmas.Bool.{cond_both}
 use Rattle.std.proofs.lemmas.Bool.Decides.{nat_tests}
-use Rattle.std.proofs.lemmas.Result.{IfOk-weaker, on_ok_weaker}
+use Rattle.std.proofs.lemmas.Result.{on_ok_weaker}
 use Rattle.std.specs.Fmt.{digits, digits_onto, digit_glyph}
 use Rattle.std.specs.Io.KnownBytes.{Appends}
 use Rattle.std.specs.List.{flat_map}
 use Rattle.dali_bank.specs.Spelling.{IsTextByte}
-use Rattle.dali_faults.specs.declared.fault.Fault.{Fault}
-use Rattle.dali_faults.specs.declared.fault.Status.{Status}
-use Rattle.dali_faults.specs.Faults.{status_of, told_line}
-use Rattle.dali_text.specs.declared.output.OutputFailed.{OutputFailed}
 use Rattle.dali_text.specs.Escaped.{is_plain, shown_letter}
-use Rattle.dali_link_commands.specs.Told.{IsPlain, TellsWorded, error_line}
+use Rattle.dali_link_commands.specs.Told.{IsPlain, error_line}
 
 plain_append : (xs ys : List ℕ) → IsPlain xs → IsPlain ys → IsPlain (xs ++ ys)
 plain_append [] ys first second = second
@@ -43,15 +39,7 @@ pub plain_shown : (letters : List ℕ) → IsPlain (flat_map shown_letter letter
 plain_shown [] = tt
 plain_shown (x ∷ xs) = plain_append (shown_letter x) (flat_map shown_letter xs) (plain_one x) (plain_shown xs)
 
--- plain words were written, and then the fault
-pub told_worded : (result : Result Status OutputFailed) (fault : Fault) (words : List ℕ)
-    (before after : Option (List ℕ)) → IsPlain words
-    → IfOk result (λ status. (status ≡ status_of fault) × Appends before after (error_line words ++ told_line fault))
-    → IfOk result (λ status. (status ≡ status_of fault) × TellsWorded fault before after)
-told_worded result fault words before after plain told =
-    IfOk-weaker result _ _ (λ status it. (it.0, (words, plain, it.1))) told
-
--- or nothing after them
+-- plain words were written
 pub told_plain : {A E : Type 0} → (result : Result A E) (words : List ℕ) (before after : Option (List ℕ))
     → IsPlain words → OnOk result (Appends before after (error_line words))
     → OnOk result ((words : List ℕ) × IsPlain words × Appends before after (error_line words))

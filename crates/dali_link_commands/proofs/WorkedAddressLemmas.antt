@@ -3,7 +3,7 @@ use Rattle.std.proofs.Common.{◌≡◌, refl, inl, inr, true, false, ℕ, List,
 use Rattle.std.specs.Borrow.{Bor}
 use Rattle.dali_address.specs.declared.task.Summary.{Summary}
 use Rattle.dali_address.specs.declared.task.Task.{Task}
-use Rattle.dali_address.specs.declared.task.Task.TheVariants.{All, Give}
+use Rattle.dali_address.specs.declared.task.Task.TheVariants.{Give}
 use Rattle.dali_address.specs.declared.task.Task.TheVariants as tasks
 use Rattle.dali_address_link.specs.declared.run.End.TheVariants.{Done, Taken}
 use Rattle.dali_address.specs.declared.census.CensusEnd.TheVariants.{Apart, Unclear}
@@ -12,23 +12,8 @@ use Rattle.dali_drive.specs.Transcript.{Streams}
 use Rattle.dali_trace.specs.declared.fault.DriveFault.TheVariants as faults
 use Rattle.dali_faults.specs.declared.fault.Status.{Status}
 use Rattle.dali_faults.specs.declared.fault.Status.TheVariants.{Good, Refused}
-use Rattle.dali_link_commands.specs.declared.address.Asked.TheVariants.{Count, Run}
-use Rattle.dali_link_commands.specs.AddressAnswers.{BreaksRun, EndsRun, TellsBreak, asked_of, held_named, is_apart}
+use Rattle.dali_link_commands.specs.AddressAnswers.{BreaksRun, EndsRun, TellsBreak, held_named, is_apart}
 use Rattle.dali_link_commands.specs.AddressAnswers.{is_left_open, status_at_end}
-
--- ---- the flags
-
-pub given_without_flags : asked_of false false false ≡ Run Give
-given_without_flags = refl
-
-pub all_given_anew : asked_of true false false ≡ Run All
-all_given_anew = refl
-
-pub listed : asked_of false true false ≡ Run tasks.List
-listed = refl
-
-pub counted : asked_of false false true ≡ Count
-counted = refl
 
 -- ---- the status
 

@@ -1,15 +1,9 @@
 -- The requirements at the end of a drive, and how it is reported that nothing was done, on both sides of each rule.
-use Rattle.std.proofs.Common.{◌≡◌, refl, inl, inr, [], ◌∷◌, ℕ, Some, true, false}
+use Rattle.std.proofs.Common.{◌≡◌, refl, inl, inr, [], ◌∷◌, ℕ, Some, false}
 use Rattle.dali_report.specs.declared.outcome.Outcome.TheVariants as outcomes
 use Rattle.dali_faults.specs.declared.fault.Status.TheVariants.{Good, Refused}
-use Rattle.dali_link_commands.specs.declared.required.Required.TheVariants.{Nothing, Done, DoneNow}
-use Rattle.dali_link_commands.specs.Bare.{TellsBare, TellsEnded, ended_status, is_empty, nothing_line, required_by}
-
--- the stricter one of two options counts
-pub the_stricter_counts :
-    (required_by false false ≡ Nothing) × (required_by true false ≡ Done) × (required_by false true ≡ DoneNow)
-    × (required_by true true ≡ DoneNow)
-the_stricter_counts = (refl, refl, refl, refl)
+use Rattle.dali_job.specs.declared.link_command.Required.TheVariants.{Nothing, Done, DoneNow}
+use Rattle.dali_link_commands.specs.Bare.{TellsBare, TellsEnded, ended_status, is_empty, nothing_line}
 
 -- what was done before the drive is done, and not now
 pub done_before_is_not_now :

@@ -8,11 +8,11 @@ use Rattle.dali_trace.specs.declared.fault.DriveFault.TheVariants as faults
 use Rattle.dali_drive.specs.declared.following.Given.{Given}
 use Rattle.dali_drive.specs.Desks.{Look}
 use Rattle.dali_drive.specs.Transcript.{Streams}
-use Rattle.dali_follow.specs.declared.order_lines.OrderLines.{OrderLines}
+use Rattle.dali_link_commands.specs.declared.stream.order_lines.OrderLines.{OrderLines}
 use Rattle.dali_report.specs.declared.report.Report.{Report}
 use Rattle.dali_faults.specs.declared.fault.Status.{Status}
 use Rattle.dali_link_commands.specs.BehindAnswers.{UnopenedBehind, UnjoinedBehind, BrokenBehind, FollowsBehind}
-use Rattle.dali_link_commands.specs.declared.required.Required.{Required}
+use Rattle.dali_job.specs.declared.link_command.Required.{Required}
 use Rattle.dali_link_commands.specs.BehindAnswers.{EndsLinesBehind, EndsListBehind}
 use Rattle.dali_link_commands.proofs.WorkedBenchLemmas.{emptied_unsettled}
 use Rattle.dali_write.specs.declared.pace.Pace.{Pace}

@@ -5,7 +5,7 @@ use Rattle.dali_report.specs.declared.outcome.Outcome.TheVariants as outcomes
 use Rattle.dali_faults.specs.declared.fault.Fault.TheVariants.{Input}
 use Rattle.dali_faults.specs.declared.fault.Status.TheVariants.{Good, Refused, Failed}
 use Rattle.dali_faults.specs.Faults.{told_line}
-use Rattle.dali_link_commands.specs.declared.required.Required.TheVariants.{Nothing, Done, DoneNow}
+use Rattle.dali_job.specs.declared.link_command.Required.TheVariants.{Nothing, Done, DoneNow}
 use Rattle.dali_link_commands.specs.FollowAnswers.{TellsFollowed}
 use Rattle.dali_link_commands.specs.Told.{error_line}
 
@@ -32,10 +32,14 @@ all_well = (refl, refl)
 pub failed_source_told :
     TellsFollowed true false Done outcomes.Done Failed (Some [])
     (Some (error_line (codes "x") ++ told_line (Input File)))
-failed_source_told = λ written. (refl, (codes "x", omega arith, refl))
+failed_source_told = (
+  error_line (codes "x") ++ told_line (Input File),
+  (codes "x", omega arith, refl),
+  λ written. (refl, refl),
+)
 
 pub failed_source_is_no_good_end : TellsFollowed true false Nothing outcomes.Done Good (Some []) (Some []) → ⊥
-failed_source_is_no_good_end told = cc ((told (λ is. cc)).0)
+failed_source_is_no_good_end told = cc ((told.2 (λ is. cc)).0)
 
 -- and of one that hasn't failed, nothing is reported
 pub nothing_told_of_a_good_source :

@@ -4,6 +4,7 @@ use Rattle.std.proofs.Common.{arith}
 use Rattle.std.specs.Borrow.{Bor}
 use Rattle.dali_bank.specs.Order.{Contents}
 use Rattle.dali_journal.specs.declared.behind.JoinFault.TheVariants.{Repeated, NoMemory}
+use Rattle.dali_journal.specs.declared.fault.JournalFault.TheVariants as journals
 use Rattle.dali_journal.specs.declared.record.Code.TheVariants.{Done, Silent}
 use Rattle.dali_journal.specs.declared.record.Record.{Record}
 use Rattle.dali_journal.specs.declared.record.Record.TheVariants.{Began, Ended}
@@ -11,11 +12,13 @@ use Rattle.dali_journal.specs.declared.version.Version.{Version}
 use Rattle.dali_journal.specs.JournalState.{JournalState}
 use Rattle.dali_input.specs.declared.fault.InputFault.TheVariants.{File, Json, Memory, TooBig}
 use Rattle.dali_faults.specs.declared.fault.Fault.TheVariants.{Input, Older}
+use Rattle.dali_faults.specs.declared.fault.Fault.TheVariants as faults
 use Rattle.dali_faults.specs.JournalInput.{IsJournalIn}
+use Rattle.dali_link_commands.specs.declared.older.OlderFault.{OlderFault}
 use Rattle.dali_link_commands.specs.declared.older.OlderFault.TheVariants.{Unloaded, Cut, Join}
-use Rattle.dali_link_commands.specs.BehindAnswers.{IsOneUnusable, MayBeUnusable, fault_unjoined}
+use Rattle.dali_link_commands.specs.BehindAnswers.{IsOneUnusable, MayBeUnusable}
 use Rattle.dali_link_commands.specs.Older.{AreJoined, AreOne, AreReadAtRest, HasJournal, IsReadAtRest}
-use Rattle.dali_link_commands.specs.Older.{IsOlderFault, IsUnusable, fault_older, held_under}
+use Rattle.dali_link_commands.specs.Older.{IsOlderFault, IsUnusable, IsUnusedFor, fault_older, fault_unjoined, held_under}
 
 -- orders 1 and 2, and the journals of each, which are at rest; one of order 1 that is at work
 abbrev order : ℕ → Contents
@@ -119,7 +122,7 @@ known_by_name one other = refl
 -- If the second journal has the number of the first, it can't be used, whatever follows it; that isn't read.
 pub number_of_the_first : (one other later : List ℕ) (counted : ℕ) (version : Version)
     → IsReadAtRest (Some one) first → IsJournalIn other first counted version
-    → IsOneUnusable (Some one ∷ Some other ∷ Some later ∷ []) (Join (Repeated 1))
+    → IsOneUnusable (Some one ∷ Some other ∷ Some later ∷ []) Older
 number_of_the_first one other later counted version read loaded =
     let joined : AreJoined (Some one ∷ []) (Some first) =
     record { owns = first ∷ []; at_rest = (read, tt); are_one = (refl, refl) } in
@@ -133,43 +136,48 @@ number_of_the_first one other later counted version read loaded =
       joined = joined;
       failed = false;
       failed_now = false;
-      unusable = inr (other, refl, (has, (refl, refl)));
+      unusable = (Join (Repeated 1), refl, inr (other, refl, (has, (refl, refl))));
     }
 
 pub no_number_that_the_first_lacks : (known : Option (List ℕ)) (failed failed_now : Bool)
-    → IsUnusable (Some first) known failed failed_now (Join (Repeated 2)) → ⊥
+    → IsUnusedFor (Some first) known failed failed_now (Join (Repeated 2)) → ⊥
 no_number_that_the_first_lacks known failed failed_now unusable = grind arith
 
 -- a call that has failed is reported as that, if the store knows that it has
-pub failed_to_read : (known : Option (List ℕ)) → IsUnusable (Some first) known false true (Unloaded (Input File))
-failed_to_read known = inl (File, refl, refl)
+pub failed_to_read : (known : Option (List ℕ)) → IsUnusable (Some first) known false true (Input File)
+failed_to_read known = (Unloaded (Input File), refl, inl (File, refl, refl))
 
-pub not_failed_to_read : (known : Option (List ℕ)) → IsUnusable None known false false (Unloaded (Input File)) → ⊥
+pub not_failed_to_read : (known : Option (List ℕ)) → IsUnusedFor None known false false (Unloaded (Input File)) → ⊥
 not_failed_to_read known (inl (File, is, failed)) = cc
 not_failed_to_read known (inl (_, is, failed)) = cc
 not_failed_to_read known (inr (bytes, shown, never)) = never
 
 -- too big is reported of a store that has more than a journal may have
-pub too_big_to_read : IsUnusable None None false false (Unloaded (Input TooBig))
+pub too_big_to_read : IsUnusedFor None None false false (Unloaded (Input TooBig))
 too_big_to_read = inl (TooBig, refl, (tt, refl))
 
-pub not_too_big_to_read : IsUnusable None (Some []) false false (Unloaded (Input TooBig)) → ⊥
+pub not_too_big_to_read : IsUnusedFor None (Some []) false false (Unloaded (Input TooBig)) → ⊥
 not_too_big_to_read (inl (TooBig, is, longer)) = omega (arith, longer.0)
 not_too_big_to_read (inl (_, is, failed)) = cc
 not_too_big_to_read (inr (bytes, shown, never)) = grind arith
 
 -- an older journal that isn't opened, and what is no fault of one: it isn't read as JSON
-pub unopened_is_unusable : (knowns : List (Option (List ℕ))) → MayBeUnusable knowns (Unloaded (Input File))
+pub unopened_is_unusable : (knowns : List (Option (List ℕ))) → MayBeUnusable knowns (Input File)
 unopened_is_unusable knowns = inl (File, refl, inl refl)
 
-pub json_is_no_older_fault : (knowns : List (Option (List ℕ))) → MayBeUnusable knowns (Unloaded (Input Json)) → ⊥
+json_is_not_told : (why : OlderFault) → Input Json ≡ fault_older why → ⊥
+json_is_not_told (Unloaded (Input Memory)) is = cc
+json_is_not_told (Unloaded (Input File)) is = cc
+json_is_not_told (Unloaded (faults.Journal journals.NoMemory)) is = cc
+json_is_not_told (Unloaded _) is = cc
+json_is_not_told (Join NoMemory) is = cc
+json_is_not_told (Join _) is = cc
+json_is_not_told _ is = cc
+
+pub json_is_no_older_fault : (knowns : List (Option (List ℕ))) → MayBeUnusable knowns (Input Json) → ⊥
 json_is_no_older_fault knowns (inl (failure, is, inl file)) = cc
 json_is_no_older_fault knowns (inl (failure, is, inr memory)) = cc
-json_is_no_older_fault knowns (inr one) = so one.unusable where
-  so : IsUnusable one.older one.known one.failed one.failed_now (Unloaded (Input Json)) → ⊥
-  so (inl (Json, is, never)) = never
-  so (inl (_, is, never)) = cc
-  so (inr (bytes, shown, never)) = never
+json_is_no_older_fault knowns (inr one) = json_is_not_told one.unusable.0 one.unusable.1
 
 -- a journal whose end is cut can't be used, and a whole one isn't reported as cut
 pub cut_is_unusable : (older : Option JournalState) (bytes : List ℕ) (has : HasJournal bytes)

@@ -55,10 +55,11 @@ refused_and_unsettled input status e = unsettled_is_driven e.undriven
 -- ---- an input that is none
 
 pub too_big_told : EndsUndriven TooBig before Refused (with_lines before (Some (told_line (Input TooBig))) false)
-too_big_told = assumption
+too_big_told =
+    record { undriven = assumption; told = (told_line (Input TooBig), refl, λ written. (refl, refl)) }
 
 pub too_big_is_no_good_end : (last : Look) → EndsUndriven TooBig before Good last → ⊥
-too_big_is_no_good_end last e = cc ((e.told (λ same. cc)).0)
+too_big_is_no_good_end last e = cc ((e.told.2 (λ same. cc)).0)
 
 pub undriven_and_sent : (fault : InputFault) (status : Status) → EndsUndriven fault before status sent → ⊥
 undriven_and_sent fault status e = sent_is_driven e.undriven

@@ -1,5 +1,5 @@
 -- Words on a stream of replies, and the end of a command whose report is lost, on both sides of each rule.
-use Rattle.std.proofs.Common.{◌≡◌, refl, inl, inr, ℕ, ◌++◌, [], ◌∷◌, List, Option, Some, codes, true, false, arith}
+use Rattle.std.proofs.Common.{◌≡◌, ◌∙◌, refl, inl, inr, ℕ, ◌++◌, [], ◌∷◌, List, Option, Some, codes, true, false, arith}
 use Rattle.std.proofs.lemmas.List.{append_cancel_right}
 use Rattle.dali_input.specs.declared.fault.InputFault.TheVariants.{File}
 use Rattle.dali_faults.specs.declared.fault.Fault.TheVariants.{Input}
@@ -8,7 +8,7 @@ use Rattle.dali_faults.specs.Faults.{told_line}
 use Rattle.dali_report.specs.declared.report.Report.{Report}
 use Rattle.dali_report.specs.Told.{has_failed}
 use Rattle.dali_link_commands.specs.LinkCommands.{EndsReported, is_lost}
-use Rattle.dali_link_commands.specs.Told.{IsPlain, TellsWorded, error_line}
+use Rattle.dali_link_commands.specs.Told.{IsFaultTold, IsPlain, error_line}
 
 -- from the space to the tilde, the backslash too
 pub ends_are_plain : IsPlain (codes " ~\\")
@@ -30,9 +30,10 @@ forged words is plain =
     let same = append_cancel_right (codes "x\n{}") words (codes "\n") cc in line_feed_is_not (rw (← same) at plain)
 
 pub no_reply_in_words :
-    TellsWorded (Input File) (Some []) (Some (error_line (codes "x\n{}") ++ told_line (Input File))) → ⊥
-no_reply_in_words (words, plain, told) =
-    forged words (append_cancel_right (error_line (codes "x\n{}")) (error_line words) _ told) plain
+    IsFaultTold (Input File) Failed (Some []) (Some (error_line (codes "x\n{}") ++ told_line (Input File))) → ⊥
+no_reply_in_words (text, (words, plain, is), told) =
+    let put = (told (λ failed. cc)).1 in
+    forged words (append_cancel_right (error_line (codes "x\n{}")) (error_line words) _ (put ∙ is)) plain
 
 -- a report is lost if it was wanted and not opened, or has failed, and not if none was wanted
 pub unopened_is_lost : {N : Type 0} (report : Report N) → is_lost true false report ≡ true

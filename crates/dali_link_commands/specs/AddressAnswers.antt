@@ -1,12 +1,11 @@
 -- The answers of `address`, and what it writes.
-use Rattle.std.specs.Prelude.{◌≡◌, ◌⊎◌, ◌+◌, ◌&&◌, not, ℕ, Bool, true, false, List, [], ◌∷◌, Option, Some, None, ⊤}
-use Rattle.std.specs.Prelude.{length, nat_eq, if◌then◌else◌}
+use Rattle.std.specs.Prelude.{◌≡◌, ◌⊎◌, ◌+◌, ◌&&◌, not, ℕ, Bool, true, false, List, [], ◌∷◌, Option, Some, None}
+use Rattle.std.specs.Prelude.{nat_eq, if◌then◌else◌}
 use Rattle.std.specs.Borrow.{Bor}
 use Rattle.dali_address.specs.declared.census.CensusEnd.{CensusEnd}
 use Rattle.dali_address.specs.declared.census.CensusEnd.TheVariants.{Apart, Shared}
 use Rattle.dali_address.specs.declared.task.Summary.{Summary}
 use Rattle.dali_address.specs.declared.task.Task.{Task}
-use Rattle.dali_address.specs.declared.task.Task.TheVariants.{All, Give}
 use Rattle.dali_address.specs.declared.task.Task.TheVariants as tasks
 use Rattle.dali_address_link.specs.declared.run.End.{End}
 use Rattle.dali_address_link.specs.declared.run.End.TheVariants.{Done, Taken}
@@ -20,27 +19,18 @@ use Rattle.dali_trace.specs.declared.fault.DriveFault.{DriveFault}
 use Rattle.dali_trace.specs.declared.fault.DriveFault.TheVariants.{Out}
 use Rattle.dali_drive.specs.Streams.{PutsFirst}
 use Rattle.std.specs.Io.KnownBytes.{Appends}
+use Rattle.dali_faults.specs.declared.fault.Fault.{Fault}
+use Rattle.dali_faults.specs.declared.fault.Fault.TheVariants.{Drive}
 use Rattle.dali_faults.specs.declared.fault.Status.{Status}
 use Rattle.dali_faults.specs.declared.fault.Status.TheVariants.{Good, Refused, Unwritten}
-use Rattle.dali_store.specs.Files.{IsIn}
-use Rattle.dali_store.specs.declared.file_store.FileStore.{FileStore}
-use Rattle.dali_link_commands.specs.declared.address.AddressCommand.{AddressCommand}
-use Rattle.dali_link_commands.specs.declared.address.Asked.{Asked}
-use Rattle.dali_link_commands.specs.declared.address.Asked.TheVariants.{Count, Run}
-use Rattle.dali_link_commands.specs.declared.linked.Linked.{Linked}
-use Rattle.dali_link_commands.specs.declared.linked.Linked.TheVariants.{Address, Bank}
-use Rattle.dali_link_commands.specs.declared.older.OlderFault.{OlderFault}
+use Rattle.dali_job.specs.declared.link_command.AddressCommand.{AddressCommand}
+use Rattle.dali_job.specs.declared.link_command.Asked.{Asked}
+use Rattle.dali_job.specs.declared.link_command.Asked.TheVariants.{Count, Run}
 use Rattle.dali_link_commands.specs.Benches.{IsUndriven, with_lines}
 use Rattle.dali_link_commands.specs.BehindAnswers.{IsBehindNamed, MayBeUnusable}
-use Rattle.dali_link_commands.specs.LinkCommands.{HasStore, IsLinkAnswer, IsShort, watched_of}
 use Rattle.dali_report.specs.declared.progress.Watched.{Watched}
-use Rattle.dali_link_commands.specs.Older.{fault_older}
 use Rattle.dali_link_commands.specs.ReadAnswers.{IsUntouched, on_link}
-use Rattle.dali_link_commands.specs.Told.{IsFaultTold, IsFileFaultTold, TellsLine}
-
--- by the flags that ask to give all anew, to list, and to count
-abbrev pub asked_of : Bool → Bool → Bool → Asked
-asked_of all list count = if count then Count else Run (if list then tasks.List else if all then All else Give)
+use Rattle.dali_link_commands.specs.Told.{IsFaultTold, TellsLine}
 
 -- the kind of progress that is shown: the number of units is known only if short addresses are named and none is taken
 -- away before
@@ -48,10 +38,6 @@ abbrev pub watched_asked : Asked → ℕ → Watched
 watched_asked (Run tasks.List) named = Watched.List
 watched_asked (Run tasks.Give) named = Watched.Address named
 watched_asked asked named = Watched.Address 0
-
-abbrev pub watched_linked : Linked → Watched
-watched_linked (Bank command) = watched_of command
-watched_linked (Address command) = watched_asked command.asked (length command.units.now)
 
 -- no unit is without a short address, none is shared, and none may be left in the initialisation state
 abbrev pub is_well : Summary → Bool
@@ -72,8 +58,8 @@ is_left_open task fault = true
 abbrev pub TellsBreak : Bool → DriveFault → Status → Option (List ℕ) → Option (List ℕ) → Type 0
 TellsBreak true fault status before after =
     ((status ≡ Unwritten) × PutsFirst before after open_line)
-    ⊎ ((lines : Option (List ℕ)) × Appends before lines open_line × IsFaultTold fault status lines after)
-TellsBreak false fault status before after = IsFaultTold fault status before after
+    ⊎ ((lines : Option (List ℕ)) × Appends before lines open_line × IsFaultTold (Drive fault) status lines after)
+TellsBreak false fault status before after = IsFaultTold (Drive fault) status before after
 
 -- each unit was counted with a short address of its own
 abbrev pub is_apart : CensusEnd → Bool
@@ -173,25 +159,11 @@ held_named has (Some name) = has name.now ∷ []
 
 -- the journal can't be used, or isn't at rest, which is reported, and nothing else was done
 abbrev pub EndsUnrun : List (Option (List ℕ)) → Look → Status → Look → Type 0
-EndsUnrun knowns first status last = (fault : OlderFault) × MayBeUnusable knowns fault × IsUndriven first last
-    × IsFileFaultTold (fault_older fault) status first.streams.out last.streams.out
+EndsUnrun knowns first status last = (fault : Fault) × MayBeUnusable knowns fault × IsUndriven first last
+    × IsFaultTold fault status first.streams.out last.streams.out
 
 -- the journal, if one is named, is at rest, and a run was made; or it is of no use
 abbrev pub IsAddressAnswer : (List ℕ → Option (List ℕ)) → AddressCommand → Look → Status → Look → Type 0
 IsAddressAnswer has command first status last =
     IsBehindNamed (held_named has command.journal) (λ rests. IsAskedAnswer command.asked first status last)
     (EndsUnrun (held_named has command.journal) first status last)
-
--- The program does over a link what the command does. Its store is the command's; `address` has one without a name.
-
-abbrev pub HasLinkedStore : {R : Type 0} → Linked → FileStore R → Type 0
-HasLinkedStore (Bank command) store = HasStore command store
-HasLinkedStore (Address command) store = IsIn false true [] store
-
-abbrev pub IsLinkedShort : Linked → Type 0
-IsLinkedShort (Bank command) = IsShort command
-IsLinkedShort (Address command) = ⊤
-
-abbrev pub IsLinkedAnswer : (List ℕ → Option (List ℕ)) → Linked → Look → Status → Look → Type 0
-IsLinkedAnswer has (Bank command) first status last = IsLinkAnswer has command first status last
-IsLinkedAnswer has (Address command) first status last = IsAddressAnswer has command first status last

@@ -1,5 +1,6 @@
 -- The journal that is asked about orders: that of a file, after the older ones as in a drive.
 use Rattle.std.specs.Prelude.{◌≡◌, ◌⊎◌, ℕ, Bool, List, Option}
+use Rattle.dali_journal.specs.declared.behind.JoinFault.{JoinFault}
 use Rattle.dali_journal.specs.declared.version.Version.{Version}
 use Rattle.dali_journal.specs.JournalState.{JournalState}
 use Rattle.dali_drive.specs.Behind.{IsWhole}
@@ -8,10 +9,8 @@ use Rattle.dali_store.specs.Stores.{Shows}
 use Rattle.dali_faults.specs.declared.fault.Fault.{Fault}
 use Rattle.dali_faults.specs.declared.fault.Fault.TheVariants.{Input}
 use Rattle.dali_faults.specs.JournalInput.{IsJournalIn, IsUnloaded}
-use Rattle.dali_link_commands.specs.declared.asked.AskedFault.{AskedFault}
-use Rattle.dali_link_commands.specs.declared.asked.AskedFault.TheVariants.{Unloaded, Unjoined}
 use Rattle.dali_link_commands.specs.declared.older.OlderFault.TheVariants.{Join}
-use Rattle.dali_link_commands.specs.Older.{AreJoined, IsOlderFault, IsStoreFailure, fault_older}
+use Rattle.dali_link_commands.specs.Older.{AreJoined, IsOlderFault, IsStoreFailure, fault_unjoined}
 
 -- the journal of these bytes, without a cut record at their end, after the older one, if there is one
 pub record IsAsked (older : Option JournalState) (bytes : List ℕ) (journal : JournalState) : Type 0 where
@@ -25,18 +24,14 @@ pub record IsAsked (older : Option JournalState) (bytes : List ℕ) (journal : J
 abbrev pub IsReadAsked : Option JournalState → Option (List ℕ) → JournalState → Type 0
 IsReadAsked older known journal = (bytes : List ℕ) × Shows known bytes × IsAsked older bytes journal
 
--- the fault that is reported
-abbrev pub fault_asked : AskedFault → Fault
-fault_asked (Unloaded fault) = fault
-fault_asked (Unjoined fault) = fault_older (Join fault)
-
--- why a store can't be asked: it gave no bytes, or they are no journal's, or none that can follow the older one
-abbrev pub IsUnasked : Option JournalState → Option (List ℕ) → Bool → Bool → AskedFault → Type 0
-IsUnasked older known failed failed_now (Unloaded fault) =
+-- the fault of a store that can't be asked: it gave no bytes, or they are no journal's, or none that can follow the
+-- older one
+abbrev pub IsUnasked : Option JournalState → Option (List ℕ) → Bool → Bool → Fault → Type 0
+IsUnasked older known failed failed_now fault =
     ((failure : InputFault) × (fault ≡ Input failure) × IsStoreFailure known failed failed_now failure)
     ⊎ ((bytes : List ℕ) × Shows known bytes × IsUnloaded bytes fault)
-IsUnasked older known failed failed_now (Unjoined fault) =
-    (bytes : List ℕ) × Shows known bytes × IsOlderFault older bytes (Join fault)
+    ⊎ ((why : JoinFault) × (fault ≡ fault_unjoined why)
+    × ((bytes : List ℕ) × Shows known bytes × IsOlderFault older bytes (Join why)))
 
 -- the same after older ones, of which this is known in the order of their names
 abbrev pub IsAskedAmong : Option (List ℕ) → List (Option (List ℕ)) → JournalState → Type 0

@@ -4,13 +4,9 @@ use Rattle.dali_report.specs.declared.outcome.Outcome.{Outcome}
 use Rattle.dali_report.specs.declared.outcome.Outcome.TheVariants as outcomes
 use Rattle.dali_faults.specs.declared.fault.Status.{Status}
 use Rattle.dali_faults.specs.declared.fault.Status.TheVariants.{Good, Refused}
-use Rattle.dali_link_commands.specs.declared.required.Required.{Required}
-use Rattle.dali_link_commands.specs.declared.required.Required.TheVariants.{Nothing, Done, DoneNow}
+use Rattle.dali_job.specs.declared.link_command.Required.{Required}
+use Rattle.dali_job.specs.declared.link_command.Required.TheVariants.{Nothing, Done, DoneNow}
 use Rattle.dali_link_commands.specs.Told.{TellsLine, error_line}
-
--- by two options, of which the second is the stricter one
-abbrev pub required_by : Bool → Bool → Required
-required_by done now = if now then DoneNow else if done then Done else Nothing
 
 -- whether all last replies are as required
 abbrev pub is_met : Required → Outcome → Bool

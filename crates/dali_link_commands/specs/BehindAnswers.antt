@@ -7,11 +7,10 @@ use Rattle.dali_journal.specs.JournalState.{JournalState}
 use Rattle.dali_input.specs.declared.fault.InputFault.{InputFault}
 use Rattle.dali_store.specs.declared.opening.OpenFault.{OpenFault}
 use Rattle.dali_trace.specs.declared.fault.DriveFault.{DriveFault}
-use Rattle.dali_drive.specs.declared.behind.BehindFault.{BehindFault}
-use Rattle.dali_drive.specs.declared.behind.BehindFault.TheVariants as behind
 use Rattle.dali_drive.specs.declared.following.Given.{Given}
 use Rattle.dali_drive.specs.declared.listed.ListedOrders.{ListedOrders}
 use Rattle.dali_drive.specs.declared.std_streams.StdSource.{StdSource}
+use Rattle.dali_drive.specs.declared.stored.StoredFault.{StoredFault}
 use Rattle.dali_drive.specs.declared.stored.StoredFault.TheVariants as stored
 use Rattle.dali_drive.specs.Behind.{IsFollowBehind, IsFollowBehindBreak, IsDriveBehind, EndsUnjoined}
 use Rattle.dali_drive.specs.Driven.{at_moment}
@@ -20,37 +19,30 @@ use Rattle.dali_drive.specs.Listed.{GaveListed, state_of}
 use Rattle.dali_drive.specs.StdStreams.{source_left, source_failed}
 use Rattle.dali_drive.specs.Stored.{EndsAtFault}
 use Rattle.dali_drive.specs.Desks.{Look, IsDurableAt, IsUnfailed, FailsOpen, ShowsFault}
-use Rattle.dali_follow.specs.declared.order_lines.OrderLines.{OrderLines}
-use Rattle.dali_follow.specs.Gave as lines
+use Rattle.dali_link_commands.specs.declared.stream.order_lines.OrderLines.{OrderLines}
+use Rattle.dali_link_commands.specs.LinesGave as lines
 use Rattle.dali_report.specs.declared.report.Report.{Report}
 use Rattle.dali_report.specs.Outcomes.{outcome_of}
 use Rattle.dali_report.specs.Told.{IsTold, IsToldEnd}
 use Rattle.dali_engine.specs.WriterState.{WriterState, start_by}
 use Rattle.dali_faults.specs.declared.fault.Fault.{Fault}
-use Rattle.dali_faults.specs.declared.fault.Fault.TheVariants.{Input}
+use Rattle.dali_faults.specs.declared.fault.Fault.TheVariants.{Drive}
 use Rattle.dali_faults.specs.declared.fault.Status.{Status}
-use Rattle.dali_link_commands.specs.declared.older.OlderFault.{OlderFault}
-use Rattle.dali_link_commands.specs.declared.older.OlderFault.TheVariants.{Join, Unloaded}
 use Rattle.dali_link_commands.specs.DriveAnswers.{fault_unopened}
 use Rattle.dali_link_commands.specs.Bare.{TellsEnded}
-use Rattle.dali_link_commands.specs.declared.required.Required.{Required}
+use Rattle.dali_job.specs.declared.link_command.Required.{Required}
 use Rattle.dali_link_commands.specs.FollowAnswers.{AreUnread, TellsFollowed}
 use Rattle.dali_faults.specs.JournalInput.{journal_limit, order_limit}
-use Rattle.dali_link_commands.specs.Older.{AreJoined, IsUnusable, fault_older}
+use Rattle.dali_link_commands.specs.Older.{AreJoined, IsUnusable, fault_unjoined}
 use Rattle.dali_link_commands.specs.Benches.{IsUndriven, with_lines}
-use Rattle.dali_link_commands.specs.OrdersAnswers.{EndsUndriven, IsUnread}
-use Rattle.dali_link_commands.specs.Told.{IsFaultTold, IsFileFaultTold}
+use Rattle.dali_link_commands.specs.OrdersAnswers.{EndsUndriven, IsUnopened, IsUnread}
+use Rattle.dali_link_commands.specs.Told.{IsFaultTold}
 use Rattle.dali_write.specs.declared.pace.Pace.{Pace}
 
--- the fault of journals that are none together
-abbrev pub fault_unjoined : JoinFault → Fault
-fault_unjoined fault = fault_older (Join fault)
-
 -- how it is reported, after what the lines held, that not all was followed
-abbrev pub IsBreakTold : BehindFault → Status → Option (List ℕ) → Option (List ℕ) → Type 0
-IsBreakTold (behind.Open fault) status before after = IsFileFaultTold (fault_unopened fault) status before after
-IsBreakTold (behind.Join fault) status before after = IsFileFaultTold (fault_unjoined fault) status before after
-IsBreakTold (behind.Drive fault) status before after = IsFaultTold fault status before after
+abbrev pub IsBreakTold : StoredFault → Status → Option (List ℕ) → Option (List ℕ) → Type 0
+IsBreakTold (stored.Open fault) status before after = IsFaultTold (fault_unopened fault) status before after
+IsBreakTold (stored.Drive fault) status before after = IsFaultTold (Drive fault) status before after
 
 module _ {G N : Type 0} (gave : G → G → List Given → Type 0) (over : G → Type 0) (contents : N → Option (List ℕ))
     (older : Option JournalState) (pace : Pace) (before after : Report N) (orders left : G) (first last : Look) where
@@ -78,7 +70,7 @@ module _ {G N : Type 0} (gave : G → G → List Given → Type 0) (contents : N
     pub unopened : EndsAtFault order_limit journal_limit pace [] (stored.Open fault) first
         (with_lines last replies lost)
     pub failed : FailsOpen fault (with_lines last replies lost).failed
-    pub told : IsFileFaultTold (fault_unopened fault) status replies last.streams.out
+    pub told : IsFaultTold (fault_unopened fault) status replies last.streams.out
     pub unread : left ≡ orders
     pub unreported : after ≡ before
 
@@ -90,7 +82,7 @@ module _ {G N : Type 0} (gave : G → G → List Given → Type 0) (contents : N
     pub unjoined : EndsUnjoined fault older order_limit journal_limit orders first.streams before left
         (with_lines last replies lost) after
     pub unfailed : IsUnfailed (with_lines last replies lost).failed
-    pub told : IsFileFaultTold (fault_unjoined fault) status replies last.streams.out
+    pub told : IsFaultTold (fault_unjoined fault) status replies last.streams.out
 
   -- it broke off after what had been given so far, since a stream failed or gave no answer, which was reported; the
   -- report has what there was, and a stop leaves all that was kept before the step that was broken off
@@ -101,7 +93,7 @@ module _ {G N : Type 0} (gave : G → G → List Given → Type 0) (contents : N
     pub broken : IsFollowBehindBreak gave (IsTold contents) (IsToldEnd contents) older order_limit journal_limit
         pace orders fault first.streams before left (with_lines last replies lost).streams after last.may_leave
     pub failed : ShowsFault fault (with_lines last replies lost).failed
-    pub told : IsFaultTold fault status replies last.streams.out
+    pub told : IsFaultTold (Drive fault) status replies last.streams.out
 
   -- why not all was followed
   abbrev pub BreaksBehind : Type 0
@@ -149,12 +141,8 @@ module _ {N : Type 0} (older : Option JournalState) (contents : N → Option (Li
       ⊎ ((listed : ListedOrders) × (left : ListedOrders) × (state_of listed ≡ record { rest = orders; moment = moment })
       × BreaksBehind GaveListed contents older pace before after listed left first status last)
 
--- a file isn't opened, or there is no memory for it
-abbrev pub IsUnopened : OlderFault → Type 0
-IsUnopened fault = (failure : InputFault) × (fault ≡ Unloaded (Input failure)) × IsUnread failure
-
 -- One of the known ones can't be used after those before it, which are one. Whether a file failed isn't known.
-pub record IsOneUnusable (knowns : List (Option (List ℕ))) (fault : OlderFault) : Type 0 where
+pub record IsOneUnusable (knowns : List (Option (List ℕ))) (fault : Fault) : Type 0 where
   pub earlier : List (Option (List ℕ))
   pub known : Option (List ℕ)
   pub later : List (Option (List ℕ))
@@ -166,7 +154,7 @@ pub record IsOneUnusable (knowns : List (Option (List ℕ))) (fault : OlderFault
   pub unusable : IsUnusable older known failed failed_now fault
 
 -- why the files of which this is known aren't older journals of one drive: one isn't opened, or can't be used
-abbrev pub MayBeUnusable : List (Option (List ℕ)) → OlderFault → Type 0
+abbrev pub MayBeUnusable : List (Option (List ℕ)) → Fault → Type 0
 MayBeUnusable knowns fault = IsUnopened fault ⊎ IsOneUnusable knowns fault
 
 -- the answer if older journals are read, of whose files this is known, in the order of their names: after the one that
@@ -178,8 +166,8 @@ IsBehindNamed knowns answers refused =
 -- an older journal can't be used, which is reported, and nothing else was done
 abbrev pub EndsUnread : {N : Type 0} → List (Option (List ℕ)) → Report N → Report N → Look → Status → Look → Type 0
 EndsUnread knowns before after first status last =
-    (fault : OlderFault) × MayBeUnusable knowns fault × IsUndriven first last
-    × IsFileFaultTold (fault_older fault) status first.streams.out last.streams.out × (after ≡ before)
+    (fault : Fault) × MayBeUnusable knowns fault × IsUndriven first last
+    × IsFaultTold fault status first.streams.out last.streams.out × (after ≡ before)
 
 -- The same of a file of lines, of which nothing is known: of what it gave, or of one that isn't opened.
 abbrev pub IsFileFollow : {F N : Type 0} → Option JournalState → (F → Option (List ℕ)) → (N → Option (List ℕ)) → ℕ

@@ -6,6 +6,7 @@ use Rattle.dali_store.specs.declared.opening.OpenFault.TheVariants as unopened
 use Rattle.dali_store.specs.declared.store.StoreFault.TheVariants as stores
 use Rattle.dali_faults.specs.declared.fault.Fault.{Fault}
 use Rattle.dali_faults.specs.declared.fault.Fault.TheVariants.{Input, Journal}
+use Rattle.dali_link_commands.specs.Older.{fault_unjoined}
 
 -- the fault of a journal that isn't opened
 abbrev pub fault_unopened : OpenFault → Fault
@@ -14,3 +15,4 @@ fault_unopened (unopened.Journal fault) = Journal fault
 fault_unopened (unopened.Store stores.TooBig) = Input TooBig
 fault_unopened (unopened.Store stores.NoMemory) = Input Memory
 fault_unopened (unopened.Store stores.Failed) = Input File
+fault_unopened (unopened.Join fault) = fault_unjoined fault

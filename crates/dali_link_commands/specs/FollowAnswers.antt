@@ -1,21 +1,21 @@
 -- The answers of `drive --follow`, and what it writes, for orders that come line by line: of its journal, and of what
 -- was followed over its streams.
 use Rattle.std.specs.Prelude.{◌≡◌, ℕ, Bool, true, false, List, Option}
-use Rattle.dali_follow.specs.declared.order_lines.OrderLines.{OrderLines}
-use Rattle.dali_follow.specs.Gave.{state_of}
+use Rattle.dali_link_commands.specs.declared.stream.order_lines.OrderLines.{OrderLines}
+use Rattle.dali_link_commands.specs.LinesGave.{state_of}
 use Rattle.dali_input.specs.declared.fault.InputFault.TheVariants.{File}
 use Rattle.dali_report.specs.declared.outcome.Outcome.{Outcome}
 use Rattle.dali_faults.specs.declared.fault.Fault.TheVariants.{Input}
 use Rattle.dali_faults.specs.declared.fault.Status.{Status}
 use Rattle.dali_faults.specs.declared.fault.Status.TheVariants.{Refused}
-use Rattle.dali_link_commands.specs.declared.required.Required.{Required}
+use Rattle.dali_job.specs.declared.link_command.Required.{Required}
 use Rattle.dali_link_commands.specs.Bare.{TellsEnded}
-use Rattle.dali_link_commands.specs.Told.{IsFileFaultTold}
+use Rattle.dali_link_commands.specs.Told.{IsFaultTold}
 
 -- How a stream ends that was followed to its end, and what is reported then: if the source has failed, that; else, if a
 -- line was refused, which was reported, it is refused; else it ends as a drive.
 abbrev pub TellsFollowed : Bool → Bool → Required → Outcome → Status → Option (List ℕ) → Option (List ℕ) → Type 0
-TellsFollowed true has_refused required outcome status before after = IsFileFaultTold (Input File) status before after
+TellsFollowed true has_refused required outcome status before after = IsFaultTold (Input File) status before after
 TellsFollowed false true required outcome status before after = (status ≡ Refused) × (after ≡ before)
 TellsFollowed false false required outcome status before after = TellsEnded required outcome status before after
 

@@ -8,5 +8,11 @@ pub mod Older
 pub mod Asked
 pub mod BehindAnswers
 pub mod ReadAnswers
-pub mod LinkCommands
 pub mod AddressAnswers
+pub mod LinkCommands
+pub mod LineBuffers
+pub mod LineFaults
+pub mod LinesGave
+pub mod LinesJudged
+pub mod StreamLines
+pub mod LineReads

@@ -1,7 +1,6 @@
 -- The effect of each command over a link, as its own definition says.
-use Rattle.std.specs.Prelude.{◌≡◌, ◌≤◌, ◌⊎◌, ◌&&◌, ◌||◌, not, ℕ, Bool, true, false, is_some, length, List, [], Option, None, ⊤}
+use Rattle.std.specs.Prelude.{◌≡◌, ◌⊎◌, ◌&&◌, ◌||◌, not, ℕ, Bool, true, false, is_some, length, List, [], Option, None, ⊤}
 use Rattle.std.specs.Io.KnownBytes.{Appends}
-use Rattle.std.specs.List.{AllByRecursion}
 use Rattle.std.specs.declared.fs.File.{File}
 use Rattle.dali_drive.specs.Desks.{Look}
 use Rattle.dali_store.specs.Files.{IsIn}
@@ -11,10 +10,11 @@ use Rattle.dali_report.specs.Told.{has_failed, has_output}
 use Rattle.dali_report.specs.declared.progress.Watched.{Watched}
 use Rattle.dali_faults.specs.declared.fault.Status.{Status}
 use Rattle.dali_faults.specs.declared.fault.Status.TheVariants.{Failed, Unwritten}
-use Rattle.dali_link_commands.specs.declared.drive.DriveTask.{DriveTask}
-use Rattle.dali_link_commands.specs.declared.link_command.LinkCommand.{LinkCommand}
+use Rattle.dali_job.specs.declared.link_command.DriveTask.{DriveTask}
+use Rattle.dali_job.specs.declared.link_command.LinkCommand.{LinkCommand}
 use Rattle.dali_link_commands.specs.declared.report_output.ReportOutput.{ReportOutput}
-use Rattle.dali_link_commands.specs.declared.link_command.LinkCommand.TheVariants.{Drive, Read, Verify, Scan}
+use Rattle.dali_job.specs.declared.link_command.LinkCommand.TheVariants.{Drive, Read, Verify, Scan, Address}
+use Rattle.dali_link_commands.specs.AddressAnswers.{IsAddressAnswer, watched_asked}
 use Rattle.dali_link_commands.specs.BehindAnswers.{IsAnswerBehind, IsBehindNamed, IsFileFollow, EndsUnread}
 use Rattle.dali_journal.specs.JournalState.{JournalState}
 use Rattle.dali_link_commands.specs.Benches.{with_lines}
@@ -22,12 +22,6 @@ use Rattle.dali_link_commands.specs.Older.{held_under}
 use Rattle.dali_link_commands.specs.OrdersAnswers.{IsFileAnswer}
 use Rattle.dali_link_commands.specs.ReadAnswers.{IsReadAnswer, IsScanAnswer, IsVerifyAnswer, asked_addresses}
 use Rattle.dali_link_commands.specs.Told.{IsPlain, error_line}
-
--- each short address that it names is one
-abbrev pub IsShort : LinkCommand → Type 0
-IsShort (Read unit bank) = unit ≤ 63
-IsShort (Scan addresses sought) = AllByRecursion (λ address. address ≤ 63) addresses.now
-IsShort other = ⊤
 
 -- the store is in the file that it writes: its journal, which may have to be there, or the text of a bank; one without
 -- a name if it writes none
@@ -41,7 +35,8 @@ abbrev pub watched_of : LinkCommand → Watched
 watched_of (Drive task) = Watched.Drive task.pace
 watched_of (Read unit bank) = Watched.Read
 watched_of (Verify orders report) = Watched.Verify
-watched_of (Scan addresses sought) = Watched.Scan (length (asked_addresses addresses.now))
+watched_of (Scan addresses sought) = Watched.Scan (length (asked_addresses addresses.items))
+watched_of (Address command) = watched_asked command.asked (length command.units.items)
 
 -- a report was wanted, and wasn't opened, or has failed
 abbrev pub is_lost : {N : Type 0} → Bool → Bool → Report N → Bool
@@ -90,12 +85,13 @@ Drives false task contents older before after first status last =
 abbrev pub IsLinkAnswer : (List ℕ → Option (List ℕ)) → LinkCommand → Look → Status → Look → Type 0
 IsLinkAnswer has (Drive task) first status last =
     IsReported (is_some task.report) (λ before after begun ended behind.
-    IsBehindNamed (held_under has task.older.now)
+    IsBehindNamed (held_under has task.older.items)
     (λ older. Drives task.follow task report_contents older before after begun ended behind)
-    (EndsUnread (held_under has task.older.now) before after begun ended behind)) first status last
+    (EndsUnread (held_under has task.older.items) before after begun ended behind)) first status last
 IsLinkAnswer has (Read unit bank) first status last = IsReadAnswer unit (λ leaves. ⊤) first status last
 IsLinkAnswer has (Verify orders report) first status last =
     IsReported (is_some report) (λ before after. IsFileAnswer (IsVerifyAnswer report_contents before after)
     (after ≡ before)) first status last
 IsLinkAnswer has (Scan addresses sought) first status last =
-    IsScanAnswer sought (asked_addresses addresses.now) first status last
+    IsScanAnswer sought (asked_addresses addresses.items) first status last
+IsLinkAnswer has (Address command) first status last = IsAddressAnswer has command first status last

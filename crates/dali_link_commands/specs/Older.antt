@@ -2,6 +2,7 @@
 use Rattle.std.specs.Prelude.{◌≡◌, ◌≢◌, ◌++◌, ◌⊎◌, ℕ, Bool, true, List, [], ◌∷◌, length, map, Option, Some, None, IsSomeAnd}
 use Rattle.std.specs.Prelude.{⊤}
 use Rattle.std.specs.Borrow.{Bor}
+use Rattle.dali_journal.specs.declared.behind.JoinFault.{JoinFault}
 use Rattle.dali_journal.specs.declared.behind.JoinFault.TheVariants.{NoMemory}
 use Rattle.dali_journal.specs.declared.fault.JournalFault.TheVariants as journals
 use Rattle.dali_journal.specs.declared.record.Record.{Record}
@@ -29,6 +30,10 @@ fault_older Cut = faults.Older
 fault_older AtWork = faults.Older
 fault_older (Join NoMemory) = faults.Input Memory
 fault_older (Join other) = faults.Older
+
+-- that of journals that are none together
+abbrev pub fault_unjoined : JoinFault → Fault
+fault_unjoined fault = fault_older (Join fault)
 
 -- the records of the older journal, none if there is none
 abbrev pub records_in : Option JournalState → List Record
@@ -73,11 +78,16 @@ IsStoreFailure known failed failed_now File = failed_now ≡ true
 IsStoreFailure known failed failed_now other = ⊥
 
 -- why a store can't be used after the older one: it gave no bytes, or they can't be used so
-abbrev pub IsUnusable : Option JournalState → Option (List ℕ) → Bool → Bool → OlderFault → Type 0
-IsUnusable older known failed failed_now fault =
-    ((failure : InputFault) × (fault ≡ Unloaded (faults.Input failure))
+abbrev pub IsUnusedFor : Option JournalState → Option (List ℕ) → Bool → Bool → OlderFault → Type 0
+IsUnusedFor older known failed failed_now why =
+    ((failure : InputFault) × (why ≡ Unloaded (faults.Input failure))
     × IsStoreFailure known failed failed_now failure)
-    ⊎ ((bytes : List ℕ) × Shows known bytes × IsOlderFault older bytes fault)
+    ⊎ ((bytes : List ℕ) × Shows known bytes × IsOlderFault older bytes why)
+
+-- and the fault that is reported
+abbrev pub IsUnusable : Option JournalState → Option (List ℕ) → Bool → Bool → Fault → Type 0
+IsUnusable older known failed failed_now fault =
+    (why : OlderFault) × (fault ≡ fault_older why) × IsUnusedFor older known failed failed_now why
 
 -- the bytes that are known are those of this journal, which is at rest
 pub record IsReadAtRest (known : Option (List ℕ)) (own : JournalState) : Type 0 where
@@ -110,10 +120,10 @@ pub record AreJoined (knowns : List (Option (List ℕ))) (whole : Option Journal
   pub at_rest : AreReadAtRest knowns owns
   pub are_one : AreOne owns whole
 
--- The first of the stores that can't be used, counted from 0. Those before it are read, and their journals are one.
--- Those after it are left alone.
+-- The first of the stores that can't be used, for which this fault is reported. Those before it are read, and their
+-- journals are one. Those after it are left alone.
 pub record IsFirstUnusable {S : Type 0} (seen : S → Option (List ℕ)) (failed : S → Bool) (befores afters : List S)
-    (index : ℕ) (fault : OlderFault) : Type 0 where
+    (fault : Fault) : Type 0 where
   pub earlier : List S
   pub read : List S
   pub before : S
@@ -121,7 +131,7 @@ pub record IsFirstUnusable {S : Type 0} (seen : S → Option (List ℕ)) (failed
   pub later : List S
   pub befores_are : befores ≡ earlier ++ (before ∷ later)
   pub afters_are : afters ≡ read ++ (after ∷ later)
-  pub index_is : index ≡ length earlier
+  pub as_many : length read ≡ length earlier
   pub older : Option JournalState
   pub joined : AreJoined (map seen earlier) older
   pub unusable : IsUnusable older (seen before) (failed before) (failed after) fault

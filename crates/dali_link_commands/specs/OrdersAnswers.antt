@@ -9,11 +9,12 @@ use Rattle.dali_input.specs.declared.item.ItemFault.{ItemFault}
 use Rattle.dali_input.specs.Input.{InputState, IsReadFailure, ReadsInput}
 use Rattle.dali_input.specs.Orders.{AreOrdersIn, AreRefusedIn, IsInputFault, orders_limit}
 use Rattle.dali_drive.specs.Desks.{Look}
+use Rattle.dali_faults.specs.declared.fault.Fault.{Fault}
 use Rattle.dali_faults.specs.declared.fault.Fault.TheVariants.{Input}
 use Rattle.dali_faults.specs.declared.fault.Status.{Status}
 use Rattle.dali_faults.specs.declared.fault.Status.TheVariants.{Refused, Unwritten}
 use Rattle.dali_link_commands.specs.Benches.{IsUndriven}
-use Rattle.dali_link_commands.specs.Told.{refused_lines, IsFileFaultTold}
+use Rattle.dali_link_commands.specs.Told.{refused_lines, IsFaultTold}
 
 -- items are refused, and all these are printed
 pub record EndsRefused (input : List ℕ) (first : Look) (status : Status) (last : Look) : Type 0 where
@@ -26,11 +27,14 @@ pub record EndsRefused (input : List ℕ) (first : Look) (status : Status) (last
 -- the fault of an input that isn't driven is reported
 pub record EndsUndriven (fault : InputFault) (first : Look) (status : Status) (last : Look) : Type 0 where
   pub undriven : IsUndriven first last
-  pub told : IsFileFaultTold (Input fault) status first.streams.out last.streams.out
+  pub told : IsFaultTold (Input fault) status first.streams.out last.streams.out
 
 -- a file isn't read, or there is no memory for it
 abbrev pub IsUnread : InputFault → Type 0
 IsUnread fault = (fault ≡ File) ⊎ (fault ≡ Memory)
+
+abbrev pub IsUnopened : Fault → Type 0
+IsUnopened fault = (failure : InputFault) × (fault ≡ Input failure) × IsUnread failure
 
 module _ (answers : List Contents → Look → Status → Look → Type 0) (unreported : Type 0) (first : Look)
     (status : Status) (last : Look) where

@@ -17,13 +17,13 @@ use Rattle.dali_drive.specs.Desks.{Look, IsDurableAt, IsUnfailed, FailsOpen, Sho
 use Rattle.dali_drive.specs.UnitRead.{IsUnitRead, UnitReadBroke}
 use Rattle.dali_report.specs.declared.report.Report.{Report}
 use Rattle.dali_report.specs.Told.{IsToldFound}
-use Rattle.dali_faults.specs.declared.fault.Fault.TheVariants.{Input}
+use Rattle.dali_faults.specs.declared.fault.Fault.TheVariants.{Drive, Input}
 use Rattle.dali_faults.specs.declared.fault.Status.{Status}
 use Rattle.dali_faults.specs.declared.fault.Status.TheVariants.{Good, Refused}
 use Rattle.dali_link_commands.specs.Benches.{with_lines}
 use Rattle.dali_link_commands.specs.Bare.{TellsBare, is_empty}
 use Rattle.dali_link_commands.specs.OrdersAnswers.{IsUnread}
-use Rattle.dali_link_commands.specs.Told.{IsFaultTold, IsFileFaultTold, TellsLine}
+use Rattle.dali_link_commands.specs.Told.{IsFaultTold, TellsLine}
 
 -- what a survey goes over: a desk without its journal, which is left alone
 abbrev pub on_link : Look → Streams
@@ -66,7 +66,7 @@ module _ (unit : ℕ) (leaves_only : (List ℕ → Type 0) → Type 0) (first : 
     pub lost : Bool
     pub failed : FailsOpen (Store stores.Failed) (with_lines last first.streams.out lost).failed
     pub told : (fault : InputFault) × IsUnread fault
-        × IsFileFaultTold (Input fault) status first.streams.out last.streams.out
+        × IsFaultTold (Input fault) status first.streams.out last.streams.out
 
   -- the link broke the reading off, which is reported, and the file is as it was
   pub record EndsUnread : Type 0 where
@@ -76,7 +76,7 @@ module _ (unit : ℕ) (leaves_only : (List ℕ → Type 0) → Type 0) (first : 
     pub leaves : leaves_only first.may_leave
     pub lost : Bool
     pub failed : ShowsFault fault (with_lines last first.streams.out lost).failed
-    pub told : IsFaultTold fault status first.streams.out last.streams.out
+    pub told : IsFaultTold (Drive fault) status first.streams.out last.streams.out
 
   abbrev pub IsReadAnswer : Type 0
   IsReadAnswer = EndsRead ⊎ EndsSilent ⊎ EndsUnkept ⊎ EndsUnread
@@ -106,7 +106,7 @@ module _ {N : Type 0} (contents : N → Option (List ℕ)) (before after : Repor
         (on_link (with_lines last lines lost)) after
     pub untouched : IsUntouched first last
     pub failed : ShowsFault fault (with_lines last lines lost).failed
-    pub told : IsFaultTold fault status lines last.streams.out
+    pub told : IsFaultTold (Drive fault) status lines last.streams.out
 
   abbrev pub IsVerifyAnswer : Type 0
   IsVerifyAnswer = EndsVerified ⊎ EndsUnverified
@@ -134,7 +134,7 @@ pub record EndsUnscanned (sought : Sought) (addresses : List ℕ) (first : Look)
   pub broke : ScanBroke sought addresses fault (on_link first) (on_link (with_lines last lines lost))
   pub untouched : IsUntouched first last
   pub failed : ShowsFault fault (with_lines last lines lost).failed
-  pub told : IsFaultTold fault status lines last.streams.out
+  pub told : IsFaultTold (Drive fault) status lines last.streams.out
 
 abbrev pub IsScanAnswer : Sought → List ℕ → Look → Status → Look → Type 0
 IsScanAnswer sought addresses first status last =

@@ -4,7 +4,7 @@ ghost use Rattle.dali_drive.specs.Desks.{IsUnfailed};
 ghost use Rattle.dali_text.specs.Output.{has_failed, held};
 ghost use Rattle.dali_address_link.specs.AddressLines.{end_text as text_at_end};
 ghost use Rattle.dali_link_commands.specs.AddressAnswers.{IsAddressAnswer, IsAskedAnswer, IsCountAnswer, IsRunAnswer};
-ghost use Rattle.dali_link_commands.specs.AddressAnswers.{TellsBreak, asked_of, end_after as ended_after, is_apart as apart};
+ghost use Rattle.dali_link_commands.specs.AddressAnswers.{TellsBreak, end_after as ended_after, is_apart as apart};
 ghost use Rattle.dali_link_commands.specs.AddressAnswers.{marked_in as marked, may_be_good as good, shared_in as shared};
 ghost use Rattle.dali_link_commands.specs.AddressAnswers.{status_at_end, watched_asked};
 ghost use Rattle.dali_link_commands.specs.AddressAnswers.{is_left_open as left_open, is_well as well};
@@ -12,7 +12,6 @@ ghost use Rattle.dali_link_commands.specs.Benches.{TellsUnwritten, bench, std_be
 ghost use Rattle.dali_link_commands.specs.ReadAnswers.{on_link};
 ghost use Rattle.dali_link_commands.specs.Told.{TellsLine, is_out};
 
-use crate::drive_files::tell_unjoined;
 use crate::drive_lines::{Causes, tell_fault};
 use crate::journal_files::JournalFiles;
 use crate::lines::Lines;
@@ -22,6 +21,7 @@ use dali_address::{CensusEnd, Summary, Task};
 use dali_address_link::{End, OPEN, address_units, count_text, count_units, end_text};
 use dali_drive::{DriveFault, Sink, Source, StdSink, StdSource, StoreDesk, put_all};
 use dali_faults::Status;
+use dali_job::{AddressCommand, Asked};
 use dali_report::Watched;
 use dali_store::{FileStore, Store};
 use std::alloc::Global;
@@ -31,79 +31,44 @@ use std::io::{Read, Write};
 // How many silent asks a census takes for the answer that no unit is left (profile).
 const CENSUS_CARE: u8 = 4;
 
-/// The task of `address`.
-#[derive(Clone, Copy, PartialEq, Eq)]
-pub enum Asked {
-    /// To give short addresses, to give them anew, or to list them.
-    Run(Task),
-    /// To count units.
-    Count,
-}
-
-impl Asked {
-    /// By its flags, of which one is given at most.
-    pub fn by(all: bool, list: bool, count: bool) -> Asked
-        ensures { result ≡ asked_of all list count }
-    {
-        match (all, list, count) {
-            (_, _, true) => Asked::Count,
-            (_, true, false) => Asked::Run(Task::List),
-            (true, false, false) => Asked::Run(Task::All),
-            (false, false, false) => Asked::Run(Task::Give),
-        }
+/// The kind of progress that is shown of `address`. The number of units is known only if short addresses are named and
+/// none is taken away before.
+pub(crate) fn watched_address(command: &AddressCommand<'_>) -> Watched
+    ensures { result ≡ watched_asked command.now.asked (length command.now.units.items) }
+{
+    match command.asked {
+        Asked::Run(Task::List) => Watched::List,
+        Asked::Run(Task::Give) => Watched::Address(command.units.len() as u64),
+        Asked::Run(Task::All | Task::Close) | Asked::Count => Watched::Address(0),
     }
 }
 
-/// `address`, over a link (profile).
-#[derive(Clone, Copy)]
-pub struct AddressCommand<'a> {
-    /// Its task.
-    pub asked: Asked,
-    /// Those that are given, in their order; if none is named, the lowest that are free.
-    pub units: &'a [u8],
-    /// The journal, if one is named, that has to be idle.
-    pub journal: Option<&'a str>,
-}
-
-impl AddressCommand<'_> {
-    /// The kind of progress that is shown. The number of units is known only if short addresses are named and none is
-    /// taken away before.
-    pub fn watched(&self) -> Watched
-        ensures { result ≡ watched_asked self.now.asked (length self.now.units.now) }
-    {
-        match self.asked {
-            Asked::Run(Task::List) => Watched::List,
-            Asked::Run(Task::Give) => Watched::Address(self.units.len() as u64),
-            Asked::Run(Task::All | Task::Close) | Asked::Count => Watched::Address(0),
-        }
-    }
-
-    /// Carries it out at a desk whose streams haven't failed, as `address` does; the store is left alone. If a journal
-    /// is named that isn't at rest, or that a drive has open, nothing is sent: 15 Older, 20 Memory or 21 File. No drive
-    /// can open it as long as this goes on.
-    pub fn carry_out<
-        R: Files<File = File> + AllocGlobal + JournalFiles,
-        I: Read,
-        L: Write,
-        O: Write,
-    >(
-        &self,
-        rt: &R,
-        desk: &mut StoreDesk<StdSource<I>, StdSink<L>, FileStore<'_, R>, Lines<O>>,
-    ) -> Status
-        requires unfailed { IsUnfailed (std_bench L.contents I.remaining O.contents desk.old).failed }
-        ensures carried_out { IsAddressAnswer (R.has rt.now) self.now
-            (std_bench L.contents I.remaining O.contents desk.old) result
-            (std_bench L.contents I.remaining O.contents desk.new) }
-        ensures unwritten { TellsUnwritten result (std_bench L.contents I.remaining O.contents desk.new) }
-    {
-        let Some(journal) = self.journal else {
-            return address(rt.alloc(), self.asked, self.units, desk);
-        };
-        match held_older(rt, &[journal]) {
-            Ok(_held) => address(rt.alloc(), self.asked, self.units, desk),
-            Err(unjoined) => tell_unjoined(rt.alloc(), &mut desk.out.output, &unjoined),
-        }
+/// Carries `address` out at a desk whose streams haven't failed, as the function `address` does; the store is left
+/// alone. If a journal is named that isn't at rest, or that a drive has open, nothing is sent: 15 Older, 20 Memory or
+/// 21 File. No drive can open it as long as this goes on.
+pub fn address_beside<
+    R: Files<File = File> + AllocGlobal + JournalFiles,
+    I: Read,
+    L: Write,
+    O: Write,
+>(
+    rt: &R,
+    command: &AddressCommand<'_>,
+    desk: &mut StoreDesk<StdSource<I>, StdSink<L>, FileStore<'_, R>, Lines<O>>,
+) -> Status
+    requires unfailed { IsUnfailed (std_bench L.contents I.remaining O.contents desk.old).failed }
+    ensures carried_out { IsAddressAnswer (R.has rt.now) command.now
+        (std_bench L.contents I.remaining O.contents desk.old) result
+        (std_bench L.contents I.remaining O.contents desk.new) }
+    ensures unwritten { TellsUnwritten result (std_bench L.contents I.remaining O.contents desk.new) }
+{
+    let units = command.units.as_slice();
+    let Some(journal) = command.journal else {
+        return address(rt.alloc(), command.asked, units, desk);
+    };
+    match held_older(rt, &[journal]) {
+        Ok(_held) => address(rt.alloc(), command.asked, units, desk),
+        Err(problem) => problem.tell(&mut desk.out),
     }
 }
 
@@ -162,11 +127,7 @@ fn run<I: Source, L: Sink, S: Store, W: Write>(
     match ended {
         Ok(end) => tell_end(&mut desk.out, counted, end),
         Err(fault) => {
-            let causes = Causes {
-                link_in: desk.link_in.cause(),
-                link_out: desk.link_out.cause(),
-                store: None,
-            };
+            let causes = Causes::of(&desk.link_in, &desk.link_out, None);
             tell_break(alloc, &mut desk.out, task, fault, causes)
         }
     }
@@ -193,11 +154,7 @@ fn count<I: Source, L: Sink, S: Store, W: Write>(
             run(alloc, Task::Close, &[], Some(end), desk)
         }
         Err(fault) => {
-            let causes = Causes {
-                link_in: desk.link_in.cause(),
-                link_out: desk.link_out.cause(),
-                store: None,
-            };
+            let causes = Causes::of(&desk.link_in, &desk.link_out, None);
             tell_break(alloc, &mut desk.out, Task::Close, fault, causes)
         }
     }

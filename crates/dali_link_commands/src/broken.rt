@@ -1,13 +1,13 @@
 // How it is reported that a drive broke off, after what its lines hold.
 ghost use Rattle.std.specs.Prelude.{◌≡◌, ◌≢◌};
-ghost use Rattle.dali_drive.specs.Behind.{BehindShows};
+ghost use Rattle.dali_drive.specs.Stored.{StoredShows};
 ghost use Rattle.dali_link_commands.specs.Benches.{TellsUnwritten, bench};
 ghost use Rattle.dali_link_commands.specs.BehindAnswers.{IsBreakTold};
 
-use crate::drive_lines::{Causes, FileFault, tell_fault, tell_file};
+use crate::drive_lines::{Causes, tell_fault};
 use crate::lines::Lines;
-use crate::older::OlderFault;
-use dali_drive::{BehindFault, Sink, Source, StoreDesk};
+use crate::problem::Problem;
+use dali_drive::{Sink, Source, StoreDesk, StoredFault};
 use dali_faults::Status;
 use dali_store::Store;
 use std::alloc::Global;
@@ -18,9 +18,9 @@ pub(crate) fn tell_broken<I: Source, L: Sink, S: Store, W: Write>(
     alloc: Global,
     name: &str,
     desk: &mut StoreDesk<I, L, S, Lines<W>>,
-    fault: BehindFault,
+    fault: StoredFault,
 ) -> Status
-    requires shown { BehindShows fault
+    requires shown { StoredShows fault
         (bench S.seen S.failed S.may_leave L.held L.failed I.left I.failed W.contents desk.old).failed }
     ensures told { IsBreakTold fault result
         (bench S.seen S.failed S.may_leave L.held L.failed I.left I.failed W.contents desk.old).streams.out
@@ -31,20 +31,11 @@ pub(crate) fn tell_broken<I: Source, L: Sink, S: Store, W: Write>(
     ensures not_good { result ≢ Status.Good }
 {
     match fault {
-        BehindFault::Open(fault) => {
-            let fault = FileFault::Unopened(fault, desk.journal.cause());
-            tell_file(alloc, &mut desk.out.output, name, fault)
+        StoredFault::Open(fault) => {
+            Problem::unopened(alloc, name, fault, desk.journal.cause()).tell(&mut desk.out)
         }
-        BehindFault::Join(fault) => {
-            let fault = FileFault::Older(OlderFault::Join(fault), None);
-            tell_file(alloc, &mut desk.out.output, name, fault)
-        }
-        BehindFault::Drive(fault) => {
-            let causes = Causes {
-                link_in: desk.link_in.cause(),
-                link_out: desk.link_out.cause(),
-                store: desk.journal.cause(),
-            };
+        StoredFault::Drive(fault) => {
+            let causes = Causes::of(&desk.link_in, &desk.link_out, desk.journal.cause());
             tell_fault(alloc, &mut desk.out, fault, causes)
         }
     }

@@ -1,4 +1,4 @@
-ghost use Rattle.std.specs.Prelude.{◌≡◌, if◌then◌else◌, is_some};
+ghost use Rattle.std.specs.Prelude.{◌≡◌, is_some};
 ghost use Rattle.dali_drive.specs.Behind.{IsReadyBehind};
 ghost use Rattle.dali_drive.specs.Stored.{LeavesPart};
 ghost use Rattle.dali_input.specs.Input.{ReadsAtMost, state_of};
@@ -10,13 +10,15 @@ ghost use Rattle.dali_link_commands.specs.OrdersAnswers.{IsReaderAnswer};
 ghost use Rattle.dali_faults.specs.JournalInput.{journal_limit, order_limit};
 
 use crate::broken::tell_broken;
-use crate::drive_lines::{FileFault, tell_file, tell_refused};
+use crate::drive_lines::tell_refused;
 use crate::lines::Lines;
-use crate::required::{Required, tell_ended};
+use crate::problem::Problem;
+use crate::required::tell_ended;
 use dali_bank::Order;
 use dali_drive::{ListedOrders, Sink, Source, StoreDesk, Terms, follow_stored};
 use dali_faults::{JOURNAL_LIMIT, Status};
 use dali_input::{Input, ORDERS_LIMIT, read_input, read_orders};
+use dali_job::DriveTask;
 use dali_journal::{Journal, MOST_ORDERS};
 use dali_report::Report;
 use dali_store::Store;
@@ -25,50 +27,14 @@ use std::alloc::Global;
 use std::io;
 use std::io::{ErrorKind, Read, Write};
 
-/// The orders to drive, and how.
-#[derive(Clone, Copy)]
-pub struct DriveTask<'a> {
-    /// The name of the orders for a person: ORDERS.
-    pub orders: &'a str,
-    /// And the journal: JOURNAL.
-    pub journal: &'a str,
-    /// The older journals, the oldest first.
-    pub older: &'a [&'a str],
-    /// The moment that is kept with each order that begins.
-    pub moment: u64,
-    /// The plan of its sessions.
-    pub pace: Pace,
-    /// The requirement on the last replies.
-    pub required: Required,
-    /// Whether the journal has to be there: none is made then.
-    pub require_journal: bool,
-    /// Whether the orders come line by line, each carried out before the next is read.
-    pub follow: bool,
-    /// The file, if one is wanted, that gets a line for each order at its last reply.
-    pub report: Option<&'a str>,
-}
-
-impl DriveTask<'_> {
-    // Its terms: what a journal may have, and its plan.
-    pub(crate) fn terms(&self) -> Terms
-        ensures { result ≡ record { orders = order_limit; bytes = journal_limit; pace = self.now.pace } }
-    {
-        Terms {
-            orders: MOST_ORDERS,
-            bytes: JOURNAL_LIMIT as usize,
-            pace: self.pace,
-        }
-    }
-}
-
-/// The plan that is asked for: the short one, or else the checked one.
-pub fn pace_of(short_plan: bool) -> Pace
-    ensures { result ≡ if short_plan then Pace.Short else Pace.Checked }
+// The terms of a drive: what a journal may have, and its plan.
+pub(crate) fn terms_of(pace: Pace) -> Terms
+    ensures { result ≡ record { orders = order_limit; bytes = journal_limit; pace = pace } }
 {
-    if short_plan {
-        Pace::Short
-    } else {
-        Pace::Checked
+    Terms {
+        orders: MOST_ORDERS,
+        bytes: JOURNAL_LIMIT as usize,
+        pace,
     }
 }
 
@@ -79,7 +45,7 @@ pub fn pace_of(short_plan: bool) -> Pace
 pub fn drive_input<R: Read, I: Source, L: Sink, S: Store, W: Write, N: Write + Drop>(
     alloc: Global,
     older: Option<Journal>,
-    task: DriveTask<'_>,
+    task: &DriveTask<'_>,
     input: &mut Input<R>,
     desk: &mut StoreDesk<I, L, S, Lines<W>>,
     report: &mut Report<N>,
@@ -87,7 +53,7 @@ pub fn drive_input<R: Read, I: Source, L: Sink, S: Store, W: Write, N: Write + D
     requires ready { IsReadyBehind older
         (bench S.seen S.failed S.may_leave L.held L.failed I.left I.failed W.contents desk.old) }
     ensures driven { IsReaderAnswer
-        (IsAnswerBehind older N.contents task.entry.moment task.entry.pace task.entry.required report.old report.new)
+        (IsAnswerBehind older N.contents task.now.moment task.now.pace task.now.required report.old report.new)
         (report.new ≡ report.old)
         (bench S.seen S.failed S.may_leave L.held L.failed I.left I.failed W.contents desk.old)
         result (bench S.seen S.failed S.may_leave L.held L.failed I.left I.failed W.contents desk.new)
@@ -102,17 +68,14 @@ pub fn drive_input<R: Read, I: Source, L: Sink, S: Store, W: Write, N: Write + D
     let bytes = match read_input(alloc, input, ORDERS_LIMIT) {
         Ok(bytes) => bytes,
         Err(fault) => {
-            let fault = FileFault::Unread(fault, failure_of(input.cause()));
-            return tell_file(alloc, &mut desk.out.output, task.orders, fault);
+            let cause = failure_of(input.cause());
+            return Problem::unread(alloc, task.orders, fault, cause).tell(&mut desk.out);
         }
     };
     match read_orders(alloc, bytes.as_slice()) {
         Ok(Ok(orders)) => drive_orders(alloc, older, task, orders.as_slice(), desk, report),
         Ok(Err(refused)) => tell_refused(&mut desk.out.output, refused.as_slice()),
-        Err(fault) => {
-            let fault = FileFault::Unread(fault, None);
-            tell_file(alloc, &mut desk.out.output, task.orders, fault)
-        }
+        Err(fault) => Problem::unread(alloc, task.orders, fault, None).tell(&mut desk.out),
     }
 }
 
@@ -141,14 +104,14 @@ pub(crate) fn failure_of(cause: Option<ErrorKind>) -> Option<io::Error>
 pub fn drive_orders<I: Source, L: Sink, S: Store, W: Write, N: Write + Drop>(
     alloc: Global,
     older: Option<Journal>,
-    task: DriveTask<'_>,
+    task: &DriveTask<'_>,
     orders: &[Order],
     desk: &mut StoreDesk<I, L, S, Lines<W>>,
     report: &mut Report<N>,
 ) -> Status
     requires ready { IsReadyBehind older
         (bench S.seen S.failed S.may_leave L.held L.failed I.left I.failed W.contents desk.old) }
-    ensures answer { IsAnswerBehind older N.contents task.entry.moment task.entry.pace task.entry.required
+    ensures answer { IsAnswerBehind older N.contents task.now.moment task.now.pace task.now.required
         report.old report.new orders.now
         (bench S.seen S.failed S.may_leave L.held L.failed I.left I.failed W.contents desk.old) result
         (bench S.seen S.failed S.may_leave L.held L.failed I.left I.failed W.contents desk.new)
@@ -160,7 +123,7 @@ pub fn drive_orders<I: Source, L: Sink, S: Store, W: Write, N: Write + Drop>(
 {
     report.expect(orders);
     let mut listed = ListedOrders::new(orders, task.moment);
-    match follow_stored(alloc, older, task.terms(), &mut listed, desk, report) {
+    match follow_stored(alloc, older, terms_of(task.pace), &mut listed, desk, report) {
         Ok(_writer) => tell_ended(&mut desk.out, task.required, report.outcome()),
         Err(fault) => tell_broken(alloc, task.journal, desk, fault),
     }

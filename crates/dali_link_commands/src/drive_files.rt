@@ -1,34 +1,40 @@
-ghost use Rattle.std.specs.Prelude.{◌≡◌, ◌↔◌, true};
+ghost use Rattle.std.specs.Prelude.{◌≡◌};
+ghost use Rattle.dali_drive.specs.Behind.{IsReadyBehind};
 ghost use Rattle.dali_drive.specs.Desks.{IsUnfailed};
-ghost use Rattle.dali_text.specs.Output.{has_failed, held};
 ghost use Rattle.dali_link_commands.specs.Benches.{TellsUnwritten, std_bench};
-ghost use Rattle.dali_link_commands.specs.BehindAnswers.{IsAnswerBehind, IsBehindNamed, EndsUnread};
-ghost use Rattle.dali_link_commands.specs.Older.{fault_older, held_under};
-ghost use Rattle.dali_link_commands.specs.OrdersAnswers.{IsFileAnswer, IsUnread};
-ghost use Rattle.dali_link_commands.specs.Told.{IsFileFaultTold};
-ghost use Rattle.dali_input.specs.declared.fault.InputFault.{InputFault};
+ghost use Rattle.dali_link_commands.specs.BehindAnswers.{IsBehindNamed, EndsUnread};
+ghost use Rattle.dali_link_commands.specs.LinkCommands.{Drives};
+ghost use Rattle.dali_link_commands.specs.Older.{held_under};
 
-use crate::drive::{DriveTask, drive_input};
-use crate::drive_lines::{FileFault, tell_file};
+use crate::drive::drive_input;
+use crate::follow::follow_lines;
 use crate::journal_files::JournalFiles;
 use crate::lines::Lines;
-use crate::older::{Unjoined, read_older};
+use crate::older::read_older;
+use crate::problem::Problem;
+use crate::stream::OrderLines;
 use dali_drive::{StdSink, StdSource, StoreDesk};
-use dali_faults::{Fault, Status};
-use dali_input::{Input, InputFault};
+use dali_faults::Status;
+use dali_input::Input;
+use dali_job::DriveTask;
+use dali_journal::Journal;
 use dali_report::Report;
 use dali_store::FileStore;
-use dali_text::Output;
 use std::alloc::Global;
 use std::fs::{File, Files, Metadata};
 use std::io::{ErrorKind, Read, Write};
 use std::os::unix::fs::{FileTypeExt, MetadataExt};
 use std::{fs, io};
 
-/// Carries out the orders of a file over a link, with the journal that another file holds, as `drive_input` does.
+/// Carries out the orders of a file over a link, with the journal that another file holds: all of them, as
+/// `drive_input` does, or, of a stream, a named pipe as a rule, each line before the next is read, as `follow_lines`
+/// does.
 ///
-/// No contract says what the file of the orders holds: the drive is that of the orders which its bytes spell, on these
-/// terms, with what is known of the older journals' files.
+/// The older journals are read before the file is opened. A stream's bytes are read one by one, with no buffer: so no
+/// byte of a line is taken out of a pipe before it is its turn.
+///
+/// No contract says what the file of the orders holds: the drive is that of the orders which its bytes spell, or
+/// follows exactly what its lines give, on these terms, with what is known of the older journals' files.
 pub fn drive_files<
     R: Files<File = File> + AllocGlobal + JournalFiles,
     I: Read,
@@ -37,64 +43,54 @@ pub fn drive_files<
     N: Write + Drop,
 >(
     rt: &R,
-    task: DriveTask<'_>,
+    task: &DriveTask<'_>,
     desk: &mut StoreDesk<StdSource<I>, StdSink<L>, FileStore<'_, R>, Lines<O>>,
     report: &mut Report<N>,
 ) -> Status
     requires unfailed { IsUnfailed (std_bench L.contents I.remaining O.contents desk.old).failed }
-    ensures driven { IsBehindNamed (held_under (R.has rt.now) task.entry.older.now)
-        (λ older. IsFileAnswer
-        (IsAnswerBehind older N.contents task.entry.moment task.entry.pace task.entry.required report.old report.new)
-        (report.new ≡ report.old) (std_bench L.contents I.remaining O.contents desk.old) result
-        (std_bench L.contents I.remaining O.contents desk.new))
-        (EndsUnread (held_under (R.has rt.now) task.entry.older.now) report.old report.new
+    ensures driven { IsBehindNamed (held_under (R.has rt.now) task.now.older.items)
+        (λ older. Drives task.now.follow task.now N.contents older report.old report.new
         (std_bench L.contents I.remaining O.contents desk.old) result
         (std_bench L.contents I.remaining O.contents desk.new))
-        × TellsUnwritten result (std_bench L.contents I.remaining O.contents desk.new) }
+        (EndsUnread (held_under (R.has rt.now) task.now.older.items) report.old report.new
+        (std_bench L.contents I.remaining O.contents desk.old) result
+        (std_bench L.contents I.remaining O.contents desk.new)) }
+    ensures unwritten { TellsUnwritten result (std_bench L.contents I.remaining O.contents desk.new) }
 {
-    let older = match read_older(rt, task.older) {
+    let older = match read_older(rt, task.older.as_slice()) {
         Ok(older) => older,
-        Err(unjoined) => return tell_unjoined(rt.alloc(), &mut desk.out.output, &unjoined),
+        Err(problem) => return problem.tell(&mut desk.out),
     };
     match opened(rt, task.orders) {
         Ok((file, found)) => {
             desk.journal.set_orders(&found);
-            drive_input(rt.alloc(), older, task, &mut Input::new(file), desk, report)
+            drive_file(rt.alloc(), older, task, file, desk, report)
         }
-        Err(error) => tell_unopened(rt.alloc(), &mut desk.out.output, task.orders, error),
+        Err(error) => Problem::refused(rt.alloc(), task.orders, error).tell(&mut desk.out),
     }
 }
 
-// Writes that a file of orders can't be opened, and why.
-pub(crate) fn tell_unopened<O: Write>(
+// Drives the orders of a file that is open.
+fn drive_file<R: Files<File = File> + AllocGlobal, I: Read, L: Write, O: Write, N: Write + Drop>(
     alloc: Global,
-    output: &mut Output<O>,
-    name: &str,
-    error: io::Error,
+    older: Option<Journal>,
+    task: &DriveTask<'_>,
+    file: File,
+    desk: &mut StoreDesk<StdSource<I>, StdSink<L>, FileStore<'_, R>, Lines<O>>,
+    report: &mut Report<N>,
 ) -> Status
-    ensures told { (fault : InputFault) × IsUnread fault × IsFileFaultTold (Fault.Input fault) result
-        (held O.contents output.old) (held O.contents output.new) }
-    ensures unwritten { result ≡ Status.Unwritten ↔ has_failed output.new ≡ true }
+    requires ready { IsReadyBehind older (std_bench L.contents I.remaining O.contents desk.old) }
+    ensures driven { Drives task.now.follow task.now N.contents older report.old report.new
+        (std_bench L.contents I.remaining O.contents desk.old) result
+        (std_bench L.contents I.remaining O.contents desk.new) }
+    ensures unwritten { TellsUnwritten result (std_bench L.contents I.remaining O.contents desk.new) }
 {
-    let fault = match error.kind() {
-        ErrorKind::OutOfMemory => InputFault::Memory,
-        _ => InputFault::File,
-    };
-    tell_file(alloc, output, name, FileFault::Unread(fault, Some(error)))
-}
-
-// Writes which file can't be used as an older journal, and why.
-pub(crate) fn tell_unjoined<O: Write>(
-    alloc: Global,
-    output: &mut Output<O>,
-    unjoined: &Unjoined<'_>,
-) -> Status
-    ensures told { IsFileFaultTold (fault_older unjoined.now.fault) result
-        (held O.contents output.old) (held O.contents output.new)
-        × (result ≡ Status.Unwritten ↔ has_failed output.new ≡ true) }
-{
-    let fault = FileFault::Older(unjoined.fault, unjoined.words.as_deref());
-    tell_file(alloc, output, unjoined.name, fault)
+    if task.follow {
+        let mut orders = OrderLines::new(alloc, StdSource::new(file), task.moment);
+        follow_lines(alloc, older, task, &mut orders, desk, report)
+    } else {
+        drive_input(alloc, older, task, &mut Input::new(file), desk, report)
+    }
 }
 
 // The words if ORDERS is the file that has the link's answers.

@@ -1,7 +1,7 @@
 ghost use Rattle.std.specs.Prelude.{◌≡◌, ◌↔◌, false, true};
 ghost use Rattle.dali_drive.specs.Behind.{IsReadyBehind};
 ghost use Rattle.dali_drive.specs.Stored.{LeavesPart};
-ghost use Rattle.dali_follow.specs.Gave.{state_of};
+ghost use Rattle.dali_link_commands.specs.LinesGave.{state_of};
 ghost use Rattle.dali_store.specs.Stores.{LeavesOnly};
 ghost use Rattle.dali_text.specs.Output.{has_failed, held};
 ghost use Rattle.dali_link_commands.specs.Benches.{TellsUnwritten, bench};
@@ -10,14 +10,15 @@ ghost use Rattle.dali_link_commands.specs.FollowAnswers.{TellsFollowed};
 ghost use Rattle.dali_faults.specs.JournalInput.{order_limit};
 
 use crate::broken::tell_broken;
-use crate::drive::{DriveTask, failure_of};
-use crate::drive_lines::{FileFault, tell_file};
+use crate::drive::{failure_of, terms_of};
 use crate::lines::Lines;
+use crate::problem::Problem;
 use crate::required::tell_ended;
+use crate::stream::OrderLines;
 use dali_drive::{Sink, Source, StoreDesk, follow_stored};
 use dali_faults::Status;
-use dali_follow::OrderLines;
 use dali_input::InputFault;
+use dali_job::DriveTask;
 use dali_journal::Journal;
 use dali_report::{Outcome, Report};
 use dali_store::Store;
@@ -38,14 +39,14 @@ use std::io::Write;
 pub fn follow_lines<R: Source, I: Source, L: Sink, S: Store, W: Write, N: Write + Drop>(
     alloc: Global,
     older: Option<Journal>,
-    task: DriveTask<'_>,
+    task: &DriveTask<'_>,
     orders: &mut OrderLines<R>,
     desk: &mut StoreDesk<I, L, S, Lines<W>>,
     report: &mut Report<N>,
 ) -> Status
     requires ready { IsReadyBehind older
         (bench S.seen S.failed S.may_leave L.held L.failed I.left I.failed W.contents desk.old) }
-    ensures answer { IsLinesBehind R.left R.failed N.contents older task.entry.pace task.entry.required
+    ensures answer { IsLinesBehind R.left R.failed N.contents older task.now.pace task.now.required
         report.old report.new
         orders.old orders.new (bench S.seen S.failed S.may_leave L.held L.failed I.left I.failed W.contents desk.old)
         result (bench S.seen S.failed S.may_leave L.held L.failed I.left I.failed W.contents desk.new)
@@ -55,7 +56,7 @@ pub fn follow_lines<R: Source, I: Source, L: Sink, S: Store, W: Write, N: Write 
         (LeavesPart order_limit (S.seen desk.old.journal) (S.seen desk.new.journal)
         (S.may_leave desk.old.journal)) }
 {
-    match follow_stored(alloc, older, task.terms(), orders, desk, report) {
+    match follow_stored(alloc, older, terms_of(task.pace), orders, desk, report) {
         Ok(_writer) => tell_followed(alloc, &mut desk.out, task, orders, report.outcome()),
         Err(fault) => tell_broken(alloc, task.journal, desk, fault),
     }
@@ -65,19 +66,19 @@ pub fn follow_lines<R: Source, I: Source, L: Sink, S: Store, W: Write, N: Write 
 fn tell_followed<R: Source, W: Write>(
     alloc: Global,
     lines: &mut Lines<W>,
-    task: DriveTask<'_>,
+    task: &DriveTask<'_>,
     orders: &OrderLines<R>,
     outcome: Outcome,
 ) -> Status
     requires { has_failed lines.old.output ≡ false }
     ensures told { TellsFollowed (R.failed (state_of orders.now).source) (state_of orders.now).has_refused
-        task.entry.required outcome result
+        task.now.required outcome result
         (held W.contents lines.old.output) (held W.contents lines.new.output) }
     ensures unwritten { result ≡ Status.Unwritten ↔ has_failed lines.new.output ≡ true }
 {
     if orders.has_failed() {
-        let fault = FileFault::Unread(InputFault::File, failure_of(orders.cause()));
-        return tell_file(alloc, &mut lines.output, task.orders, fault);
+        let cause = failure_of(orders.cause());
+        return Problem::unread(alloc, task.orders, InputFault::File, cause).tell(lines);
     }
     if orders.has_refused() {
         return Status::Refused;

@@ -1,10 +1,11 @@
 // The files of journals that are only read, by their names.
-ghost use Rattle.std.specs.Prelude.{◌≡◌, ℕ, List, Option, IfOk};
-ghost use Rattle.dali_link_commands.specs.OrdersAnswers.{IsUnread};
+ghost use Rattle.std.specs.Prelude.{◌≡◌, ℕ, List, Option, IfErr, IfOk};
+ghost use Rattle.dali_link_commands.specs.OrdersAnswers.{IsUnopened};
 
-use dali_input::InputFault;
+use crate::older::OlderFault;
+use crate::problem::{Problem, refusal_of};
+use dali_faults::Fault;
 use dali_store::{ReadFile, Store};
-use std::alloc::Global;
 use std::fs::{File, TryLockError};
 use std::io::ErrorKind;
 use std::{fs, io};
@@ -17,11 +18,12 @@ pub trait JournalFiles {
     ghost has: { Self → List ℕ → Option (List ℕ) };
 
     /// Opens the file of an older journal, which no drive may open as long as it is open here.
-    fn open_older(&self, name: &str) -> Result<Self::Opened, Unopened>
-        ensures { IfOk result (λ store. Self.Opened.seen store ≡ has self.now name.now) };
+    fn open_older(&self, name: &str) -> Result<Self::Opened, Problem>
+        ensures ok { IfOk result (λ store. Self.Opened.seen store ≡ has self.now name.now) }
+        ensures err { IfErr result (λ problem. IsUnopened problem.fault) };
 
     /// Opens the file of a journal that is asked, which a drive may have open.
-    fn open_asked(&self, name: &str) -> Result<Self::Opened, Unopened>
+    fn open_asked(&self, name: &str) -> Result<Self::Opened, Problem>
         ensures { IfOk result (λ store. Self.Opened.seen store ≡ has self.now name.now) };
 }
 
@@ -33,59 +35,45 @@ impl JournalFiles for HostRuntime {
     // no contract tells what a file holds
     ghost has = { λ _ _. None };
 
-    fn open_older(&self, name: &str) -> Result<ReadFile, Unopened> {
-        let file = opened_regular(self, name)?;
-        match file.try_lock_shared() {
-            Ok(()) => Ok(ReadFile::new(self.alloc(), file)),
-            Err(TryLockError::WouldBlock) => Err(Unopened::InUse),
-            Err(TryLockError::Error(error)) => Err(Unopened::Refused(error)),
+    fn open_older(&self, name: &str) -> Result<ReadFile, Problem> {
+        match opened_alone(self, name) {
+            Ok(file) => Ok(ReadFile::new(self.alloc(), file)),
+            Err(error) => {
+                let fault = OlderFault::Unloaded(Fault::Input(refusal_of(&error)));
+                let words = format!(in self.alloc(); "{error}").ok();
+                Err(Problem::older(self.alloc(), name, fault, words.as_deref()))
+            }
         }
     }
 
-    fn open_asked(&self, name: &str) -> Result<ReadFile, Unopened> {
-        Ok(ReadFile::new(self.alloc(), opened_regular(self, name)?))
-    }
-}
-
-// Opens a regular file.
-fn opened_regular(rt: &HostRuntime, name: &str) -> Result<File, Unopened> {
-    match fs::metadata(rt, name) {
-        Ok(found) if !found.is_file() => return Err(Unopened::NotRegular),
-        Ok(_) => {}
-        Err(error) => return Err(Unopened::Refused(error)),
-    }
-    match fs::open(rt, name) {
-        Ok(file) => Ok(file),
-        Err(error) => Err(Unopened::Refused(error)),
-    }
-}
-
-/// Why a file isn't opened.
-#[derive(Drop)]
-pub enum Unopened {
-    /// Nobody knows when a pipe ends.
-    NotRegular,
-    /// A drive has it: its orders aren't all there yet.
-    InUse,
-    Refused(io::Error),
-}
-
-impl Unopened {
-    pub(crate) fn fault(&self) -> InputFault
-        ensures { IsUnread result }
-    {
-        match self {
-            Unopened::Refused(error) if error.kind() == ErrorKind::OutOfMemory =>
-                InputFault::Memory,
-            _ => InputFault::File,
+    fn open_asked(&self, name: &str) -> Result<ReadFile, Problem> {
+        match opened_regular(self, name) {
+            Ok(file) => Ok(ReadFile::new(self.alloc(), file)),
+            Err(error) => {
+                let fault = Fault::Input(refusal_of(&error));
+                let words = format!(in self.alloc(); "{error}").ok();
+                Err(Problem::unasked(self.alloc(), name, fault, words.as_deref()))
+            }
         }
     }
+}
 
-    pub(crate) fn words(&self, alloc: Global) -> Option<String> {
-        match self {
-            Unopened::NotRegular => String::from_str(alloc, "it is no regular file").ok(),
-            Unopened::InUse => String::from_str(alloc, "it is in use").ok(),
-            Unopened::Refused(error) => format!(in alloc; "{error}").ok(),
+// Opens a file that no drive has: its orders wouldn't all be there yet.
+fn opened_alone(rt: &HostRuntime, name: &str) -> io::Result<File> {
+    let file = opened_regular(rt, name)?;
+    match file.try_lock_shared() {
+        Ok(()) => Ok(file),
+        Err(TryLockError::WouldBlock) => {
+            Err(io::Error::new(ErrorKind::WouldBlock, "it is in use"))
         }
+        Err(TryLockError::Error(error)) => Err(error),
     }
+}
+
+// Opens a regular file: nobody knows when a pipe ends.
+fn opened_regular(rt: &HostRuntime, name: &str) -> io::Result<File> {
+    if !fs::metadata(rt, name)?.is_file() {
+        return Err(io::Error::new(ErrorKind::InvalidInput, "it is no regular file"));
+    }
+    fs::open(rt, name)
 }

@@ -6,16 +6,16 @@ ghost use Rattle.dali_link_commands.specs.Benches.{TellsUnwritten, bench};
 ghost use Rattle.dali_link_commands.specs.ReadAnswers.{IsReadAnswer};
 ghost use Rattle.dali_input.specs.declared.fault.InputFault.{InputFault};
 ghost use Rattle.dali_link_commands.specs.OrdersAnswers.{IsUnread};
-ghost use Rattle.dali_link_commands.specs.Told.{IsFileFaultTold, TellsLine};
+ghost use Rattle.dali_link_commands.specs.Told.{IsFaultTold, TellsLine};
 
-use crate::drive_lines::{Causes, FileFault, tell_fault, tell_file};
+use crate::drive_lines::{Causes, tell_fault};
 use crate::lines::Lines;
+use crate::problem::Problem;
 use dali_drive::{Sink, Source, StoreDesk, bytes_line, put_all, read_unit, silent_line};
 use dali_faults::{Fault, Status};
 use dali_input::{InputFault, text_of};
 use dali_read::Places;
 use dali_store::Store;
-use dali_text::Output;
 use std::alloc::Global;
 use std::io::Write;
 
@@ -46,16 +46,12 @@ pub fn read_bank<I: Source, L: Sink, S: Store, W: Write>(
                 let line = bytes_line(unit, bytes.len() as u8);
                 tell_line(&mut desk.out, &line, Status::Good)
             } else {
-                tell_unwritten(alloc, &mut desk.out.output, name, desk.journal.cause())
+                tell_unwritten(alloc, &mut desk.out, name, desk.journal.cause())
             }
         }
         Ok(None) => tell_line(&mut desk.out, &silent_line(unit), Status::Refused),
         Err(fault) => {
-            let causes = Causes {
-                link_in: desk.link_in.cause(),
-                link_out: desk.link_out.cause(),
-                store: None,
-            };
+            let causes = Causes::of(&desk.link_in, &desk.link_out, None);
             tell_fault(alloc, &mut desk.out, fault, causes)
         }
     }
@@ -64,23 +60,19 @@ pub fn read_bank<I: Source, L: Sink, S: Store, W: Write>(
 // Writes that the file of a bank can't be written, and why: if nothing is said of that, memory ran out for it.
 fn tell_unwritten<W: Write>(
     alloc: Global,
-    output: &mut Output<W>,
+    lines: &mut Lines<W>,
     name: &str,
     words: Option<&str>,
 ) -> Status
-    ensures told { (fault : InputFault) × IsUnread fault × IsFileFaultTold (Fault.Input fault) result
-        (held W.contents output.old) (held W.contents output.new) }
-    ensures unwritten { result ≡ Status.Unwritten ↔ has_failed output.new ≡ true }
+    requires { has_failed lines.old.output ≡ false }
+    ensures told { (fault : InputFault) × IsUnread fault × IsFaultTold (Fault.Input fault) result
+        (held W.contents lines.old.output) (held W.contents lines.new.output) }
+    ensures unwritten { result ≡ Status.Unwritten ↔ has_failed lines.new.output ≡ true }
 {
-    match words {
-        Some(words) => tell_file(alloc, output, name, FileFault::Unwritten(words)),
-        None => tell_file(
-            alloc,
-            output,
-            name,
-            FileFault::Unread(InputFault::Memory, None),
-        ),
+    if words.is_some() {
+        return Problem::failed(alloc, name, words).tell(lines);
     }
+    Problem::unread(alloc, name, InputFault::Memory, None).tell(lines)
 }
 
 /// Writes a line, and gives the status if that could be done.

@@ -2,60 +2,19 @@
 ghost use Rattle.std.specs.Prelude.{◌≡◌, ◌≢◌, ◌↔◌, false, true};
 ghost use Rattle.dali_text.specs.Output.{has_failed, held, is_flushed};
 ghost use Rattle.dali_link_commands.specs.Bare.{TellsBare, TellsEnded, is_bare as nothing_done, is_met as met};
-ghost use Rattle.dali_link_commands.specs.Bare.{nothing_line, required_by};
+ghost use Rattle.dali_link_commands.specs.Bare.{nothing_line};
 ghost use Rattle.dali_link_commands.specs.Told.{TellsLine};
 ghost use Rattle.dali_link_commands.specs.Bare.{ended_status as status_at_end};
 
 use crate::lines::Lines;
 use dali_drive::{Sink, put_all};
 use dali_faults::Status;
+use dali_job::Required;
 use dali_report::Outcome;
 use std::io::Write;
 
 // The line that tells it.
 const NOTHING: &str = "error: nothing was done: ORDERS has no orders\n";
-
-/// The last replies that a drive needs to end well.
-#[derive(Clone, Copy)]
-pub enum Required {
-    /// Anything.
-    Nothing,
-    /// Each is `kept 0 Done`, and there is one.
-    Done,
-    /// And this drive ended each order.
-    DoneNow,
-}
-
-impl Required {
-    /// By the two options, of which the second is the stricter one.
-    pub fn of(done: bool, now: bool) -> Required
-        ensures { result ≡ required_by done now }
-    {
-        if now {
-            Required::DoneNow
-        } else if done {
-            Required::Done
-        } else {
-            Required::Nothing
-        }
-    }
-
-    fn is_met(self, outcome: Outcome) -> bool
-        ensures { result ≡ met self outcome }
-    {
-        match (self, outcome) {
-            (Required::Nothing, _) | (_, Outcome::DoneNow) | (Required::Done, Outcome::Done) =>
-                true,
-            (_, Outcome::Nothing | Outcome::NotDone) | (Required::DoneNow, Outcome::Done) => false,
-        }
-    }
-
-    fn is_bare(self, outcome: Outcome) -> bool
-        ensures { result ≡ nothing_done self outcome }
-    {
-        !matches!(self, Required::Nothing) && matches!(outcome, Outcome::Nothing)
-    }
-}
 
 /// The status of a drive that completed with this outcome; if something is required and nothing was done, that is
 /// reported.
@@ -70,18 +29,33 @@ pub(crate) fn tell_ended<W: Write>(
     ensures unwritten { result ≡ Status.Unwritten ↔ has_failed lines.new.output ≡ true }
 {
     let ended = ended_status(required, outcome);
-    tell_bare(lines, required.is_bare(outcome), ended)
+    tell_bare(lines, is_bare(required, outcome), ended)
 }
 
 fn ended_status(required: Required, outcome: Outcome) -> Status
     ensures status { result ≡ status_at_end required outcome }
     ensures written { result ≢ Status.Unwritten }
 {
-    if required.is_met(outcome) {
+    if is_met(required, outcome) {
         Status::Good
     } else {
         Status::Refused
     }
+}
+
+fn is_met(required: Required, outcome: Outcome) -> bool
+    ensures { result ≡ met required outcome }
+{
+    match (required, outcome) {
+        (Required::Nothing, _) | (_, Outcome::DoneNow) | (Required::Done, Outcome::Done) => true,
+        (_, Outcome::Nothing | Outcome::NotDone) | (Required::DoneNow, Outcome::Done) => false,
+    }
+}
+
+fn is_bare(required: Required, outcome: Outcome) -> bool
+    ensures { result ≡ nothing_done required outcome }
+{
+    !matches!(required, Required::Nothing) && matches!(outcome, Outcome::Nothing)
 }
 
 /// Reports that nothing was done, if that is so; else it has the status `ended`.

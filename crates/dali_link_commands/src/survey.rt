@@ -10,8 +10,9 @@ ghost use Rattle.dali_link_commands.specs.OrdersAnswers.{IsReaderAnswer};
 ghost use Rattle.dali_link_commands.specs.ReadAnswers.{IsScanAnswer, IsVerifyAnswer, asked_addresses};
 
 use crate::drive::failure_of;
-use crate::drive_lines::{Causes, FileFault, tell_fault, tell_file, tell_refused};
+use crate::drive_lines::{Causes, tell_fault, tell_refused};
 use crate::lines::Lines;
+use crate::problem::Problem;
 use crate::required::tell_bare;
 use dali_bank::Order;
 use dali_drive::{Sink, Sought, Source, StoreDesk, scan_units, verify_orders};
@@ -53,17 +54,14 @@ pub fn verify_input<R: Read, I: Source, L: Sink, S: Store, W: Write, N: Write + 
     let bytes = match read_input(alloc, input, ORDERS_LIMIT) {
         Ok(bytes) => bytes,
         Err(fault) => {
-            let fault = FileFault::Unread(fault, failure_of(input.cause()));
-            return tell_file(alloc, &mut desk.out.output, name, fault);
+            let cause = failure_of(input.cause());
+            return Problem::unread(alloc, name, fault, cause).tell(&mut desk.out);
         }
     };
     match read_orders(alloc, bytes.as_slice()) {
         Ok(Ok(orders)) => verify_units(alloc, orders.as_slice(), desk, report),
         Ok(Err(refused)) => tell_refused(&mut desk.out.output, refused.as_slice()),
-        Err(fault) => {
-            let fault = FileFault::Unread(fault, None);
-            tell_file(alloc, &mut desk.out.output, name, fault)
-        }
+        Err(fault) => Problem::unread(alloc, name, fault, None).tell(&mut desk.out),
     }
 }
 
@@ -97,11 +95,7 @@ pub fn verify_units<I: Source, L: Sink, S: Store, W: Write, N: Write + Drop>(
     match ended {
         Ok(all_same) => tell_verified(&mut desk.out, orders, all_same),
         Err(fault) => {
-            let causes = Causes {
-                link_in: desk.link_in.cause(),
-                link_out: desk.link_out.cause(),
-                store: None,
-            };
+            let causes = Causes::of(&desk.link_in, &desk.link_out, None);
             tell_fault(alloc, &mut desk.out, fault, causes)
         }
     }
@@ -152,11 +146,7 @@ pub fn scan<I: Source, L: Sink, S: Store, W: Write>(
     ) {
         Ok(_) => Status::Good,
         Err(fault) => {
-            let causes = Causes {
-                link_in: desk.link_in.cause(),
-                link_out: desk.link_out.cause(),
-                store: None,
-            };
+            let causes = Causes::of(&desk.link_in, &desk.link_out, None);
             tell_fault(alloc, &mut desk.out, fault, causes)
         }
     }

@@ -4,8 +4,9 @@ ghost use Rattle.dali_link_commands.specs.Benches.{TellsUnwritten, std_bench};
 ghost use Rattle.dali_link_commands.specs.OrdersAnswers.{IsFileAnswer};
 ghost use Rattle.dali_link_commands.specs.ReadAnswers.{IsVerifyAnswer};
 
-use crate::drive_files::{opened, tell_unopened};
+use crate::drive_files::opened;
 use crate::lines::Lines;
+use crate::problem::Problem;
 use crate::survey::verify_input;
 use dali_drive::{StdSink, StdSource, StoreDesk};
 use dali_faults::Status;
@@ -40,6 +41,6 @@ pub fn verify_file<
         Ok((file, _found)) => {
             verify_input(rt.alloc(), name, &mut Input::new(file), desk, report)
         }
-        Err(error) => tell_unopened(rt.alloc(), &mut desk.out.output, name, error),
+        Err(error) => Problem::refused(rt.alloc(), name, error).tell(&mut desk.out),
     }
 }

@@ -3,8 +3,13 @@ ghost use Rattle.std.specs.Prelude.{◌≡◌, ◌++◌, IfOk, OnOk, IfSome, str
 ghost use Rattle.dali_text.specs.Escaped.{shown_text};
 ghost use Rattle.dali_link_commands.specs.Told.{IsPlain};
 
+use crate::older::OlderFault;
+use dali_faults::Fault;
+use dali_input::InputFault;
+use dali_journal::JoinFault;
 use dali_text::Escaped;
 use std::alloc::{AllocError, Global};
+use std::io;
 
 // The end of the system's words if the command may open no more files, and what to do then.
 const TOO_MANY_FILES: &str = "(os error 24)";
@@ -30,4 +35,49 @@ pub(crate) fn shown(alloc: Global, text: &str) -> Result<String, AllocError>
 {
     let shown = Escaped::Whole(text);
     format!(in alloc; "{shown}")
+}
+
+/// Words for a file that can't be read, with the cause if there is one, and memory for it.
+pub(crate) fn unread_words(alloc: Global, name: &str, cause: Option<io::Error>) -> Option<String> {
+    if let Some(cause) = cause {
+        if let Ok(words) = format!(in alloc; "the file can't be used: {name}: {cause}") {
+            return Some(words);
+        }
+    }
+    format!(in alloc; "the file can't be used: {name}").ok()
+}
+
+/// Words for a file that can't be used as an older journal, of which a store or the system says this.
+pub(crate) fn older_words(
+    alloc: Global,
+    name: &str,
+    fault: OlderFault,
+    words: Option<&str>,
+) -> Option<String> {
+    if let Some(words) = words {
+        return format!(in alloc; "the older journal can't be used: {name}: {words}").ok();
+    }
+    match fault {
+        OlderFault::Cut => {
+            format!(in alloc; "the older journal's end is cut: {name}: drive it once more").ok()
+        }
+        OlderFault::AtWork => {
+            format!(in alloc;
+                "the older journal isn't at rest: {name}: an order isn't ended, or a unit is left"
+            ).ok()
+        }
+        OlderFault::Join(JoinFault::Repeated(id)) => {
+            format!(in alloc; "order {id} stands in two journals: {name}, and an older one").ok()
+        }
+        OlderFault::Unloaded(Fault::Journal(fault)) => {
+            let number = fault.number();
+            format!(in alloc;
+                "the older journal is none: {name}: journal fault {number} {fault}"
+            ).ok()
+        }
+        OlderFault::Unloaded(Fault::Input(InputFault::TooBig)) => {
+            format!(in alloc; "the older journal is too big: {name}").ok()
+        }
+        _ => format!(in alloc; "the older journal can't be used: {name}").ok(),
+    }
 }

@@ -6,7 +6,7 @@ use Rattle.dali_journal.specs.declared.version.Version.{Version}
 use Rattle.dali_journal.specs.JournalState.{JournalState, AreKept, HoldsOrders}
 use Rattle.dali_journal.specs.Loading.{IsLoadable, IsLoaded, IsLoadFault}
 use Rattle.dali_store.specs.declared.opening.OpenFault.{OpenFault}
-use Rattle.dali_store.specs.declared.opening.OpenFault.TheVariants.{Store, Journal}
+use Rattle.dali_store.specs.declared.opening.OpenFault.TheVariants.{Store, Journal, Join}
 use Rattle.dali_store.specs.declared.store.StoreFault.TheVariants.{Failed, TooBig, NoMemory}
 use Rattle.dali_store.specs.Stores.{Shows, IsLonger}
 
@@ -48,7 +48,7 @@ abbrev pub LeavesAlike : ℕ → Option (List ℕ) → (List ℕ → Type 0) →
 LeavesAlike limit seen before c = before c ⊎ LoadsAlike limit seen c
 
 -- Why a journal isn't opened. Nothing is changed if the bytes are no journal's, or too many, or there was no memory; a
--- store that failed holds the same bytes, or bytes of the same records.
+-- store that failed holds the same bytes, or bytes of the same records. It follows no older ones here.
 abbrev pub IsOpenFault : ℕ → ℕ → Option (List ℕ) → Option (List ℕ) → OpenFault → Type 0
 IsOpenFault limit most old new (Journal fault) =
     ((bytes : List ℕ) × Shows old bytes × (length bytes ≤ most) × IsLoadFault HoldsOrders limit bytes fault)
@@ -56,6 +56,7 @@ IsOpenFault limit most old new (Journal fault) =
 IsOpenFault limit most old new (Store TooBig) = IsLonger most old × Keeps old new
 IsOpenFault limit most old new (Store NoMemory) = Keeps old new
 IsOpenFault limit most old new (Store Failed) = Keeps old new ⊎ StaysAlike limit old new
+IsOpenFault limit most old new (Join fault) = ⊥
 
 abbrev pub is_store_failure : OpenFault → Bool
 is_store_failure (Store Failed) = true

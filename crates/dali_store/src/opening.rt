@@ -6,7 +6,7 @@ ghost use Rattle.dali_store.specs.Stores.{IsDurable, Becomes, LeavesOnly, is_fai
 ghost use Rattle.dali_store.specs.Opened.{IsFound, IsOpened, IsOpenFault, LeavesAlike, is_store_failure};
 
 use crate::store::{Store, StoreFault};
-use dali_journal::{Journal, JournalFault, Version};
+use dali_journal::{JoinFault, Journal, JournalFault, Version};
 use std::alloc::Global;
 
 /// Why no journal is opened.
@@ -16,6 +16,8 @@ pub enum OpenFault {
     Store(StoreFault),
     /// Its bytes are no journal's.
     Journal(JournalFault),
+    /// It can't follow the older ones. `open` has none, and never gives this.
+    Join(JoinFault),
 }
 
 // A journal that was found, in which version, how many bytes count, and how many there are.

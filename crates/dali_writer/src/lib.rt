@@ -5,10 +5,10 @@
 #![tactic(auto)]
 
 pub use dali_drive::{
-    BehindFault, Desk, DriveFault, FindingObserver, Given, Got, LentSinks, Line, ListedOrders,
-    Nobody, Observer, OpenDesk, Orders, Sink, Sought, Source, StdSink, StdSource, StoreDesk,
-    StoredFault, Terms, drive, drive_at, drive_stored, exchange, follow, follow_stored,
-    laws as drive_laws, put_all, read_unit, scan_units, verify_orders,
+    Desk, DriveFault, FindingObserver, Given, Got, LentSinks, Line, ListedOrders, Nobody, Observer,
+    OpenDesk, Orders, Sink, Sought, Source, StdSink, StdSource, StoreDesk, StoredFault, Terms,
+    drive, drive_at, drive_stored, exchange, follow, follow_stored, laws as drive_laws, put_all,
+    read_unit, scan_units, verify_orders,
 };
 pub use dali_engine::{
     Cause, Outcome, Pace, RunFault, Writer, run, run_sim, run_sim_with_pace, run_with_pace,

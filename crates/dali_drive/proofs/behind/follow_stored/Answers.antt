@@ -1,5 +1,6 @@
-use Rattle.std.proofs.Common.{refl, subst, ℕ}
+use Rattle.std.proofs.Common.{refl, rules, subst, ℕ}
 use Rattle.dali_drive.specs.Behind.{IsWhole}
+use Rattle.dali_drive.proofs.ListedDriveLemmas.{unopened}
 use Rattle.dali_drive.proofs.StoreLemmas.{driven_part}
 use Rattle.dali_drive.proofs.behind.follow_stored.Goals as goal
 
@@ -65,3 +66,8 @@ returns-in-Err-follow-clause-any_moment g c =
     (λ (desk : g.row.D.Denot). (g.D.Desk.look desk).may_leave) g.D.Desk.moment g.D.Desk.left_since
     c.args.terms.orders c.args.terms.bytes _ _ _ _ c.in-Ok.ensures.journal c.in-Ok.ensures.holds
     c.in-Ok.ensures.any_moment c.in-Err-follow.ensures.grown.leaves
+
+pub returns-in-Err-clause-broken : goal.returns-in-Err-clause-broken
+returns-in-Err-clause-broken g c =
+    unopened g.G.Orders.gave g.B.Observer.told g.B.Observer.told_end c.args.older c.args.terms.orders
+    c.args.terms.bytes c.args.terms.pace c.args.orders.now c.in-Err.fault _ c.args.observer.now _ (search rules)

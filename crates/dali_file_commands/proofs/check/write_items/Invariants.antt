@@ -2,7 +2,7 @@ use Rattle.std.proofs.Common.{◌≡◌, ◌+◌}
 use Rattle.serde_json.specs.Data.{Items}
 use Rattle.dali_input.specs.ItemsLeft.{AreLeft, left_of}
 use Rattle.dali_text.specs.Output.{has_failed}
-use Rattle.dali_notes.specs.Notes.{Tells}
+use Rattle.dali_file_commands.specs.NoteLines.{Tells}
 use Rattle.dali_file_commands.specs.Known.{asked}
 use Rattle.dali_file_commands.specs.Notes.{AreItemNotes}
 use Rattle.dali_file_commands.proofs.ReportLemmas.{SoFar}

@@ -6,8 +6,8 @@ use Rattle.dali_link_commands.proofs.drive.drive_input.Goals as goal
 pub returns-in-Ok-Ok-clause-driven : goal.returns-in-Ok-Ok-clause-driven
 returns-in-Ok-Ok-clause-driven g c = (
   read_and_answered
-      (IsAnswerBehind c.args.older g.N.Write.contents c.args.task.moment c.args.task.pace c.args.task.required
-      c.args.report.now
+      (IsAnswerBehind c.args.older g.N.Write.contents c.args.task.now.moment c.args.task.now.pace
+      c.args.task.now.required c.args.report.now
       c.drive_orders.new.report)
       (c.drive_orders.new.report ≡ c.args.report.now) _ _ _ _ _ _ c.as_slice.result.now c.as_slice.ensures.value
       c.in-Ok.ensures.ok (inl (_, search rules, c.drive_orders.ensures.answer.0)),
@@ -17,8 +17,8 @@ returns-in-Ok-Ok-clause-driven g c = (
 pub returns-in-Ok-Err-clause-driven : goal.returns-in-Ok-Err-clause-driven
 returns-in-Ok-Err-clause-driven g c = (
   read_and_answered
-      (IsAnswerBehind c.args.older g.N.Write.contents c.args.task.moment c.args.task.pace c.args.task.required
-      c.args.report.now
+      (IsAnswerBehind c.args.older g.N.Write.contents c.args.task.now.moment c.args.task.now.pace
+      c.args.task.now.required c.args.report.now
       c.args.report.now)
       (c.args.report.now ≡ c.args.report.now) _ _ _ _ _ _ c.as_slice.result.now c.as_slice.ensures.value
       c.in-Ok.ensures.ok (inr (inl (search rules, refl))),
@@ -28,10 +28,21 @@ returns-in-Ok-Err-clause-driven g c = (
 pub returns-in-Err-read_orders-clause-driven : goal.returns-in-Err-read_orders-clause-driven
 returns-in-Err-read_orders-clause-driven g c = (
   read_and_answered
-      (IsAnswerBehind c.args.older g.N.Write.contents c.args.task.moment c.args.task.pace c.args.task.required
-      c.args.report.now
+      (IsAnswerBehind c.args.older g.N.Write.contents c.args.task.now.moment c.args.task.now.pace
+      c.args.task.now.required c.args.report.now
       c.args.report.now)
       (c.args.report.now ≡ c.args.report.now) _ _ _ _ _ _ c.as_slice.result.now c.as_slice.ensures.value
       c.in-Ok.ensures.ok (inr (inr (c.in-Err-read_orders.fault, search rules, search rules, refl))),
   search rules,
+)
+
+pub returns-in-Err-clause-driven : goal.returns-in-Err-clause-driven
+returns-in-Err-clause-driven g c = (
+  inr (
+    c.in-Err.fault,
+    c.in-Err.ensures.err,
+    record { undriven = search rules; told = rw c.unread.ensures at c.tell.ensures.told },
+    refl,
+  ),
+  c.tell.ensures.unwritten,
 )

@@ -13,9 +13,9 @@ use Rattle.dali_link_commands.proofs.drive.drive_orders.Goals as goal
 pub returns-in-Ok-clause-answer : goal.returns-in-Ok-clause-answer
 returns-in-Ok-clause-answer g c =
     let driven = behind_driven (IsTold g.N.Write.contents) (IsToldEnd g.N.Write.contents) c.args.older order_limit
-    journal_limit c.args.task.pace c.args.orders.now c.args.task.moment c.new-listed.result c.new-listed.ensures.state _
-    _ _ _ _
-    c.new-listed.ensures.few c.in-Ok._writer (rw c.terms.ensures at c.in-Ok.ensures.followed) in (
+    journal_limit c.args.task.now.pace c.args.orders.now c.args.task.now.moment c.new-listed.result
+    c.new-listed.ensures.state _ _ _ _ _
+    c.new-listed.ensures.few c.in-Ok._writer (rw c.terms_of.ensures at c.in-Ok.ensures.followed) in (
       inl (record {
         writer = c.in-Ok._writer;
         replies = held g.W.Write.contents c.follow_stored.new.desk.out.output;
@@ -24,7 +24,7 @@ returns-in-Ok-clause-answer g c =
         unfailed = c.in-Ok.ensures.ready.1.0;
         settled = c.in-Ok.ensures.settled;
         told =
-            subst (λ (o : Outcome). TellsEnded c.args.task.required o c.tell_ended.result
+            subst (λ (o : Outcome). TellsEnded c.args.task.now.required o c.tell_ended.result
             (held g.W.Write.contents c.follow_stored.new.desk.out.output)
             (held g.W.Write.contents c.tell_ended.new.lines.output))
             (c.outcome.ensures ∙ driven.observed.told_all.outcome_is)
@@ -41,19 +41,19 @@ returns-in-Err-clause-answer g c =
         c.new-listed.result,
         c.follow_stored.new.orders,
         c.new-listed.ensures.state,
-        break_told GaveListed g.N.Write.contents c.args.older c.args.task.pace c.args.report.now
+        break_told GaveListed g.N.Write.contents c.args.older c.args.task.now.pace c.args.report.now
             c.follow_stored.new.observer _ _
             (bench g.S.Store.seen g.S.Store.failed g.S.Store.may_leave g.L.Sink.held g.L.Sink.failed g.I.Source.left
             g.I.Source.failed g.W.Write.contents c.args.desk.now)
             (bench g.S.Store.seen g.S.Store.failed g.S.Store.may_leave g.L.Sink.held g.L.Sink.failed g.I.Source.left
             g.I.Source.failed g.W.Write.contents (record desk { out = c.tell_broken.new.desk.out }))
             (held g.W.Write.contents desk.out.output) (has_failed desk.out.output) c.tell_broken.result c.in-Err.fault
-            (rw c.terms.ensures at c.in-Err.ensures.broken) c.in-Err.ensures.err c.tell_broken.ensures.told,
+            (rw c.terms_of.ensures at c.in-Err.ensures.broken) c.in-Err.ensures.err c.tell_broken.ensures.told,
       ),
       search rules,
     )
 
 pub returns-in-Err-clause-any_moment : goal.returns-in-Err-clause-any_moment
 returns-in-Err-clause-any_moment g c =
-    let left = rw c.terms.ensures at c.follow_stored.ensures.any_moment in
+    let left = rw c.terms_of.ensures at c.follow_stored.ensures.any_moment in
     rw c.tell_broken.ensures.only (record { later = left.later; each = left.each; before = left.before })

@@ -1,52 +1,40 @@
-use Rattle.std.proofs.Common.{rules, ◌≡◌, inl, inr, refl}
+use Rattle.std.proofs.Common.{rules, inl, inr, refl}
 use Rattle.dali_drive.specs.Desks.{Look}
 use Rattle.dali_link_commands.specs.Benches.{std_bench}
-use Rattle.dali_link_commands.specs.BehindAnswers.{IsAnswerBehind}
-use Rattle.dali_link_commands.specs.OrdersAnswers.{IsFileAnswer}
+use Rattle.dali_link_commands.specs.LinkCommands.{Drives}
 use Rattle.dali_link_commands.proofs.BehindLemmas.{some_held}
-use Rattle.dali_link_commands.proofs.DriveLemmas.{file_answered}
 use Rattle.dali_link_commands.proofs.ReadLemmas.{kept_orders}
+use Rattle.dali_link_commands.proofs.DriveLemmas.{drives_unopened}
 use Rattle.dali_link_commands.proofs.drive_files.drive_files.Goals as goal
 
-pub returns-in-Ok-opened : goal.returns-in-Ok-opened
-returns-in-Ok-opened g c = record {
-  driven =
-      let answers = IsAnswerBehind c.in-Ok.older g.N.Write.contents c.args.task.moment c.args.task.pace
-      c.args.task.required
-      c.args.report.now c.drive_input.new.report in
-      let unreported = c.drive_input.new.report ≡ c.args.report.now in (
-        inl (
-          c.in-Ok.older,
-          c.in-Ok.ensures.ok,
-          kept_orders g.L.Write.contents g.I.Read.remaining g.O.Write.contents c.args.desk.now
-              c.set_orders.new.self
-              (λ (first : Look). IsFileAnswer answers unreported first c.drive_input.result
-              (std_bench g.L.Write.contents g.I.Read.remaining g.O.Write.contents c.drive_input.new.desk))
-              c.set_orders.ensures.failed (file_answered answers unreported _ _ _ _ _ c.drive_input.ensures.driven.0),
-        ),
-        search rules,
-      );
-}
+pub returns-in-Ok-opened-clause-driven : goal.returns-in-Ok-opened-clause-driven
+returns-in-Ok-opened-clause-driven g c = inl (
+  c.in-Ok.older,
+  rw c.as_slice.ensures.value at c.in-Ok.ensures.ok,
+  kept_orders g.L.Write.contents g.I.Read.remaining g.O.Write.contents c.args.desk.now c.set_orders.new.self
+      (λ (first : Look). Drives c.args.task.now.follow c.args.task.now g.N.Write.contents c.in-Ok.older
+      c.args.report.now c.drive_file.new.report first c.drive_file.result
+      (std_bench g.L.Write.contents g.I.Read.remaining g.O.Write.contents c.drive_file.new.desk))
+      c.set_orders.ensures.failed c.drive_file.ensures.driven,
+)
 
-pub returns-in-Err-opened : goal.returns-in-Err-opened
-returns-in-Err-opened g c = record {
-  driven = (
-    inl (
-      c.in-Ok.older,
-      c.in-Ok.ensures.ok,
-      inr (c.tell_unopened.ensures.told.0, c.tell_unopened.ensures.told.1, search rules, refl),
-    ),
-    search rules,
-  );
-}
+pub returns-in-Err-opened-clause-driven : goal.returns-in-Err-opened-clause-driven
+returns-in-Err-opened-clause-driven g c = inl (
+  c.in-Ok.older,
+  rw c.as_slice.ensures.value at c.in-Ok.ensures.ok,
+  drives_unopened c.args.task.now.follow c.args.task.now g.N.Write.contents c.in-Ok.older c.args.report.now _ _ _
+      c.refused.ensures.0 c.refused.ensures.2
+      (record { undriven = search rules; told = rw c.refused.ensures.1 at c.tell-in-Err-opened.ensures.told }),
+)
 
-pub returns-in-Err : goal.returns-in-Err
-returns-in-Err g c = record {
-  driven = (
-    inr (
-      some_held _ c.args.task.older.now c.in-Err.ensures.err,
-      (c.in-Err.unjoined.fault, c.in-Err.ensures.why, search rules, c.tell_unjoined.ensures.told.0, refl),
-    ),
+pub returns-in-Err-clause-driven : goal.returns-in-Err-clause-driven
+returns-in-Err-clause-driven g c = inr (
+  some_held _ c.args.task.now.older.items (rw c.as_slice.ensures.value at c.in-Err.ensures.err),
+  (
+    c.in-Err.problem.fault,
+    rw c.as_slice.ensures.value at c.in-Err.ensures.why,
     search rules,
-  );
-}
+    c.tell.ensures.told,
+    refl,
+  ),
+)

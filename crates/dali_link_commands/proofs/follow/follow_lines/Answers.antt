@@ -1,5 +1,5 @@
 use Rattle.std.proofs.Common.{rules, ◌∙◌, inl, inr, subst}
-use Rattle.dali_follow.specs.Gave.{Gave, state_of}
+use Rattle.dali_link_commands.specs.LinesGave.{Gave, state_of}
 use Rattle.dali_text.specs.Output.{has_failed, held}
 use Rattle.dali_report.specs.declared.outcome.Outcome.{Outcome}
 use Rattle.dali_link_commands.specs.Benches.{bench}
@@ -9,7 +9,7 @@ use Rattle.dali_link_commands.proofs.follow.follow_lines.Goals as goal
 
 pub returns-in-Ok-clause-answer : goal.returns-in-Ok-clause-answer
 returns-in-Ok-clause-answer g c =
-    let followed = rw c.terms.ensures at c.in-Ok.ensures.followed in (
+    let followed = rw c.terms_of.ensures at c.in-Ok.ensures.followed in (
       inl (record {
         lost = has_failed c.follow_stored.new.desk.out.output;
         replies = held g.W.Write.contents c.follow_stored.new.desk.out.output;
@@ -21,7 +21,7 @@ returns-in-Ok-clause-answer g c =
         };
         told =
             subst (λ (o : Outcome). TellsFollowed (g.R.Source.failed (state_of c.follow_stored.new.orders).source)
-            (state_of c.follow_stored.new.orders).has_refused c.args.task.required o c.tell_followed.result
+            (state_of c.follow_stored.new.orders).has_refused c.args.task.now.required o c.tell_followed.result
             (held g.W.Write.contents c.follow_stored.new.desk.out.output)
             (held g.W.Write.contents c.tell_followed.new.lines.output))
             (c.outcome.ensures ∙ followed.observed.told_all.outcome_is)
@@ -34,7 +34,7 @@ pub returns-in-Err-clause-answer : goal.returns-in-Err-clause-answer
 returns-in-Err-clause-answer g c =
     let desk = c.follow_stored.new.desk in
     rw c.tell_broken.ensures.only (
-      inr (break_told (Gave g.R.Source.left g.R.Source.failed) g.N.Write.contents c.args.older c.args.task.pace
+      inr (break_told (Gave g.R.Source.left g.R.Source.failed) g.N.Write.contents c.args.older c.args.task.now.pace
           c.args.report.now
           c.follow_stored.new.observer _ _
           (bench g.S.Store.seen g.S.Store.failed g.S.Store.may_leave g.L.Sink.held g.L.Sink.failed g.I.Source.left
@@ -42,11 +42,11 @@ returns-in-Err-clause-answer g c =
           (bench g.S.Store.seen g.S.Store.failed g.S.Store.may_leave g.L.Sink.held g.L.Sink.failed g.I.Source.left
           g.I.Source.failed g.W.Write.contents (record desk { out = c.tell_broken.new.desk.out }))
           (held g.W.Write.contents desk.out.output) (has_failed desk.out.output) c.tell_broken.result c.in-Err.fault
-          (rw c.terms.ensures at c.in-Err.ensures.broken) c.in-Err.ensures.err c.tell_broken.ensures.told),
+          (rw c.terms_of.ensures at c.in-Err.ensures.broken) c.in-Err.ensures.err c.tell_broken.ensures.told),
       search rules,
     )
 
 pub returns-in-Err-clause-any_moment : goal.returns-in-Err-clause-any_moment
 returns-in-Err-clause-any_moment g c =
-    let left = rw c.terms.ensures at c.follow_stored.ensures.any_moment in
+    let left = rw c.terms_of.ensures at c.follow_stored.ensures.any_moment in
     rw c.tell_broken.ensures.only (record { later = left.later; each = left.each; before = left.before })

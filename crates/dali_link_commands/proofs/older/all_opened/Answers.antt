@@ -10,7 +10,7 @@ loop-name-preserved g c = record {
       let pushed : c.push.new.self.items ≡ c.loop-name.stores.items ++ (c.in-Ok.store ∷ []) = search rules in
       rw pushed (opened_more g.R.Opened.Store.seen (g.R.JournalFiles.has c.args.rt.now) c.args.names.now
       c.loop-name.name-index _ c.loop-name.stores.items c.in-Ok.store c.loop-name.invariant.opened
-      c.loop-name-test.true c.in-Ok.ensures);
+      c.loop-name-test.true c.in-Ok.ensures.ok);
 }
 
 pub returns-clause-all : goal.returns-clause-all

@@ -10,7 +10,7 @@ loop-index-init g c = record {
 pub returns-in-Err-clause-err : goal.returns-in-Err-clause-err
 returns-in-Err-clause-err g c =
     first_unusable g.S.Store.seen g.S.Store.failed g.S.Store.may_leave c.args.stores.now c.loop-index.stores
-    c.loop-index.index c.index-stores-index.result c.joined_store.new.store c.loop-index.older c.in-Err.fault
+    c.loop-index.index c.index-stores-index.result c.joined_store.new.store c.loop-index.older c.in-Err.problem.fault
     c.loop-index.invariant.joined (omega arith) c.index-stores-index.is c.in-Err.ensures.err
 
 pub loop-index-preserved : goal.loop-index-preserved

@@ -1,8 +1,0 @@
-use Rattle.dali_follow.proofs.GaveLemmas.{gave_ready}
-use Rattle.dali_follow.proofs.order_lines.OrderLines.begin.Goals as goal
-
-pub returns : goal.returns
-returns g c = record {
-  given = λ first given gave.
-      gave_ready g.R.Source.left g.R.Source.failed first c.args.self.now given _ c.requires c.ready_line.ensures gave;
-}

@@ -11,6 +11,7 @@ import re
 import select
 import subprocess
 import sys
+import time
 from typing import NamedTuple
 
 ROOT = pathlib.Path(__file__).resolve().parent.parent
@@ -145,6 +146,15 @@ class Following(Desk):
         if not isinstance(orders, (str, bytes)):
             orders = "".join(json.dumps(order) + "\n" for order in orders)
         self.orders.write_bytes(orders.encode() if isinstance(orders, str) else orders)
+
+
+def wait_for(told, seconds=3 * PATIENCE):
+    """Wait until something is so, and give it."""
+    last = time.monotonic() + seconds
+    while not (found := told()):
+        assert time.monotonic() < last, f"it didn't come in {seconds} seconds"
+        time.sleep(0.01)
+    return found
 
 
 def line_from(pipe):

@@ -15,13 +15,12 @@ import signal
 import sqlite3
 import subprocess
 import sys
-import time
 import unittest
 import weakref
 from typing import NamedTuple
 
 from base import settings, want
-from driven import DONE, DOUBT_OPEN, NAMES, PATIENCE, ROOT, groups_of, possible_bytes, simulated_link
+from driven import DONE, DOUBT_OPEN, NAMES, PATIENCE, ROOT, groups_of, possible_bytes, simulated_link, wait_for
 
 PROGRAM = ROOT / "line_computer"
 ADAPTER = ROOT / "adapters" / "simulated_link.py"
@@ -197,15 +196,6 @@ def end_all(processes):
     for process in processes:
         process.kill()
         process.wait()
-
-
-def wait_for(told, seconds=3 * PATIENCE):
-    """Wait until something is so, and give it."""
-    last = time.monotonic() + seconds
-    while not (found := told()):
-        assert time.monotonic() < last, f"it didn't come in {seconds} seconds"
-        time.sleep(0.01)
-    return found
 
 
 def processes_of(process):

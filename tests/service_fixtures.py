@@ -12,7 +12,7 @@ import threading
 import time
 
 from base import settings, want
-from driven import PATIENCE, ROOT
+from driven import PATIENCE, ROOT, wait_for
 
 UNIT = ROOT / "service" / "dali-bench-pipe@.service"
 PROGRAMS, VARIABLES, STATES = "/opt/dali-bench", "/etc/dali-bench", "/var/lib"
@@ -47,15 +47,6 @@ def words_of(command, variables):
         is_variable = re.fullmatch(r"\$[A-Z]+", word)
         words += variables.get(word[1:], "").split() if is_variable else [word.replace("$$", "$")]
     return words
-
-
-def wait_for(told):
-    """Wait until something is so, and give it."""
-    last = time.monotonic() + PATIENCE
-    while not (found := told()):
-        assert time.monotonic() < last, f"it didn't come in {PATIENCE} seconds"
-        time.sleep(0.005)
-    return found
 
 
 def processes_of(group):

@@ -14,7 +14,7 @@ import tempfile
 
 from closure import Closures
 from crates import ROOT, text_of
-from sums import add_files, kit_version
+from sums import add_files, kit_logic
 
 RECORD = ROOT / "refused.txt"
 # The form of the sums: another one if `wrong_bodies` takes something else for a refusal.
@@ -29,7 +29,7 @@ class Refused:
     """The known refusals of edits, by the record and by the files as they are."""
 
     def __init__(self, edits):
-        self.more = f"{FORM} {kit_version().decode()}"
+        self.more = f"{FORM} {kit_logic()}"
         self.names, self.first = {it.name for it in edits}, text_of(RECORD)
         # First, so that nothing is kept where a file changes while the closures are read.
         self.wide = {name: self.wide_sum(name) for name in {it.crate.name for it in edits}}

@@ -13,6 +13,12 @@ def kit_version():
     return subprocess.run(["rt", "version"], stdout=subprocess.PIPE, check=True).stdout
 
 
+def kit_logic():
+    """Give the sum of the logic in which the kit proves: kits that differ in other ways have the same one."""
+    version = kit_version().decode().strip()
+    return version.partition(" logic ")[2] or version
+
+
 def add_files(total, name):
     """Add to a sum the files of a crate and of those that it stands on."""
     used = uses()

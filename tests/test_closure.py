@@ -428,10 +428,13 @@ def after_changes(root, scripts):
         yield f"{name}: {scripts.unknown() ^ again}", text.count(was) > 0 and scripts.unknown() == again
         path.write_text(text, encoding="utf-8")
     yield "all is as it was", not scripts.unknown()
-    version = scripts.refused.kit_version
-    scripts.refused.kit_version = lambda: b"another"
-    yield "another kit", scripts.unknown() == ALL
-    scripts.refused.kit_version = version
+    sums = sys.modules["sums"]
+    version, logic = sums.kit_version, sums.kit_logic()
+    sums.kit_version = lambda: f"another logic {logic}\n".encode()
+    yield "another kit of the same logic", not scripts.unknown()
+    sums.kit_version = lambda: b"another logic of another sum\n"
+    yield "another logic", scripts.unknown() == ALL
+    sums.kit_version = version
 
 
 def after_runs(root, scripts):

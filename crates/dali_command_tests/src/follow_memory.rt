@@ -5,7 +5,7 @@ use crate::streams::{Behind, TestReader};
 use dali_drive::{StdSink, StdSource, StoreDesk};
 use dali_faults::Status;
 use dali_job::{DriveTask, Required};
-use dali_link_commands::follow::follow_lines;
+use dali_link_commands::follow::follow_source;
 use dali_link_commands::lines::Lines;
 use dali_link_commands::stream::OrderLines;
 use dali_report::Report;
@@ -87,7 +87,7 @@ fn is_followed(alloc: Global, stream: &Stream<'_>) -> bool {
         },
     };
     let mut report: Report<io::Sink> = Report::new(alloc, 1, None, None);
-    let status = follow_lines(alloc, None, &task, &mut orders, &mut desk, &mut report);
+    let status = follow_source(alloc, None, &task, &mut orders, &mut desk, &mut report);
     let is_kept = desk.journal.bytes() == stream.kept;
     drop(desk);
     status == stream.status && told.as_slice() == stream.told.as_bytes() && is_kept

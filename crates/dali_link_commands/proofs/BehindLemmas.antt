@@ -1,21 +1,29 @@
 -- Lemmas on how a drive with older journals ended.
-use Rattle.std.proofs.Common.{◌≡◌, ◌≢◌, Bool, ℕ, List, [], ◌∷◌, ◌++◌, Option, ap, inl, inr, refl}
+use Rattle.std.proofs.Common.{◌≡◌, ◌≢◌, ◌≤◌, ◌^◌, ◌-◌, ◌∙◌, Bool, false, ℕ, List, [], ◌∷◌, ◌++◌, Option, ap, inl, inr, length}
+use Rattle.std.proofs.Common.{refl, subst, sym}
 use Rattle.std.specs.Borrow.{Bor}
 use Rattle.dali_journal.specs.declared.record.Record.{Record}
 use Rattle.dali_journal.specs.declared.standing.Standing.TheVariants.{Idle}
 use Rattle.dali_journal.specs.JournalState.{JournalState}
 use Rattle.dali_journal.specs.Sentence.{next_standing, standing_of}
+use Rattle.dali_bank.specs.Order.{Contents}
 use Rattle.dali_drive.specs.declared.following.Given.{Given}
+use Rattle.dali_drive.specs.declared.listed.ListedOrders.{ListedOrders}
 use Rattle.dali_drive.specs.declared.stored.StoredFault.{StoredFault}
 use Rattle.dali_drive.specs.declared.stored.StoredFault.TheVariants.{Open, Drive}
 use Rattle.dali_drive.specs.Behind.{EndsBehind}
 use Rattle.dali_drive.specs.Desks.{Look}
+use Rattle.dali_drive.specs.Listed.{GaveListed, IsEmpty, state_of}
 use Rattle.dali_drive.specs.Stored.{StoredShows}
+use Rattle.dali_drive.proofs.ListedDriveLemmas.{behind_driven}
 use Rattle.dali_store.specs.declared.opening.OpenFault.TheVariants.{Join}
+use Rattle.dali_job.specs.declared.link_command.Required.{Required}
+use Rattle.dali_report.specs.declared.outcome.Outcome.{Outcome}
 use Rattle.dali_report.specs.declared.report.Report.{Report}
 use Rattle.dali_report.specs.Told.{IsTold, IsToldEnd}
 use Rattle.dali_faults.specs.declared.fault.Status.{Status}
-use Rattle.dali_link_commands.specs.BehindAnswers.{BreaksBehind, IsBreakTold}
+use Rattle.dali_link_commands.specs.Bare.{TellsEnded}
+use Rattle.dali_link_commands.specs.BehindAnswers.{BreaksBehind, IsAnswerBehind, IsBreakTold, IsSourceBehind}
 use Rattle.dali_link_commands.specs.Benches.{with_lines}
 use Rattle.dali_link_commands.specs.Older.{held_under}
 use Rattle.dali_faults.specs.JournalInput.{journal_limit, order_limit}
@@ -35,6 +43,31 @@ break_told gave contents older pace before after orders left first last replies 
     inl (search)
 break_told gave contents older pace before after orders left first last replies lost status (Drive why) ends
     shows told = inr (inr (search))
+
+-- all that a list gave was followed, or not: so its orders were driven, or not
+pub list_answered : {N : Type 0} (older : Option JournalState) (contents : N → Option (List ℕ)) (moment : ℕ)
+    (pace : Pace) (required : Required) (before after : Report N) (orders : List Contents) (listed left : ListedOrders)
+    (first : Look) (status : Status) (last : Look)
+    → length orders ≤ 2 ^ 64 - 1 → state_of listed ≡ record { rest = orders; moment = moment }
+    → IsSourceBehind GaveListed IsEmpty (λ _. false) (λ _. false) contents older pace required before after listed left
+    first status last
+    → IsAnswerBehind older contents moment pace required before after orders first status last
+list_answered older contents moment pace required before after orders listed left first status last few is (inl s) =
+    let driven = behind_driven (IsTold contents) (IsToldEnd contents) older order_limit journal_limit pace orders moment
+    listed is _ _ _ _ _ few s.follows.writer s.follows.followed in
+    inl (record {
+      writer = s.follows.writer;
+      replies = s.replies;
+      lost = s.lost;
+      driven = driven;
+      unfailed = s.follows.unfailed;
+      settled = s.follows.settled;
+      told =
+          subst (λ (o : Outcome). TellsEnded required o status s.replies last.streams.out)
+          (sym s.follows.followed.observed.told_all.outcome_is ∙ driven.observed.told_all.outcome_is) s.told;
+    })
+list_answered older contents moment pace required before after orders listed left first status last few is
+    (inr breaks) = inr (listed, left, is, breaks)
 
 -- records after others that are at rest have the standing that they have by themselves
 pub standing_behind : (own older : List Record) → standing_of older ≡ Idle

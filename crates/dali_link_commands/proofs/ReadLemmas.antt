@@ -1,5 +1,5 @@
 -- How a reading ended.
-use Rattle.std.proofs.Common.{◌≡◌, ◌⊎◌, ◌||◌, inl, inr, not, ℕ, Bool, true, false, List, Option}
+use Rattle.std.proofs.Common.{◌≡◌, ◌⊎◌, ◌||◌, inl, inr, not, ℕ, Bool, true, false, List, Option, None}
 use Rattle.std.specs.Prelude.{⊤}
 use Rattle.dali_store.proofs.Moments.{started, goes_on}
 use Rattle.dali_store.specs.Stores.{Elapses, LeavesOnly, MayAlso}
@@ -9,10 +9,12 @@ use Rattle.dali_drive.specs.declared.std_streams.StdSink.{StdSink}
 use Rattle.dali_drive.specs.declared.std_streams.StdSource.{StdSource}
 use Rattle.dali_drive.specs.declared.store_desk.StoreDesk.{StoreDesk}
 use Rattle.dali_drive.specs.Desks.{Look}
+use Rattle.dali_drive.specs.StdStreams.{source_left, source_failed, sink_held, sink_failed}
+use Rattle.dali_drive.specs.StoreDesks.{store_look}
 use Rattle.dali_faults.specs.declared.fault.Status.{Status}
 use Rattle.dali_link_commands.specs.declared.lines.Lines.{Lines}
-use Rattle.dali_link_commands.specs.Benches.{std_bench}
 use Rattle.dali_link_commands.specs.ReadAnswers.{IsReadAnswer}
+use Rattle.dali_text.specs.Output.{has_failed, held}
 
 -- of a file nothing is known that a stop may leave
 pub nothing_known : (unit : ℕ) (leaves_only : (List ℕ → Type 0) → Type 0) (first : Look) (status : Status) (last : Look)
@@ -41,11 +43,18 @@ module _ {S : Type 0} (moment : S → ℕ) (left_since : S → ℕ → List ℕ 
 pub unfailed_on : (old new done : Bool) → old ≡ false → done ≡ true → new ≡ (old || not done) → new ≡ false
 unfailed_on old new done before well is = rw (before, well) at is
 
+-- what a desk over std's streams and a file shows
+abbrev pub std_look : {I L R W : Type 0} → (L → Option (List ℕ)) → (I → Option (List ℕ)) → (W → Option (List ℕ))
+    → StoreDesk (StdSource I) (StdSink L) (FileStore R) (Lines W) → Look
+std_look link_held left contents desk =
+    store_look (λ file. None) file.has_failed (λ file c. ⊤) (sink_held link_held) sink_failed (source_left left)
+    source_failed (λ lines. held contents lines.output) (λ lines. has_failed lines.output) desk
+
 -- a store learns in which file the orders are
 pub kept_orders : {I L R W : Type 0} (link_held : L → Option (List ℕ)) (left : I → Option (List ℕ))
     (contents : W → Option (List ℕ)) (desk : StoreDesk (StdSource I) (StdSink L) (FileStore R) (Lines W))
     (journal : FileStore R) (P : Look → Type 0) → file.has_failed journal ≡ file.has_failed desk.journal
-    → P (std_bench link_held left contents (record desk { journal = journal }))
-    → P (std_bench link_held left contents desk)
+    → P (std_look link_held left contents (record desk { journal = journal }))
+    → P (std_look link_held left contents desk)
 kept_orders link_held left contents desk journal P is so =
     rw is at so

@@ -8,12 +8,11 @@ use Rattle.dali_trace.specs.declared.fault.DriveFault.TheVariants as faults
 use Rattle.dali_drive.specs.declared.following.Given.{Given}
 use Rattle.dali_drive.specs.Desks.{Look}
 use Rattle.dali_drive.specs.Transcript.{Streams}
-use Rattle.dali_link_commands.specs.declared.stream.order_lines.OrderLines.{OrderLines}
 use Rattle.dali_report.specs.declared.report.Report.{Report}
 use Rattle.dali_faults.specs.declared.fault.Status.{Status}
 use Rattle.dali_link_commands.specs.BehindAnswers.{UnopenedBehind, UnjoinedBehind, BrokenBehind, FollowsBehind}
 use Rattle.dali_job.specs.declared.link_command.Required.{Required}
-use Rattle.dali_link_commands.specs.BehindAnswers.{EndsLinesBehind, EndsListBehind}
+use Rattle.dali_link_commands.specs.BehindAnswers.{EndsListBehind, EndsSourceBehind}
 use Rattle.dali_link_commands.proofs.WorkedBenchLemmas.{emptied_unsettled}
 use Rattle.dali_write.specs.declared.pace.Pace.{Pace}
 
@@ -81,13 +80,13 @@ pub ended_and_unsettled : {G N : Type 0} (gave : G → G → List Given → Type
     → last.streams.journal ≡ Some (1 ∷ []) → last.may_leave [] → ⊥
 ended_and_unsettled _ _ _ _ _ _ _ _ _ _ _ f shows less = emptied_unsettled _ _ shows less f.settled
 
-pub lines_ended_and_unsettled : {R N : Type 0} (rest : R → Option (List ℕ)) (failed : R → Bool)
-    (contents : N → Option (List ℕ)) (older : Option JournalState) (pace : Pace) (required : Required)
-    (before after : Report N)
-    (orders left : OrderLines R) (first : Look) (status : Status) (last : Look)
-    → EndsLinesBehind rest failed contents older pace required before after orders left first status last
+pub source_ended_and_unsettled : {G N : Type 0} (gave : G → G → List Given → Type 0) (over : G → Type 0)
+    (failed refused : G → Bool) (contents : N → Option (List ℕ)) (older : Option JournalState) (pace : Pace)
+    (required : Required) (before after : Report N) (orders left : G) (first : Look) (status : Status) (last : Look)
+    → EndsSourceBehind gave over failed refused contents older pace required before after orders left first status last
     → last.streams.journal ≡ Some (1 ∷ []) → last.may_leave [] → ⊥
-lines_ended_and_unsettled _ _ _ _ _ _ _ _ _ _ _ _ _ e shows less = emptied_unsettled _ _ shows less e.follows.settled
+source_ended_and_unsettled _ _ _ _ _ _ _ _ _ _ _ _ _ _ _ e shows less =
+    emptied_unsettled _ _ shows less e.follows.settled
 
 pub list_ended_and_unsettled : {N : Type 0} (older : Option JournalState) (contents : N → Option (List ℕ)) (moment : ℕ)
     (pace : Pace) (required : Required) (before after : Report N) (orders : List Contents) (first : Look)

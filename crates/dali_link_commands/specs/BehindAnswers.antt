@@ -99,24 +99,21 @@ module _ {G N : Type 0} (gave : G → G → List Given → Type 0) (contents : N
   abbrev pub BreaksBehind : Type 0
   BreaksBehind = UnopenedBehind ⊎ UnjoinedBehind ⊎ BrokenBehind
 
-module _ {R N : Type 0} (rest : R → Option (List ℕ)) (failed : R → Bool) (contents : N → Option (List ℕ))
-    (older : Option JournalState) (pace : Pace) (required : Required) (before after : Report N)
-    (orders left : OrderLines R)
-    (first : Look) (status : Status) (last : Look) where
-  -- all that the lines of a stream gave was followed, and a failure of their source is reported
-  pub record EndsLinesBehind : Type 0 where
+module _ {G N : Type 0} (gave : G → G → List Given → Type 0) (over : G → Type 0) (failed refused : G → Bool)
+    (contents : N → Option (List ℕ)) (older : Option JournalState) (pace : Pace) (required : Required)
+    (before after : Report N) (orders left : G) (first : Look) (status : Status) (last : Look) where
+  -- all that a source gave was followed, and that it failed, or had an item refused, counts at the end
+  pub record EndsSourceBehind : Type 0 where
     pub replies : Option (List ℕ)
     pub lost : Bool
-    pub follows : FollowsBehind (lines.Gave rest failed) lines.IsOver contents older pace before after orders left first
+    pub follows : FollowsBehind gave over contents older pace before after orders left first
         (with_lines last replies lost)
-    pub told : TellsFollowed (failed (lines.state_of left).source) (lines.state_of left).has_refused required
+    pub told : TellsFollowed (failed left) (refused left) required
         (outcome_of (start_by pace follows.followed.behind.journal) (happenings follows.followed.observed.follow.steps))
         status replies last.streams.out
 
-  abbrev pub IsLinesBehind : Type 0
-  IsLinesBehind =
-      EndsLinesBehind
-      ⊎ BreaksBehind (lines.Gave rest failed) contents older pace before after orders left first status last
+  abbrev pub IsSourceBehind : Type 0
+  IsSourceBehind = EndsSourceBehind ⊎ BreaksBehind gave contents older pace before after orders left first status last
 
 module _ {N : Type 0} (older : Option JournalState) (contents : N → Option (List ℕ)) (moment : ℕ)
     (pace : Pace) (required : Required) (before after : Report N) (orders : List Contents) (first : Look)
@@ -174,6 +171,7 @@ abbrev pub IsFileFollow : {F N : Type 0} → Option JournalState → (F → Opti
     → Pace → Required → Report N → Report N → Look → Status → Look → Type 0
 IsFileFollow {F} older remaining contents moment pace required before after first status last =
     ((orders : OrderLines (StdSource F)) × (left : OrderLines (StdSource F)) × AreUnread source_failed moment orders
-    × IsLinesBehind (source_left remaining) source_failed contents older pace required before after orders left first
-    status last)
+    × IsSourceBehind (lines.Gave (source_left remaining) source_failed) lines.IsOver
+    (λ now. source_failed (lines.state_of now).source) (λ now. (lines.state_of now).has_refused) contents older pace
+    required before after orders left first status last)
     ⊎ ((fault : InputFault) × IsUnread fault × EndsUndriven fault first status last × (after ≡ before))

@@ -8,22 +8,22 @@ ghost use Rattle.dali_link_commands.specs.AddressAnswers.{TellsBreak, end_after 
 ghost use Rattle.dali_link_commands.specs.AddressAnswers.{marked_in as marked, may_be_good as good, shared_in as shared};
 ghost use Rattle.dali_link_commands.specs.AddressAnswers.{status_at_end, watched_asked};
 ghost use Rattle.dali_link_commands.specs.AddressAnswers.{is_left_open as left_open, is_well as well};
-ghost use Rattle.dali_link_commands.specs.Benches.{TellsUnwritten, bench, std_bench};
+ghost use Rattle.dali_link_commands.specs.Benches.{TellsUnwritten};
 ghost use Rattle.dali_link_commands.specs.ReadAnswers.{on_link};
 ghost use Rattle.dali_link_commands.specs.Told.{TellsLine, is_out};
 
 use crate::drive_lines::{Causes, tell_fault};
 use crate::journal_files::JournalFiles;
-use crate::lines::Lines;
+use crate::lines::{Bench, Lines, StdBench};
 use crate::older::held_older;
 use crate::read::tell_line;
 use dali_address::{CensusEnd, Summary, Task};
 use dali_address_link::{End, OPEN, address_units, count_text, count_units, end_text};
-use dali_drive::{DriveFault, Sink, Source, StdSink, StdSource, StoreDesk, put_all};
+use dali_drive::{Desk, DriveFault, Sink, Source, put_all};
 use dali_faults::Status;
 use dali_job::{AddressCommand, Asked};
 use dali_report::Watched;
-use dali_store::{FileStore, Store};
+use dali_store::Store;
 use std::alloc::Global;
 use std::fs::{File, Files};
 use std::io::{Read, Write};
@@ -47,6 +47,7 @@ pub(crate) fn watched_address(command: &AddressCommand<'_>) -> Watched
 /// alone. If a journal is named that isn't at rest, or that a drive has open, nothing is sent: 15 Older, 20 Memory or
 /// 21 File. No drive can open it as long as this goes on.
 pub fn address_beside<
+    's,
     R: Files<File = File> + AllocGlobal + JournalFiles,
     I: Read,
     L: Write,
@@ -54,13 +55,12 @@ pub fn address_beside<
 >(
     rt: &R,
     command: &AddressCommand<'_>,
-    desk: &mut StoreDesk<StdSource<I>, StdSink<L>, FileStore<'_, R>, Lines<O>>,
+    desk: &mut StdBench<'s, R, I, L, O>,
 ) -> Status
-    requires unfailed { IsUnfailed (std_bench L.contents I.remaining O.contents desk.old).failed }
-    ensures carried_out { IsAddressAnswer (R.has rt.now) command.now
-        (std_bench L.contents I.remaining O.contents desk.old) result
-        (std_bench L.contents I.remaining O.contents desk.new) }
-    ensures unwritten { TellsUnwritten result (std_bench L.contents I.remaining O.contents desk.new) }
+    requires unfailed { IsUnfailed (⟦<StdBench<'s, R, I, L, O> as Desk>⟧.look desk.old).failed }
+    ensures carried_out { let look = ⟦<StdBench<'s, R, I, L, O> as Desk>⟧.look in
+        IsAddressAnswer (R.has rt.now) command.now (look desk.old) result (look desk.new) }
+    ensures unwritten { TellsUnwritten result (⟦<StdBench<'s, R, I, L, O> as Desk>⟧.look desk.new) }
 {
     let units = command.units.as_slice();
     let Some(journal) = command.journal else {
@@ -84,15 +84,11 @@ pub fn address<I: Source, L: Sink, S: Store, W: Write>(
     alloc: Global,
     asked: Asked,
     units: &[u8],
-    desk: &mut StoreDesk<I, L, S, Lines<W>>,
+    desk: &mut Bench<I, L, S, W>,
 ) -> Status
-    requires unfailed { IsUnfailed
-        (bench S.seen S.failed S.may_leave L.held L.failed I.left I.failed W.contents desk.old).failed }
-    ensures answer { IsAskedAnswer asked
-        (bench S.seen S.failed S.may_leave L.held L.failed I.left I.failed W.contents desk.old) result
-        (bench S.seen S.failed S.may_leave L.held L.failed I.left I.failed W.contents desk.new)
-        × TellsUnwritten result
-        (bench S.seen S.failed S.may_leave L.held L.failed I.left I.failed W.contents desk.new) }
+    requires unfailed { IsUnfailed (⟦<Bench<I, L, S, W> as Desk>⟧.look desk.old).failed }
+    ensures answer { let look = ⟦<Bench<I, L, S, W> as Desk>⟧.look in
+        IsAskedAnswer asked (look desk.old) result (look desk.new) × TellsUnwritten result (look desk.new) }
 {
     match asked {
         Asked::Run(task) => run(alloc, task, units, None, desk),
@@ -106,16 +102,12 @@ fn run<I: Source, L: Sink, S: Store, W: Write>(
     task: Task,
     units: &[u8],
     counted: Option<CensusEnd>,
-    desk: &mut StoreDesk<I, L, S, Lines<W>>,
+    desk: &mut Bench<I, L, S, W>,
 ) -> Status
-    requires unfailed { IsUnfailed
-        (bench S.seen S.failed S.may_leave L.held L.failed I.left I.failed W.contents desk.old).failed }
-    ensures answer { IsRunAnswer task counted
-        (on_link (bench S.seen S.failed S.may_leave L.held L.failed I.left I.failed W.contents desk.old))
-        (bench S.seen S.failed S.may_leave L.held L.failed I.left I.failed W.contents desk.old) result
-        (bench S.seen S.failed S.may_leave L.held L.failed I.left I.failed W.contents desk.new)
-        × TellsUnwritten result
-        (bench S.seen S.failed S.may_leave L.held L.failed I.left I.failed W.contents desk.new) }
+    requires unfailed { IsUnfailed (⟦<Bench<I, L, S, W> as Desk>⟧.look desk.old).failed }
+    ensures answer { let look = ⟦<Bench<I, L, S, W> as Desk>⟧.look in
+        IsRunAnswer task counted (on_link (look desk.old)) (look desk.old) result (look desk.new) × TellsUnwritten
+        result (look desk.new) }
 {
     let ended = address_units(
         task,
@@ -136,15 +128,11 @@ fn run<I: Source, L: Sink, S: Store, W: Write>(
 // A census, which leaves the units in the initialisation state, and then a run that ends that.
 fn count<I: Source, L: Sink, S: Store, W: Write>(
     alloc: Global,
-    desk: &mut StoreDesk<I, L, S, Lines<W>>,
+    desk: &mut Bench<I, L, S, W>,
 ) -> Status
-    requires unfailed { IsUnfailed
-        (bench S.seen S.failed S.may_leave L.held L.failed I.left I.failed W.contents desk.old).failed }
-    ensures answer { IsCountAnswer
-        (bench S.seen S.failed S.may_leave L.held L.failed I.left I.failed W.contents desk.old) result
-        (bench S.seen S.failed S.may_leave L.held L.failed I.left I.failed W.contents desk.new)
-        × TellsUnwritten result
-        (bench S.seen S.failed S.may_leave L.held L.failed I.left I.failed W.contents desk.new) }
+    requires unfailed { IsUnfailed (⟦<Bench<I, L, S, W> as Desk>⟧.look desk.old).failed }
+    ensures answer { let look = ⟦<Bench<I, L, S, W> as Desk>⟧.look in
+        IsCountAnswer (look desk.old) result (look desk.new) × TellsUnwritten result (look desk.new) }
 {
     match count_units(CENSUS_CARE, &mut desk.link_in, &mut desk.link_out) {
         Ok(end) => {

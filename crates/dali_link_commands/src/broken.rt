@@ -1,13 +1,13 @@
 // How it is reported that a drive broke off, after what its lines hold.
 ghost use Rattle.std.specs.Prelude.{◌≡◌, ◌≢◌};
 ghost use Rattle.dali_drive.specs.Stored.{StoredShows};
-ghost use Rattle.dali_link_commands.specs.Benches.{TellsUnwritten, bench};
+ghost use Rattle.dali_link_commands.specs.Benches.{TellsUnwritten};
 ghost use Rattle.dali_link_commands.specs.BehindAnswers.{IsBreakTold};
 
 use crate::drive_lines::{Causes, tell_fault};
-use crate::lines::Lines;
+use crate::lines::Bench;
 use crate::problem::Problem;
-use dali_drive::{Sink, Source, StoreDesk, StoredFault};
+use dali_drive::{Desk, Sink, Source, StoredFault};
 use dali_faults::Status;
 use dali_store::Store;
 use std::alloc::Global;
@@ -17,17 +17,14 @@ use std::io::Write;
 pub(crate) fn tell_broken<I: Source, L: Sink, S: Store, W: Write>(
     alloc: Global,
     name: &str,
-    desk: &mut StoreDesk<I, L, S, Lines<W>>,
+    desk: &mut Bench<I, L, S, W>,
     fault: StoredFault,
 ) -> Status
-    requires shown { StoredShows fault
-        (bench S.seen S.failed S.may_leave L.held L.failed I.left I.failed W.contents desk.old).failed }
-    ensures told { IsBreakTold fault result
-        (bench S.seen S.failed S.may_leave L.held L.failed I.left I.failed W.contents desk.old).streams.out
-        (bench S.seen S.failed S.may_leave L.held L.failed I.left I.failed W.contents desk.new).streams.out }
+    requires shown { StoredShows fault (⟦<Bench<I, L, S, W> as Desk>⟧.look desk.old).failed }
+    ensures told { let look = ⟦<Bench<I, L, S, W> as Desk>⟧.look in
+        IsBreakTold fault result (look desk.old).streams.out (look desk.new).streams.out }
     ensures only { desk.new ≡ record desk.old { out = desk.new.out } }
-    ensures unwritten { TellsUnwritten result
-        (bench S.seen S.failed S.may_leave L.held L.failed I.left I.failed W.contents desk.new) }
+    ensures unwritten { TellsUnwritten result (⟦<Bench<I, L, S, W> as Desk>⟧.look desk.new) }
     ensures not_good { result ≢ Status.Good }
 {
     match fault {

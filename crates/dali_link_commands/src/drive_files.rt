@@ -1,25 +1,24 @@
 ghost use Rattle.std.specs.Prelude.{◌≡◌};
 ghost use Rattle.dali_drive.specs.Behind.{IsReadyBehind};
 ghost use Rattle.dali_drive.specs.Desks.{IsUnfailed};
-ghost use Rattle.dali_link_commands.specs.Benches.{TellsUnwritten, std_bench};
+ghost use Rattle.dali_link_commands.specs.Benches.{TellsUnwritten};
 ghost use Rattle.dali_link_commands.specs.BehindAnswers.{IsBehindNamed, EndsUnread};
 ghost use Rattle.dali_link_commands.specs.LinkCommands.{Drives};
 ghost use Rattle.dali_link_commands.specs.Older.{held_under};
 
 use crate::drive::drive_input;
-use crate::follow::follow_lines;
+use crate::follow::follow_source;
 use crate::journal_files::JournalFiles;
-use crate::lines::Lines;
+use crate::lines::StdBench;
 use crate::older::read_older;
 use crate::problem::Problem;
 use crate::stream::OrderLines;
-use dali_drive::{StdSink, StdSource, StoreDesk};
+use dali_drive::{Desk, StdSource};
 use dali_faults::Status;
 use dali_input::Input;
 use dali_job::DriveTask;
 use dali_journal::Journal;
 use dali_report::Report;
-use dali_store::FileStore;
 use std::alloc::Global;
 use std::fs::{File, Files, Metadata};
 use std::io::{ErrorKind, Read, Write};
@@ -27,7 +26,7 @@ use std::os::unix::fs::{FileTypeExt, MetadataExt};
 use std::{fs, io};
 
 /// Carries out the orders of a file over a link, with the journal that another file holds: all of them, as
-/// `drive_input` does, or, of a stream, a named pipe as a rule, each line before the next is read, as `follow_lines`
+/// `drive_input` does, or, of a stream, a named pipe as a rule, each line before the next is read, as `follow_source`
 /// does.
 ///
 /// The older journals are read before the file is opened. A stream's bytes are read one by one, with no buffer: so no
@@ -36,6 +35,7 @@ use std::{fs, io};
 /// No contract says what the file of the orders holds: the drive is that of the orders which its bytes spell, or
 /// follows exactly what its lines give, on these terms, with what is known of the older journals' files.
 pub fn drive_files<
+    's,
     R: Files<File = File> + AllocGlobal + JournalFiles,
     I: Read,
     L: Write,
@@ -44,18 +44,15 @@ pub fn drive_files<
 >(
     rt: &R,
     task: &DriveTask<'_>,
-    desk: &mut StoreDesk<StdSource<I>, StdSink<L>, FileStore<'_, R>, Lines<O>>,
+    desk: &mut StdBench<'s, R, I, L, O>,
     report: &mut Report<N>,
 ) -> Status
-    requires unfailed { IsUnfailed (std_bench L.contents I.remaining O.contents desk.old).failed }
-    ensures driven { IsBehindNamed (held_under (R.has rt.now) task.now.older.items)
-        (λ older. Drives task.now.follow task.now N.contents older report.old report.new
-        (std_bench L.contents I.remaining O.contents desk.old) result
-        (std_bench L.contents I.remaining O.contents desk.new))
-        (EndsUnread (held_under (R.has rt.now) task.now.older.items) report.old report.new
-        (std_bench L.contents I.remaining O.contents desk.old) result
-        (std_bench L.contents I.remaining O.contents desk.new)) }
-    ensures unwritten { TellsUnwritten result (std_bench L.contents I.remaining O.contents desk.new) }
+    requires unfailed { IsUnfailed (⟦<StdBench<'s, R, I, L, O> as Desk>⟧.look desk.old).failed }
+    ensures driven { let look = ⟦<StdBench<'s, R, I, L, O> as Desk>⟧.look in
+        IsBehindNamed (held_under (R.has rt.now) task.now.older.items) (λ older. Drives task.now.follow task.now
+        N.contents older report.old report.new (look desk.old) result (look desk.new)) (EndsUnread (held_under (R.has
+        rt.now) task.now.older.items) report.old report.new (look desk.old) result (look desk.new)) }
+    ensures unwritten { TellsUnwritten result (⟦<StdBench<'s, R, I, L, O> as Desk>⟧.look desk.new) }
 {
     let older = match read_older(rt, task.older.as_slice()) {
         Ok(older) => older,
@@ -71,23 +68,23 @@ pub fn drive_files<
 }
 
 // Drives the orders of a file that is open.
-fn drive_file<R: Files<File = File> + AllocGlobal, I: Read, L: Write, O: Write, N: Write + Drop>(
+fn drive_file<'s, R: Files<File = File> + AllocGlobal, I: Read, L: Write, O: Write, N: Write + Drop>(
     alloc: Global,
     older: Option<Journal>,
     task: &DriveTask<'_>,
     file: File,
-    desk: &mut StoreDesk<StdSource<I>, StdSink<L>, FileStore<'_, R>, Lines<O>>,
+    desk: &mut StdBench<'s, R, I, L, O>,
     report: &mut Report<N>,
 ) -> Status
-    requires ready { IsReadyBehind older (std_bench L.contents I.remaining O.contents desk.old) }
-    ensures driven { Drives task.now.follow task.now N.contents older report.old report.new
-        (std_bench L.contents I.remaining O.contents desk.old) result
-        (std_bench L.contents I.remaining O.contents desk.new) }
-    ensures unwritten { TellsUnwritten result (std_bench L.contents I.remaining O.contents desk.new) }
+    requires ready { IsReadyBehind older (⟦<StdBench<'s, R, I, L, O> as Desk>⟧.look desk.old) }
+    ensures driven { let look = ⟦<StdBench<'s, R, I, L, O> as Desk>⟧.look in
+        Drives task.now.follow task.now N.contents older report.old report.new (look desk.old) result (look desk.new)
+        }
+    ensures unwritten { TellsUnwritten result (⟦<StdBench<'s, R, I, L, O> as Desk>⟧.look desk.new) }
 {
     if task.follow {
         let mut orders = OrderLines::new(alloc, StdSource::new(file), task.moment);
-        follow_lines(alloc, older, task, &mut orders, desk, report)
+        follow_source(alloc, older, task, &mut orders, desk, report)
     } else {
         drive_input(alloc, older, task, &mut Input::new(file), desk, report)
     }

@@ -1,57 +1,111 @@
-ghost use Rattle.std.specs.Prelude.{◌≡◌, ◌↔◌, false, true};
+// Sources of orders, and how what one gives is followed.
+ghost use Rattle.std.specs.Prelude.{◌≡◌, ◌↔◌, Bool, IfSome, false, true};
 ghost use Rattle.dali_drive.specs.Behind.{IsReadyBehind};
 ghost use Rattle.dali_drive.specs.Stored.{LeavesPart};
-ghost use Rattle.dali_link_commands.specs.LinesGave.{state_of};
 ghost use Rattle.dali_store.specs.Stores.{LeavesOnly};
 ghost use Rattle.dali_text.specs.Output.{has_failed, held};
-ghost use Rattle.dali_link_commands.specs.Benches.{TellsUnwritten, bench};
-ghost use Rattle.dali_link_commands.specs.BehindAnswers.{IsLinesBehind};
+ghost use Rattle.dali_link_commands.specs.Benches.{TellsUnwritten};
+ghost use Rattle.dali_link_commands.specs.BehindAnswers.{IsSourceBehind};
 ghost use Rattle.dali_link_commands.specs.FollowAnswers.{TellsFollowed};
-ghost use Rattle.dali_faults.specs.JournalInput.{order_limit};
+ghost use Rattle.dali_faults.specs.JournalInput.{journal_limit, order_limit};
 
 use crate::broken::tell_broken;
-use crate::drive::{failure_of, terms_of};
-use crate::lines::Lines;
-use crate::problem::Problem;
+use crate::lines::{Bench, Lines};
+use crate::problem::{Problem, failure_of};
 use crate::required::tell_ended;
-use crate::stream::OrderLines;
-use dali_drive::{Sink, Source, StoreDesk, follow_stored};
-use dali_faults::Status;
+use dali_drive::{Desk, ListedOrders, Orders, Sink, Source, Terms, follow_stored};
+use dali_faults::{JOURNAL_LIMIT, Status};
 use dali_input::InputFault;
 use dali_job::DriveTask;
-use dali_journal::Journal;
+use dali_journal::{Journal, MOST_ORDERS};
 use dali_report::{Outcome, Report};
 use dali_store::Store;
+use dali_write::Pace;
 use std::alloc::Global;
-use std::io::Write;
+use std::io::{ErrorKind, Write};
 
-/// Carries out what the journal of a store still asks for, and then the orders that come line by line, over streams
-/// that haven't failed: each line is judged, its order submitted and carried out, and its replies written to `lines`,
-/// before the next is read. Before the first is, `ready` is written: the journal is open, and all that it asked for is
-/// done. A refused line is printed as `item I order N fault F NAME`, with `order N` only if the line has that number,
-/// and changes nothing. The report has a line for each last reply.
+/// A source of orders that tells how it ended (profile): the list of a file, or the lines of a stream.
+pub trait OrderSource: Orders {
+    /// Whether its stream has failed.
+    ghost failed: { Self → Bool };
+
+    /// Whether an item of it was refused, and given as a line.
+    ghost refused: { Self → Bool };
+
+    /// Whether its stream has failed.
+    fn has_failed(&self) -> bool
+        ensures { result ≡ failed self.now };
+
+    /// Whether an item of it was refused, and given as a line.
+    fn has_refused(&self) -> bool
+        ensures { result ≡ refused self.now };
+
+    /// The kind of its stream's failure, if there was one and its kind is known.
+    fn cause(&self) -> Option<ErrorKind>
+        ensures { IfSome result (λ kind. failed self.now ≡ true) };
+}
+
+// A list was judged before it is driven: no item of it is refused then, and no stream is read.
+impl OrderSource for ListedOrders<'_> {
+    ghost use Rattle.std.specs.Prelude.{false};
+
+    ghost failed = { λ _. false };
+
+    ghost refused = { λ _. false };
+
+    fn has_failed(&self) -> bool {
+        false
+    }
+
+    fn has_refused(&self) -> bool {
+        false
+    }
+
+    fn cause(&self) -> Option<ErrorKind> {
+        None
+    }
+}
+
+// The terms of a drive: what a journal may have, and its plan.
+fn terms_of(pace: Pace) -> Terms
+    ensures { result ≡ record { orders = order_limit; bytes = journal_limit; pace = pace } }
+{
+    Terms {
+        orders: MOST_ORDERS,
+        bytes: JOURNAL_LIMIT as usize,
+        pace,
+    }
+}
+
+/// Carries out what the journal of a store still asks for, and then what a source of orders gives, one after another,
+/// over streams that haven't failed: each order is submitted and carried out, and its replies are written to `lines`,
+/// before the next one is asked for. Each reply has its line there, and so has each item that is refused, and the fault
+/// that ends it; the report has a line for each last reply.
 ///
-/// It ends where the lines do: as `Refused` if one was refused, or as `drive_orders` does. If their source fails, it
-/// ends there too, which is reported after all else: 21 File.
+/// It ends where the source does. If that has failed, this is reported after all else: 21 File. Else it ends as
+/// `Refused` if an item was refused, or if the last replies aren't what is required; if that is because there were
+/// none, it says that nothing was done.
 ///
-/// If no journal is opened, nothing is sent, and no line is read; with an older journal, and if it breaks off, it is as
-/// in `drive_orders`.
-pub fn follow_lines<R: Source, I: Source, L: Sink, S: Store, W: Write, N: Write + Drop>(
+/// If no journal is opened, nothing is sent, and nothing is asked of the source: for at most 100000 orders and of at
+/// most 33554432 bytes the fault is 13 TooBig, 7 Header, 3 Record, 4 Sequence, 5 Repeated, 6 Full, 20 Memory or 21
+/// File. A drive breaks off at 1 Journal, 2 Link, 3 Line, 4 End, 6 TooLong or 20 Memory. If `lines` fails, it is 7 Out,
+/// or a first part of the fault's line is written; later calls of it write nothing more.
+///
+/// With an older journal, if there is one, which has to be at rest, an order that it has ended gets its kept reply, or
+/// `reused`, with no frame. If both have an order number in common, nothing is sent: 15 Older.
+pub fn follow_source<G: OrderSource, I: Source, L: Sink, S: Store, W: Write, N: Write + Drop>(
     alloc: Global,
     older: Option<Journal>,
     task: &DriveTask<'_>,
-    orders: &mut OrderLines<R>,
-    desk: &mut StoreDesk<I, L, S, Lines<W>>,
+    orders: &mut G,
+    desk: &mut Bench<I, L, S, W>,
     report: &mut Report<N>,
 ) -> Status
-    requires ready { IsReadyBehind older
-        (bench S.seen S.failed S.may_leave L.held L.failed I.left I.failed W.contents desk.old) }
-    ensures answer { IsLinesBehind R.left R.failed N.contents older task.now.pace task.now.required
-        report.old report.new
-        orders.old orders.new (bench S.seen S.failed S.may_leave L.held L.failed I.left I.failed W.contents desk.old)
-        result (bench S.seen S.failed S.may_leave L.held L.failed I.left I.failed W.contents desk.new)
-        × TellsUnwritten result
-        (bench S.seen S.failed S.may_leave L.held L.failed I.left I.failed W.contents desk.new) }
+    requires ready { IsReadyBehind older (⟦<Bench<I, L, S, W> as Desk>⟧.look desk.old) }
+    ensures answer { let look = ⟦<Bench<I, L, S, W> as Desk>⟧.look in
+        IsSourceBehind G.gave G.over G.failed G.refused N.contents older task.now.pace task.now.required report.old
+        report.new orders.old orders.new (look desk.old) result (look desk.new) }
+    ensures unwritten { TellsUnwritten result (⟦<Bench<I, L, S, W> as Desk>⟧.look desk.new) }
     ensures any_moment { LeavesOnly S.moment S.left_since desk.old.journal desk.new.journal
         (LeavesPart order_limit (S.seen desk.old.journal) (S.seen desk.new.journal)
         (S.may_leave desk.old.journal)) }
@@ -62,17 +116,16 @@ pub fn follow_lines<R: Source, I: Source, L: Sink, S: Store, W: Write, N: Write 
     }
 }
 
-// How a stream ends that was followed to its end, with this outcome.
-fn tell_followed<R: Source, W: Write>(
+// How a command ends that followed a source to its end, with this outcome.
+fn tell_followed<G: OrderSource, W: Write>(
     alloc: Global,
     lines: &mut Lines<W>,
     task: &DriveTask<'_>,
-    orders: &OrderLines<R>,
+    orders: &G,
     outcome: Outcome,
 ) -> Status
     requires { has_failed lines.old.output ≡ false }
-    ensures told { TellsFollowed (R.failed (state_of orders.now).source) (state_of orders.now).has_refused
-        task.now.required outcome result
+    ensures told { TellsFollowed (G.failed orders.now) (G.refused orders.now) task.now.required outcome result
         (held W.contents lines.old.output) (held W.contents lines.new.output) }
     ensures unwritten { result ≡ Status.Unwritten ↔ has_failed lines.new.output ≡ true }
 {

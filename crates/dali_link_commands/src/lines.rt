@@ -4,7 +4,8 @@ ghost use Rattle.std.specs.Io.KnownBytes.{Keeps};
 ghost use Rattle.dali_drive.specs.Streams.{Flushes};
 ghost use Rattle.dali_text.specs.Output.{has_failed, held, is_flushed};
 
-use dali_drive::Sink;
+use dali_drive::{Sink, StdSink, StdSource, StoreDesk};
+use dali_store::FileStore;
 use dali_text::Output;
 use std::io::{ErrorKind, Write};
 
@@ -14,6 +15,12 @@ pub struct Lines<W> {
     /// The output.
     pub output: Output<W>,
 }
+
+/// A desk whose replies are the lines of a command (profile).
+pub type Bench<I, L, S, W> = StoreDesk<I, L, S, Lines<W>>;
+
+/// The same over std's streams and a file.
+pub type StdBench<'s, R, I, L, W> = Bench<StdSource<I>, StdSink<L>, FileStore<'s, R>, W>;
 
 impl<W: Write> Sink for Lines<W> {
     ghost held = { λ lines. held W.contents lines.output };

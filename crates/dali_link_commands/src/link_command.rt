@@ -1,7 +1,7 @@
 // Commands over a link: each by its own function.
 ghost use Rattle.std.specs.Prelude.{◌≡◌, length};
 ghost use Rattle.dali_drive.specs.Desks.{IsUnfailed};
-ghost use Rattle.dali_link_commands.specs.Benches.{TellsUnwritten, std_bench};
+ghost use Rattle.dali_link_commands.specs.Benches.{TellsUnwritten};
 ghost use Rattle.dali_job.specs.LinkOptions.{IsShort};
 ghost use Rattle.dali_link_commands.specs.LinkCommands.{HasStore, IsLinkAnswer, watched_of as watched_by};
 ghost use Rattle.dali_link_commands.specs.ReadAnswers.{asked_addresses};
@@ -9,12 +9,12 @@ ghost use Rattle.dali_link_commands.specs.ReadAnswers.{asked_addresses};
 use crate::address::{address_beside, watched_address};
 use crate::drive_files::drive_files;
 use crate::journal_files::JournalFiles;
-use crate::lines::Lines;
+use crate::lines::StdBench;
 use crate::read::read_bank;
 use crate::report_file::{Others, ReportFile};
 use crate::survey::scan;
 use crate::survey_files::verify_file;
-use dali_drive::{StdSink, StdSource, StoreDesk};
+use dali_drive::Desk;
 use dali_faults::Status;
 use dali_job::{DriveTask, LinkCommand};
 use dali_report::{Progress, Watched};
@@ -59,18 +59,17 @@ pub fn watched_of(command: &LinkCommand<'_>) -> Watched
 /// Carries a command out at a desk whose streams haven't failed, and whose store is its own (`store_of`). Each short
 /// address that it reads or asks has to be at most 63. The progress that is shown follows its orders, and changes
 /// nothing.
-pub fn carry_out<R: Files<File = File> + AllocGlobal + JournalFiles, I: Read, L: Write, O: Write>(
+pub fn carry_out<'s, R: Files<File = File> + AllocGlobal + JournalFiles, I: Read, L: Write, O: Write>(
     rt: &R,
     command: &LinkCommand<'_>,
-    desk: &mut StoreDesk<StdSource<I>, StdSink<L>, FileStore<'_, R>, Lines<O>>,
+    desk: &mut StdBench<'s, R, I, L, O>,
     progress: Option<&Progress>,
 ) -> Status
-    requires ready { IsShort command.now × IsUnfailed (std_bench L.contents I.remaining O.contents desk.old).failed }
+    requires ready { IsShort command.now × IsUnfailed (⟦<StdBench<'s, R, I, L, O> as Desk>⟧.look desk.old).failed }
     requires store { HasStore command.now desk.old.journal }
-    ensures carried_out { IsLinkAnswer (R.has rt.now) command.now
-        (std_bench L.contents I.remaining O.contents desk.old) result
-        (std_bench L.contents I.remaining O.contents desk.new) }
-    ensures unwritten { TellsUnwritten result (std_bench L.contents I.remaining O.contents desk.new) }
+    ensures carried_out { let look = ⟦<StdBench<'s, R, I, L, O> as Desk>⟧.look in
+        IsLinkAnswer (R.has rt.now) command.now (look desk.old) result (look desk.new) }
+    ensures unwritten { TellsUnwritten result (⟦<StdBench<'s, R, I, L, O> as Desk>⟧.look desk.new) }
 {
     match command {
         LinkCommand::Drive(task) => {

@@ -1,5 +1,5 @@
 // Why a command over a link can't go on, and how that is reported.
-ghost use Rattle.std.specs.Prelude.{◌≡◌, ◌≢◌, ◌↔◌, ◌||◌, IfSome, MatchOption, false, not, string_bytes, true};
+ghost use Rattle.std.specs.Prelude.{◌≡◌, ◌≢◌, ◌↔◌, ◌||◌, IfSome, MatchOption, false, is_some, not, string_bytes, true};
 ghost use Rattle.std.specs.Io.KnownBytes.{Appends};
 ghost use Rattle.std.proofs.Props.{props};
 ghost use Rattle.dali_trace.specs.declared.fault.DriveFault.TheVariants.{Out};
@@ -185,6 +185,16 @@ impl Problem {
             Some(words) if put_words(lines, words) => tell_line(lines, self.fault),
             Some(_) => Status::Unwritten,
         }
+    }
+}
+
+/// The failure of this kind.
+pub(crate) fn failure_of(cause: Option<ErrorKind>) -> Option<io::Error>
+    ensures { is_some result ≡ is_some cause }
+{
+    match cause {
+        Some(kind) => Some(io::Error::from(kind)),
+        None => None,
     }
 }
 

@@ -2,16 +2,16 @@ ghost use Rattle.std.specs.Prelude.{◌≡◌, ◌≢◌, ◌↔◌, ◌≤◌, 
 ghost use Rattle.dali_drive.specs.Desks.{IsUnfailed};
 ghost use Rattle.dali_store.specs.Stores.{LeavesOnly};
 ghost use Rattle.dali_text.specs.Output.{has_failed, held};
-ghost use Rattle.dali_link_commands.specs.Benches.{TellsUnwritten, bench};
+ghost use Rattle.dali_link_commands.specs.Benches.{TellsUnwritten};
 ghost use Rattle.dali_link_commands.specs.ReadAnswers.{IsReadAnswer};
 ghost use Rattle.dali_input.specs.declared.fault.InputFault.{InputFault};
 ghost use Rattle.dali_link_commands.specs.OrdersAnswers.{IsUnread};
 ghost use Rattle.dali_link_commands.specs.Told.{IsFaultTold, TellsLine};
 
 use crate::drive_lines::{Causes, tell_fault};
-use crate::lines::Lines;
+use crate::lines::{Bench, Lines};
 use crate::problem::Problem;
-use dali_drive::{Sink, Source, StoreDesk, bytes_line, put_all, read_unit, silent_line};
+use dali_drive::{Desk, Sink, Source, bytes_line, put_all, read_unit, silent_line};
 use dali_faults::{Fault, Status};
 use dali_input::{InputFault, text_of};
 use dali_read::Places;
@@ -29,16 +29,12 @@ pub fn read_bank<I: Source, L: Sink, S: Store, W: Write>(
     alloc: Global,
     unit: u8,
     name: &str,
-    desk: &mut StoreDesk<I, L, S, Lines<W>>,
+    desk: &mut Bench<I, L, S, W>,
 ) -> Status
-    requires ready { (unit ≤ 63) × IsUnfailed
-        (bench S.seen S.failed S.may_leave L.held L.failed I.left I.failed W.contents desk.old).failed }
-    ensures answer { IsReadAnswer unit
-        (LeavesOnly S.moment S.left_since desk.old.journal desk.new.journal)
-        (bench S.seen S.failed S.may_leave L.held L.failed I.left I.failed W.contents desk.old) result
-        (bench S.seen S.failed S.may_leave L.held L.failed I.left I.failed W.contents desk.new)
-        × TellsUnwritten result
-        (bench S.seen S.failed S.may_leave L.held L.failed I.left I.failed W.contents desk.new) }
+    requires ready { (unit ≤ 63) × IsUnfailed (⟦<Bench<I, L, S, W> as Desk>⟧.look desk.old).failed }
+    ensures answer { let look = ⟦<Bench<I, L, S, W> as Desk>⟧.look in
+        IsReadAnswer unit (LeavesOnly S.moment S.left_since desk.old.journal desk.new.journal) (look desk.old) result
+        (look desk.new) × TellsUnwritten result (look desk.new) }
 {
     match read_unit(unit, &Places::Bank, &mut desk.link_in, &mut desk.link_out) {
         Ok(Some(bytes)) => {

@@ -5,17 +5,16 @@ ghost use Rattle.dali_input.specs.Input.{ReadsAtMost, state_of};
 ghost use Rattle.dali_input.specs.Orders.{orders_limit};
 ghost use Rattle.dali_text.specs.Output.{has_failed, held};
 ghost use Rattle.dali_link_commands.specs.Bare.{TellsBare, is_empty as no_orders};
-ghost use Rattle.dali_link_commands.specs.Benches.{TellsUnwritten, bench};
+ghost use Rattle.dali_link_commands.specs.Benches.{TellsUnwritten};
 ghost use Rattle.dali_link_commands.specs.OrdersAnswers.{IsReaderAnswer};
 ghost use Rattle.dali_link_commands.specs.ReadAnswers.{IsScanAnswer, IsVerifyAnswer, asked_addresses};
 
-use crate::drive::failure_of;
 use crate::drive_lines::{Causes, tell_fault, tell_refused};
-use crate::lines::Lines;
-use crate::problem::Problem;
+use crate::lines::{Bench, Lines};
+use crate::problem::{Problem, failure_of};
 use crate::required::tell_bare;
 use dali_bank::Order;
-use dali_drive::{Sink, Sought, Source, StoreDesk, scan_units, verify_orders};
+use dali_drive::{Desk, Sink, Sought, Source, scan_units, verify_orders};
 use dali_faults::Status;
 use dali_input::{Input, ORDERS_LIMIT, read_input, read_orders};
 use dali_report::Report;
@@ -38,17 +37,14 @@ pub fn verify_input<R: Read, I: Source, L: Sink, S: Store, W: Write, N: Write + 
     alloc: Global,
     name: &str,
     input: &mut Input<R>,
-    desk: &mut StoreDesk<I, L, S, Lines<W>>,
+    desk: &mut Bench<I, L, S, W>,
     report: &mut Report<N>,
 ) -> Status
-    requires unfailed { IsUnfailed
-        (bench S.seen S.failed S.may_leave L.held L.failed I.left I.failed W.contents desk.old).failed }
-    ensures verified { IsReaderAnswer (IsVerifyAnswer N.contents report.old report.new) (report.new ≡ report.old)
-        (bench S.seen S.failed S.may_leave L.held L.failed I.left I.failed W.contents desk.old) result
-        (bench S.seen S.failed S.may_leave L.held L.failed I.left I.failed W.contents desk.new)
-        (state_of R.remaining input.old) (state_of R.remaining input.new)
-        × TellsUnwritten result
-        (bench S.seen S.failed S.may_leave L.held L.failed I.left I.failed W.contents desk.new) }
+    requires unfailed { IsUnfailed (⟦<Bench<I, L, S, W> as Desk>⟧.look desk.old).failed }
+    ensures verified { let look = ⟦<Bench<I, L, S, W> as Desk>⟧.look in
+        IsReaderAnswer (IsVerifyAnswer N.contents report.old report.new) (report.new ≡ report.old) (look desk.old)
+        result (look desk.new) (state_of R.remaining input.old) (state_of R.remaining input.new) × TellsUnwritten
+        result (look desk.new) }
     ensures read { ReadsAtMost orders_limit (state_of R.remaining input.old) (state_of R.remaining input.new) }
 {
     let bytes = match read_input(alloc, input, ORDERS_LIMIT) {
@@ -73,16 +69,13 @@ pub fn verify_input<R: Read, I: Source, L: Sink, S: Store, W: Write, N: Write + 
 pub fn verify_units<I: Source, L: Sink, S: Store, W: Write, N: Write + Drop>(
     alloc: Global,
     orders: &[Order],
-    desk: &mut StoreDesk<I, L, S, Lines<W>>,
+    desk: &mut Bench<I, L, S, W>,
     report: &mut Report<N>,
 ) -> Status
-    requires unfailed { IsUnfailed
-        (bench S.seen S.failed S.may_leave L.held L.failed I.left I.failed W.contents desk.old).failed }
-    ensures answer { IsVerifyAnswer N.contents report.old report.new orders.now
-        (bench S.seen S.failed S.may_leave L.held L.failed I.left I.failed W.contents desk.old) result
-        (bench S.seen S.failed S.may_leave L.held L.failed I.left I.failed W.contents desk.new)
-        × TellsUnwritten result
-        (bench S.seen S.failed S.may_leave L.held L.failed I.left I.failed W.contents desk.new) }
+    requires unfailed { IsUnfailed (⟦<Bench<I, L, S, W> as Desk>⟧.look desk.old).failed }
+    ensures answer { let look = ⟦<Bench<I, L, S, W> as Desk>⟧.look in
+        IsVerifyAnswer N.contents report.old report.new orders.now (look desk.old) result (look desk.new) ×
+        TellsUnwritten result (look desk.new) }
 {
     report.expect(orders);
     let ended = verify_orders(
@@ -125,16 +118,13 @@ pub fn scan<I: Source, L: Sink, S: Store, W: Write>(
     alloc: Global,
     addresses: &[u8],
     sought: Sought,
-    desk: &mut StoreDesk<I, L, S, Lines<W>>,
+    desk: &mut Bench<I, L, S, W>,
 ) -> Status
     requires short { AllByRecursion (λ address. address ≤ 63) addresses.now }
-    requires unfailed { IsUnfailed
-        (bench S.seen S.failed S.may_leave L.held L.failed I.left I.failed W.contents desk.old).failed }
-    ensures answer { IsScanAnswer sought (asked_addresses addresses.now)
-        (bench S.seen S.failed S.may_leave L.held L.failed I.left I.failed W.contents desk.old)
-        result (bench S.seen S.failed S.may_leave L.held L.failed I.left I.failed W.contents desk.new)
-        × TellsUnwritten result
-        (bench S.seen S.failed S.may_leave L.held L.failed I.left I.failed W.contents desk.new) }
+    requires unfailed { IsUnfailed (⟦<Bench<I, L, S, W> as Desk>⟧.look desk.old).failed }
+    ensures answer { let look = ⟦<Bench<I, L, S, W> as Desk>⟧.look in
+        IsScanAnswer sought (asked_addresses addresses.now) (look desk.old) result (look desk.new) × TellsUnwritten
+        result (look desk.new) }
 {
     let addresses = asked(addresses);
     match scan_units(

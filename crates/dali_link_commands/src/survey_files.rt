@@ -1,18 +1,17 @@
 ghost use Rattle.std.specs.Prelude.{◌≡◌};
 ghost use Rattle.dali_drive.specs.Desks.{IsUnfailed};
-ghost use Rattle.dali_link_commands.specs.Benches.{TellsUnwritten, std_bench};
+ghost use Rattle.dali_link_commands.specs.Benches.{TellsUnwritten};
 ghost use Rattle.dali_link_commands.specs.OrdersAnswers.{IsFileAnswer};
 ghost use Rattle.dali_link_commands.specs.ReadAnswers.{IsVerifyAnswer};
 
 use crate::drive_files::opened;
-use crate::lines::Lines;
+use crate::lines::StdBench;
 use crate::problem::Problem;
 use crate::survey::verify_input;
-use dali_drive::{StdSink, StdSource, StoreDesk};
+use dali_drive::Desk;
 use dali_faults::Status;
 use dali_input::Input;
 use dali_report::Report;
-use dali_store::FileStore;
 use std::fs::{File, Files};
 use std::io::{Read, Write};
 
@@ -20,6 +19,7 @@ use std::io::{Read, Write};
 ///
 /// No contract tells what a file holds. Whatever this one gave, the orders are those which these bytes spell.
 pub fn verify_file<
+    's,
     R: Files<File = File> + AllocGlobal,
     I: Read,
     L: Write,
@@ -28,14 +28,13 @@ pub fn verify_file<
 >(
     rt: &R,
     name: &str,
-    desk: &mut StoreDesk<StdSource<I>, StdSink<L>, FileStore<'_, R>, Lines<O>>,
+    desk: &mut StdBench<'s, R, I, L, O>,
     report: &mut Report<N>,
 ) -> Status
-    requires unfailed { IsUnfailed (std_bench L.contents I.remaining O.contents desk.old).failed }
-    ensures verified { IsFileAnswer (IsVerifyAnswer N.contents report.old report.new) (report.new ≡ report.old)
-        (std_bench L.contents I.remaining O.contents desk.old) result
-        (std_bench L.contents I.remaining O.contents desk.new)
-        × TellsUnwritten result (std_bench L.contents I.remaining O.contents desk.new) }
+    requires unfailed { IsUnfailed (⟦<StdBench<'s, R, I, L, O> as Desk>⟧.look desk.old).failed }
+    ensures verified { let look = ⟦<StdBench<'s, R, I, L, O> as Desk>⟧.look in
+        IsFileAnswer (IsVerifyAnswer N.contents report.old report.new) (report.new ≡ report.old) (look desk.old)
+        result (look desk.new) × TellsUnwritten result (look desk.new) }
 {
     match opened(rt, name) {
         Ok((file, _found)) => {

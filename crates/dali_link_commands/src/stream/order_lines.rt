@@ -1,9 +1,10 @@
-ghost use Rattle.std.specs.Prelude.{◌≡◌, ◌+◌, ◌<◌, ◌⊎◌, ◌^◌, ◌-◌, ◌||◌, ◌∷◌, List, ℕ, IfSome, IfNone, false, true};
+ghost use Rattle.std.specs.Prelude.{◌≡◌, ◌+◌, ◌<◌, ◌⊎◌, ◌^◌, ◌-◌, ◌||◌, ◌∷◌, List, ℕ, IfNone, false, true};
 ghost use Rattle.dali_drive.specs.declared.following.Given.{Given};
 ghost use Rattle.dali_drive.specs.Followed.{with_next};
 ghost use Rattle.dali_link_commands.specs.LineBuffers.{Holds};
 ghost use Rattle.dali_link_commands.specs.LinesGave.{Gave, IsOver, LineGives, ready_line as line_when_ready, refuses};
 
+use crate::follow::OrderSource;
 use crate::stream::fault::item_line;
 use crate::stream::judging::judge_line;
 use crate::stream::line_buffer::LineBuffer;
@@ -60,27 +61,6 @@ impl<R: Source> OrderLines<R> {
             is_over: false,
             buffer: LineBuffer::new(),
         }
-    }
-
-    /// Whether a line was refused.
-    pub fn has_refused(&self) -> bool
-        ensures { result ≡ (state_of self.now).has_refused }
-    {
-        self.has_refused
-    }
-
-    /// Whether the source has failed.
-    pub fn has_failed(&self) -> bool
-        ensures { result ≡ R.failed (state_of self.now).source }
-    {
-        self.source.has_failed()
-    }
-
-    /// The kind of the source's failure, if there was one and its kind is known.
-    pub fn cause(&self) -> Option<ErrorKind>
-        ensures { IfSome result (λ kind. R.failed (state_of self.now).source ≡ true) }
-    {
-        self.source.cause()
     }
 
     // Tells that lines are read from here on.
@@ -171,6 +151,26 @@ impl<R: Source> Orders for OrderLines<R> {
     }
 
     ghost gave_none = { gave_none R.left R.failed };
+}
+
+impl<R: Source> OrderSource for OrderLines<R> {
+    ghost use Rattle.dali_link_commands.specs.LinesGave.{state_of};
+
+    ghost failed = { λ lines. R.failed (state_of lines).source };
+
+    ghost refused = { λ lines. (state_of lines).has_refused };
+
+    fn has_failed(&self) -> bool {
+        self.source.has_failed()
+    }
+
+    fn has_refused(&self) -> bool {
+        self.has_refused
+    }
+
+    fn cause(&self) -> Option<ErrorKind> {
+        self.source.cause()
+    }
 }
 
 // The line that tells that lines are read from here on.

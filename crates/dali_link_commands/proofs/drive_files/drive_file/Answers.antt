@@ -9,10 +9,10 @@ pub returns-then-task-clause-driven : goal.returns-then-task-clause-driven
 returns-then-task-clause-driven g c = rw c.if-task.true (
     inl (
       c.new-orders.result,
-      c.follow_lines.new.orders,
+      c.follow_source.new.orders,
       new_are_unread source_failed c.new.result c.args.task.now.moment c.new-orders.result c.new-orders.ensures
           c.new.ensures.failed,
-      c.follow_lines.ensures.answer.0,
+      c.follow_source.ensures.answer,
     )
     )
 

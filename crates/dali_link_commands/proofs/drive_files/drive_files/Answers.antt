@@ -1,9 +1,8 @@
 use Rattle.std.proofs.Common.{rules, inl, inr, refl}
 use Rattle.dali_drive.specs.Desks.{Look}
-use Rattle.dali_link_commands.specs.Benches.{std_bench}
 use Rattle.dali_link_commands.specs.LinkCommands.{Drives}
 use Rattle.dali_link_commands.proofs.BehindLemmas.{some_held}
-use Rattle.dali_link_commands.proofs.ReadLemmas.{kept_orders}
+use Rattle.dali_link_commands.proofs.ReadLemmas.{kept_orders, std_look}
 use Rattle.dali_link_commands.proofs.DriveLemmas.{drives_unopened}
 use Rattle.dali_link_commands.proofs.drive_files.drive_files.Goals as goal
 
@@ -14,7 +13,7 @@ returns-in-Ok-opened-clause-driven g c = inl (
   kept_orders g.L.Write.contents g.I.Read.remaining g.O.Write.contents c.args.desk.now c.set_orders.new.self
       (λ (first : Look). Drives c.args.task.now.follow c.args.task.now g.N.Write.contents c.in-Ok.older
       c.args.report.now c.drive_file.new.report first c.drive_file.result
-      (std_bench g.L.Write.contents g.I.Read.remaining g.O.Write.contents c.drive_file.new.desk))
+      (std_look g.L.Write.contents g.I.Read.remaining g.O.Write.contents c.drive_file.new.desk))
       c.set_orders.ensures.failed c.drive_file.ensures.driven,
 )
 

@@ -1,6 +1,5 @@
 use Rattle.std.proofs.Common.{is_none, is_some}
 use Rattle.dali_text.specs.Output.{has_failed, held}
-use Rattle.dali_link_commands.specs.Benches.{std_bench}
 use Rattle.dali_link_commands.proofs.ReadLemmas.{nothing_known}
 use Rattle.dali_link_commands.proofs.ReportLemmas.{reported}
 use Rattle.dali_link_commands.proofs.link_command.carry_out.Goals as goal
@@ -8,8 +7,7 @@ use Rattle.dali_link_commands.proofs.link_command.carry_out.Goals as goal
 pub returns-in-Drive-clause-carried_out : goal.returns-in-Drive-clause-carried_out
 returns-in-Drive-clause-carried_out g c = rw c.in-Drive.is
     (reported (is_some c.in-Drive.task.report) (is_none c.open-file.result.unopened) _ _
-    (std_bench g.L.Write.contents g.I.Read.remaining g.O.Write.contents
-    (record c.drive_files-ended.new.desk { out = c.end.new.lines })) c.open-file.result.report
+    _ c.open-file.result.report
     c.drive_files-ended.new.report c.drive_files-ended.result c.end.result
     (held g.O.Write.contents c.drive_files-ended.new.desk.out.output)
     (has_failed c.drive_files-ended.new.desk.out.output)
@@ -18,8 +16,7 @@ returns-in-Drive-clause-carried_out g c = rw c.in-Drive.is
 pub returns-in-Verify-clause-carried_out : goal.returns-in-Verify-clause-carried_out
 returns-in-Verify-clause-carried_out g c = rw c.in-Verify.is
     (reported (is_some c.in-Verify.report) (is_none c.open-file-in-Verify.result.unopened) _ _
-    (std_bench g.L.Write.contents g.I.Read.remaining g.O.Write.contents
-    (record c.verify_file-ended.new.desk { out = c.end-in-Verify.new.lines })) c.open-file-in-Verify.result.report
+    _ c.open-file-in-Verify.result.report
     c.verify_file-ended.new.report
     c.verify_file-ended.result c.end-in-Verify.result (held g.O.Write.contents c.verify_file-ended.new.desk.out.output)
     (has_failed c.verify_file-ended.new.desk.out.output) c.open-file-in-Verify.ensures.unfailed

@@ -2,7 +2,10 @@
 
 import itertools
 import json
+import pathlib
 
+TABLE = pathlib.Path(__file__).resolve().parent.parent / "tools" / "fields.json"
+FIELDS = json.loads(TABLE.read_text(encoding="utf-8"))
 # Of each fifty orders one has a null, one has escapes and one is refused.
 # Even places hold full orders, odd places hold orders with a GTIN only.
 PERIOD = 50
@@ -43,25 +46,20 @@ def short_order(index):
     return {"order": index, "unit": index % 64, "gtin": gtin_of(index)}
 
 
+def value_of(field, index):
+    """Give a value of a field that has a range: of a text three quarters of the longest, at most."""
+    if field["form"] == "text":
+        return f"Downlight {index} round, 200 mm, aluminium, IP44"[:field["most"] * 3 // 4]
+    return field["least"] + index * 7919 % (field["most"] - field["least"] + 1)
+
+
 def full_order(index):
-    """Give an order that has all fourteen fields."""
-    minimum_voltage = 100 + index % 120
+    """Give an order that has all fields."""
     order = short_order(index)
-    order.update(
-        identification=format(index * 0x9E3779B97F4A7C15 % 2**64, "016x"),
-        year=index % 100,
-        week=1 + index % 53,
-        input_power=index * 31 % 65535,
-        min_dim_power=index * 17 % 65535,
-        min_voltage=minimum_voltage,
-        max_voltage=minimum_voltage + index % 150,
-        light_output=index * 7919 % 16777215,
-        cri=index % 101,
-        cct=index * 13 % 65534,
-        distribution=index % 255,
-        colour=f"RAL {1000 + index % 9000} white",
-        luminaire=f"Downlight {index} round, 200 mm, aluminium, IP44",
-    )
+    order["identification"] = format(index * 0x9E3779B97F4A7C15 % 2**64, "016x")
+    order.update((it["key"], value_of(it, index)) for it in FIELDS if it["least"] is not None)
+    order["min_voltage"] = 100 + index % 120
+    order["max_voltage"] = order["min_voltage"] + index % 150
     return order
 
 

@@ -26,6 +26,7 @@ from typing import NamedTuple
 
 import pictures
 from measuring import REPOSITORY, Wrong, argument_parser, judged
+from orders import FIELDS
 
 PLANS = ("checked", "short")
 CHANCES = (0, 0.01, 0.02, 0.05, 0.1)
@@ -36,16 +37,12 @@ STEPS = 14000
 YEAR = {"year": 24}
 GTIN = {"gtin": "4006381333931"}
 IDENTIFIED = {**GTIN, "identification": "0011223344556677"}
+BYTES = {it["key"]: it["bytes"] for it in FIELDS}
 # Orders by the number of their updates.
-BY_UPDATES = {
-    1: YEAR,
-    6: GTIN,
-    14: IDENTIFIED,
-    30: {**GTIN, "colour": "A"},
-    60: {"luminaire": "B"},
-    84: {"colour": "A", "luminaire": "B"},
-    98: {**IDENTIFIED, "colour": "A", "luminaire": "B"},
-}
+BY_UPDATES = {sum(BYTES[key] for key in order): order for order in (
+    YEAR, GTIN, IDENTIFIED, {**GTIN, "colour": "A"}, {"luminaire": "B"}, {"colour": "A", "luminaire": "B"},
+    {**IDENTIFIED, "colour": "A", "luminaire": "B"},
+)}
 # The frames of each order with nothing lost, by the checked and by the short plan, and its bytes.
 PROVED = {"year": (56, 44, 1), "GTIN": (112, 49, 6), "GTIN, identification": (224, 81, 14),
           "all fields": (1652, 536, 115)}
@@ -53,8 +50,7 @@ PROVED = {"year": (56, 44, 1), "GTIN": (112, 49, 6), "GTIN, identification": (22
 
 def orders():
     """Give the orders by their names."""
-    events = json.loads((REPOSITORY / "examples" / "run_full.json").read_text(encoding="utf-8"))["events"]
-    full = next(event["submit"] for event in events if "submit" in event)
+    full = json.loads((REPOSITORY / "examples" / "full.json").read_text(encoding="utf-8"))[0]
     return dict(zip(PROVED, (YEAR, GTIN, IDENTIFIED, full)))
 
 

@@ -9,6 +9,8 @@ A file COMMAND.cases has cases with a blank line between them, each of lines of 
     answers: FF -- 01   the same, several lines in one
     bytes: 44 42        the same, of bytes in hexadecimal digits
     out: LINE           of standard output
+    has: LINE           the same, where other lines may stand between
+    file: PATH          a file that standard output has to be
     frames: A301 C300   the same, several lines in one
     err: LINE           of standard error, which isn't looked at if there is no such line
     each: GIVEN | OUT   a case by itself: with GIVEN in the place of EACH in its words, or as the line of standard input
@@ -22,19 +24,29 @@ ROOT = pathlib.Path(__file__).resolve().parent.parent
 
 
 class Case:
-    """A case: its words and what belongs to them, as bytes; `error` is None where standard error isn't looked at."""
+    """A case: its words and what belongs to them, as bytes; `error` is None where standard error isn't looked at.
+
+    `is_whole` tells whether standard output has the lines of `wanted` alone.
+    """
 
     def __init__(self, rows):
         self.name = text_of(rows, "case")[0]
         self.words = shlex.split(text_of(rows, "run")[0])
         self.status = int((text_of(rows, "status") or ["0"])[0])
         self.given = lines_of(rows, "in", "answers") + bytes.fromhex("".join(text_of(rows, "bytes")))
-        self.wanted = lines_of(rows, "out", "frames")
+        self.is_whole = not text_of(rows, "has")
+        self.wanted = lines_of(rows, "out", "frames") + lines_of(rows, "has")
+        self.wanted += b"".join((ROOT / path).read_bytes() for path in text_of(rows, "file"))
         self.error = lines_of(rows, "err") if text_of(rows, "err") else None
 
     def words_in(self, room):
         """Give the words, with a folder for ROOM."""
         return [word.replace("ROOM", str(room)) for word in self.words]
+
+    def is_wanted(self, output):
+        """Tell whether standard output is as it has to be."""
+        lines = iter(output.splitlines())
+        return output == self.wanted if self.is_whole else all(line in lines for line in self.wanted.splitlines())
 
 
 def text_of(rows, word):

@@ -66,7 +66,7 @@ def order(rng, units=(5, 6)):
     keys = ["gtin", "identification", *RANGES, *TEXTS]
     number = rng.choice([0, 1, 2, 3, TOP, rng.randint(0, TOP)])
     made = {"order": number, "unit": rng.choice([*units, *units, 9, 63, 64])}
-    for key in rng.sample(keys, rng.choice([0, 1, 1, 1, 2, 3, 14])):
+    for key in rng.sample(keys, rng.choice([0, 1, 1, 1, 2, 3, len(keys)])):
         made[key] = field(rng, key)
     if rng.random() < 0.05:
         made[rng.choice(["order", "unit", "weight", "Gtin"])] = rng.choice(ODD_VALUES)

@@ -70,15 +70,16 @@ class OrdersTest(BenchTest):
 
     def test_how_far_an_order_is(self):
         bench = Bench(self.folder)
-        bench.does("add", "-", given=b'[{"unit":5,"luminaire":"' + b"x" * 60 + b'"}]')
+        order = b'[{"unit":5,"gtin":"96385074","identification":"0011223344556677","colour":"RAL 9016"}]'
+        bench.does("add", "-", given=order)
         process = bench.start(adapter=[ADAPTER, "--frame-time", "15", "--folder", "bus1"])
         said = []
         wait_for(lambda: said.append(bench.rows("select frames from bench_states")[0][0])
                  or bench.states()[1] == "ended")
         self.assertEqual(stop(process), 0)
         said = [it for it in said if it is not None]
-        assert said and said == sorted(said) and 0 < said[0] < 298 and len(set(said)) > 1, said
-        self.assertEqual(bench.rows("select frames, expected from bench_orders"), [(298, 298)])
+        assert said and said == sorted(said) and 0 < said[0] < 198 and len(set(said)) > 1, said
+        self.assertEqual(bench.rows("select frames, expected from bench_orders"), [(198, 198)])
 
     def test_an_order_that_was_sent_is_not_cancelled(self):
         bench = Bench(self.folder)

@@ -12,6 +12,15 @@ from driven import FIELDS, groups_of, simulated_link
 from read_desk import Changing, Reading, WithBank0, bus_of, full_orders, unit_of
 from read_plan import bytes_of, compared
 
+# The bytes of the longest text, and its last location.
+LENGTH, LAST = next((it["bytes"], it["first"] + it["bytes"] - 1) for it in FIELDS if it["key"] == "luminaire")
+
+
+def frames_of_row(count):
+    """Give the frames of this many neighbours: six for each block of at most sixteen, and one for each location."""
+    return 6 * ((count + 15) // 16) + count
+
+
 # Orders for unit 5, and how many frames their locations take, each row of neighbours its own blocks, besides those of
 # the last location and of the format.
 ROWS = [
@@ -24,8 +33,8 @@ ROWS = [
     ({"year": 24, "input_power": 40, "cri": 80}, 7 + 8 + 7),
     ({"distribution": 1, "colour": "RAL 9016"}, 22 + 15),
     ({"cct": 4000, "distribution": 1}, 9),
-    ({"luminaire": "Panel"}, 3 * 22 + 18),
-    ({"colour": "RAL 9016", "luminaire": "Panel"}, 5 * 22 + 10),
+    ({"luminaire": "Panel"}, frames_of_row(LENGTH)),
+    ({"colour": "RAL 9016", "luminaire": "Panel"}, frames_of_row(24 + LENGTH)),
     ({"min_voltage": None, "gtin": None}, 12 + 8),
 ]
 FULL = full_orders()
@@ -130,7 +139,7 @@ class VerifyTest(BenchTest):
 
     def test_short_banks(self):
         for fields, greatest in [({"year": 24}, 0x13), ({"week": 5}, 0x14), ({"cct": 4000}, 0x22),
-                                 ({"luminaire": "A"}, 0x77)]:
+                                 ({"luminaire": "A"}, LAST)]:
             order = order_of(**fields)
             verify(self.folder, [order], bus_of(simulated_link.Unit(5, bank_of(greatest))), ["order 1 unit 5 short"], 7)
             for length in (greatest + 1, min(greatest + 2, 0x78)):
@@ -210,7 +219,7 @@ class FieldsTest(BenchTest):
             ({0x2C: b"\\"}, [("colour", "text RAL 9016\\")]),
             ({0x24: bytes(24)}, [("colour", "raw " + "00" * 24)]),
             ({0x3C: b"p"}, [("luminaire", 'text panel "A\\B"')]),
-            ({0x77: b"\x01"}, [("luminaire", "raw " + b'Panel "A\\B"'.hex().upper() + "00" * 48 + "01")]),
+            ({LAST: b"\x01"}, [("luminaire", "raw " + b'Panel "A\\B"'.hex().upper() + "00" * (LENGTH - 12) + "01")]),
             # Bytes that the order doesn't write don't matter.
             ({0x17: bytes(9), 0x21: bytes(3)}, []),
         ]
@@ -331,5 +340,5 @@ class BehindDriveTest(BenchTest):
         self.assertEqual({location: held[location] for location in bytes_of(FULL[0])}, bytes_of(FULL[0]))
         shown = subprocess.run([reading.program, "show", reading.bank], capture_output=True,
                                text=True).stdout.splitlines()
-        for line in ("gtin 04006381333931", "year 24", "week 53", "input_power 40", "luminaire text " + 60 * "B"):
+        for line in ("gtin 04006381333931", "year 24", "week 53", "input_power 40", f"luminaire text {FULL[0]['luminaire']}"):
             assert line in shown, shown

@@ -19,7 +19,7 @@ sys.dont_write_bytecode = True
 
 import beside  # noqa: E402
 from base import BenchTest, settings  # noqa: E402
-from driven import ROOT  # noqa: E402
+from driven import FIELDS, ROOT  # noqa: E402
 
 CHECK = ("check", "examples/gtin.json")
 UNWRITTEN = "error: the output can't be written"
@@ -127,7 +127,7 @@ class AfterRunsTest(BenchTest):
         events = [{"submit": {"order": 1, "unit": 5, "luminaire": "B"}}, {"steps": 2000}]
         bank = self.bank_of_run(5, "\n".join([*simulated(events), ""])).stdout
         lines = run("show", "-", input=bank).stdout.splitlines()
-        self.assertEqual(sum(line.endswith(" unknown") for line in lines), 13)
+        self.assertEqual(sum(line.endswith(" unknown") for line in lines), len(FIELDS) - 1)
         self.assertEqual({"luminaire text B", "format 0003"} - set(lines), set())
 
     def test_a_unit_that_is_not_there(self):

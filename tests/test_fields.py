@@ -1,6 +1,6 @@
 #!/usr/bin/env python3
-"""Test the table of fields: that the program prints tools/fields.json, that docs/FIELDS.md says the same, and that the
-JSON Schema which is made of it refuses only what `check` refuses.
+"""Test the table of fields: that the program prints tools/fields.json, that docs/FIELDS.md says the same, how each
+field is written and shown, and that the JSON Schema which is made of the table refuses only what `check` refuses.
 
     test_fields.py [PROGRAM [FOLDER]]
 
@@ -21,11 +21,19 @@ sys.dont_write_bytecode = True
 import beside  # noqa: E402
 import fuzz_inputs  # noqa: E402
 from base import BenchTest, settings  # noqa: E402
-from driven import FIELDS, ROOT  # noqa: E402
+from cases import case_of  # noqa: E402
+from driven import FIELDS, ROOT, simulated_link  # noqa: E402
+from read_plan import bytes_of  # noqa: E402
 
 TABLE = ROOT / "tools" / "fields.json"
-SCHEMA = ROOT / "examples" / "orders.schema.json"
 ORDERS = 1000
+# The order of all fields, and its bytes by location, which the case `full` has, each written there by hand.
+FULL = json.loads((ROOT / "examples" / "full.json").read_text(encoding="utf-8"))[0]
+FULL_BYTES = {int(location, 16): int(byte, 16) for location, byte in
+              re.findall("^([0-9A-F]{2}) ([0-9A-F]{2})$", case_of("full").wanted.decode(), re.MULTILINE)}
+# The rows of `show` that are no fields: where each begins, its bytes, and its word; and how a value of each form is shown.
+OWN_ROWS = [(0x00, 1, "last"), (0x01, 1, "indicator"), (0x02, 1, "lock"), (0x11, 2, "format")]
+SHOWN = {"gtin": "{:0>14}", "identification": "{}", "number": "{}", "text": "text {}"}
 # A row of the table of docs/FIELDS.md: a field, what it tells, where it begins, its bytes, and what it takes.
 ROW = re.compile(r"\| `(\w+)` \| ([^|]+) \| ([0-9A-F]{2})h \| (\d+) \| ([^|]+) \|")
 TAKEN = {"gtin": "the digits of a GTIN", "identification": "16 hexadecimal digits", "number": "{} to {}",
@@ -40,15 +48,19 @@ def run(words, given=b""):
     return subprocess.run([settings["program"], *words], input=given, capture_output=True, timeout=60)
 
 
+def schema():
+    """Give the schema that the script prints."""
+    return json.loads(subprocess.check_output([ROOT / "scripts" / "orders_schema"], timeout=60))
+
+
 def validator():
     """Make what judges by the schema."""
     if importlib.util.find_spec("jsonschema") is None:
         raise unittest.SkipTest("jsonschema isn't installed (Debian: python3-jsonschema)")
     import jsonschema
 
-    schema = json.loads(SCHEMA.read_text(encoding="utf-8"))
-    jsonschema.Draft202012Validator.check_schema(schema)
-    return jsonschema.Draft202012Validator(schema)
+    jsonschema.Draft202012Validator.check_schema(schema())
+    return jsonschema.Draft202012Validator(schema())
 
 
 def order_text(rng):
@@ -112,12 +124,71 @@ class FieldsTest(BenchTest):
                 self.assertEqual((it["key"], value, ended.returncode), (it["key"], value, 0 if is_taken else 1))
 
 
+def full_bank():
+    """Give the bank of a unit, blank before, that has the order of all fields."""
+    return bytes(FULL_BYTES.get(at, byte) for at, byte in enumerate(simulated_link.BLANK_BANK_1))
+
+
+def shown(bank):
+    """Give the lines of `show` on the bytes of a bank."""
+    ended = run(["show", "-"], f"{bank.hex()}\n".encode())
+    assert (ended.returncode, ended.stderr) == (0, b""), ended
+    return ended.stdout.decode().splitlines()
+
+
+def bytes_of_no_value(field):
+    """Give bytes of a field that spell none of its values, and aren't unknown."""
+    if field["form"] == "text":
+        return [it.ljust(field["bytes"], b"\0") for it in (b"", b"\0x", b"x\0x", b"x\x1f", b"x\x7f")]
+    numbers = {"gtin": [1], "identification": [], "number": [(field["least"] or 0) - 1, (field["most"] or 0) + 1]}
+    return [it.to_bytes(field["bytes"], "big") for it in numbers[field["form"]] if 0 <= it < 256 ** field["bytes"] - 1]
+
+
+class FullTest(BenchTest):
+    """An order of all fields, and a bank that has it."""
+
+    def test_it_has_all_fields(self):
+        self.assertEqual(list(FULL), ["order", "unit", *(it["key"] for it in FIELDS)])
+
+    def test_encoder_of_the_tests_gives_its_bytes(self):
+        self.assertEqual(bytes_of(FULL), FULL_BYTES)
+
+    def test_run_writes_it(self):
+        scenario = {"limit": 1, "units": [{"address": 5}], "events": [{"submit": FULL}, {"steps": 2000}]}
+        ended = run(["run", "-"], json.dumps(scenario).encode())
+        count = len(FULL_BYTES)
+        # The frames of an order over the format: 21 look, and 14 for each byte and 21 follow (docs/SESSIONS.md).
+        self.assertEqual(ended.stdout.decode().splitlines()[:10], [
+            "ask 1", "reply 1 taken", f"keep B order 1 unit 5 at 0 bytes {count}", "frames 21", "keep O unit 5",
+            f"frames {14 * count + 21}", "keep E 0 Done", "reply 1 kept 0 Done", f"total {14 * count + 42}",
+            f"journal {4 + 23 + 2 * count}"])
+        bank = subprocess.run([ROOT / "scripts" / "bank_of_run", "5"], input=ended.stdout, stdout=subprocess.PIPE,
+                              check=True, timeout=60).stdout
+        self.assertEqual(bytes.fromhex(bank.decode()), full_bank())
+
+    def test_show_tells_it(self):
+        """Of each number of its bytes: a row that they end before is absent."""
+        bank = full_bank()
+        rows = [(at, size, word, bank[at:at + size].hex().upper()) for at, size, word in OWN_ROWS]
+        rows += [(it["first"], it["bytes"], it["key"], SHOWN[it["form"]].format(FULL[it["key"]])) for it in FIELDS]
+        for length in range(len(bank) + 1):
+            wanted = [f"{word} {text if at + size <= length else 'absent'}" for at, size, word, text in sorted(rows)]
+            self.assertEqual((length, shown(bank[:length])), (length, wanted))
+
+    def test_show_tells_bytes_of_no_value(self):
+        for it in FIELDS:
+            for held in bytes_of_no_value(it):
+                bank = bytearray(full_bank())
+                bank[it["first"]:it["first"] + it["bytes"]] = held
+                line = f"{it['key']} raw {held.hex().upper()}"
+                self.assertEqual(set(shown(bank)) - set(shown(full_bank())), {line})
+
+
 class SchemaTest(BenchTest):
     """The JSON Schema of a file of orders."""
 
-    def test_schema_is_made_of_the_table(self):
-        made = subprocess.run([ROOT / "scripts" / "orders_schema"], capture_output=True, check=True, timeout=60)
-        self.assertEqual(made.stdout, SCHEMA.read_bytes())
+    def test_schema_has_each_key(self):
+        self.assertEqual(list(schema()["items"]["properties"]), list(FULL))
 
     def test_schema_takes_the_examples(self):
         judge, taken = validator(), []

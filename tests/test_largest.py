@@ -62,7 +62,7 @@ def gtin_order(number, unit):
 
 
 def largest_order(number):
-    """Give an order of all fourteen fields, with the longest texts: 115 updates."""
+    """Give an order of all fields, with the longest texts: 115 updates."""
     most = {it["key"]: it["most"] if it["form"] == "number" else it["key"][0] * it["most"]
             for it in FIELDS if it["most"]}
     return {**gtin_order(number, 5), "identification": "0123456789abcdef", **most}

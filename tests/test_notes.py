@@ -12,6 +12,10 @@ import subprocess
 import sys
 import tempfile
 
+sys.dont_write_bytecode = True
+
+from driven import FIELDS  # noqa: E402
+
 WHOLE = "a whole number from 0 to 18446744073709551615"
 SHORT = "a whole number from 0 to 63"
 GTIN = "a string of 8, 12, 13 or 14 digits, the last its check digit, or null"
@@ -20,11 +24,14 @@ WATTS = "a whole number of watts from 0 to 65534, or null"
 VOLTS = "a whole number of volts from 0 to 65534, or null"
 COLOUR = "a string of 1 to 24 characters, each from space to ~ in ASCII, or null"
 LUMENS = "a whole number of lumens from 0 to 16777214, or null"
-LUMINAIRE = "a string of 1 to 60 characters, each from space to ~ in ASCII, or null"
+MOST = next(it["most"] for it in FIELDS if it["key"] == "luminaire")
+LUMINAIRE = f"a string of 1 to {MOST} characters, each from space to ~ in ASCII, or null"
+# The words before the range of a number, by its unit.
+UNITS = {None: "", "W": " of watts", "V": " of volts", "lm": " of lumens", "K": " of kelvins"}
 MISSING = "No such file or directory (os error 2)"
 LEFT_OUT = "more is left out: these are the first 1000 lines"
 # An item whose line on standard error is long.
-LONG = '{"order": 1, "unit": 5, "luminaire": "' + 61 * "x" + '"}'
+LONG = '{"order": 1, "unit": 5, "luminaire": "' + (MOST + 1) * "x" + '"}'
 JSON = "here the input is no JSON any more, or nests too deep"
 COMMENT = "here a comment begins, and JSON has none"
 COMMA = "the comma before this bracket is one too many"
@@ -136,15 +143,15 @@ ITEMS = [
         f'colour: the text "{30 * "x"}", and it is {COLOUR}; it has 30 characters, 6 too many',
     ]),
     ('"colour": 9016', [f"colour: the number 9016, and it is {COLOUR}"]),
-    ('"luminaire": "' + 61 * "x" + '"', [
-        f'luminaire: the text "{40 * "x"}...", and it is {LUMINAIRE}; it has 61 characters, 1 too many',
+    ('"luminaire": "' + (MOST + 1) * "x" + '"', [
+        f'luminaire: the text "{40 * "x"}...", and it is {LUMINAIRE}; it has {MOST + 1} characters, 1 too many',
     ]),
     ('"luminaire": "a\\u0000b"', [
         f'luminaire: the text "a\\u{{0}}b", and it is {LUMINAIRE}; its character 2 is "\\u{{0}}"',
     ]),
-    ('"luminaire": "' + 40 * "x" + 30 * "\u00fc" + '"', [
+    ('"luminaire": "' + 40 * "x" + (MOST - 30) * "\u00fc" + '"', [
         f'luminaire: the text "{40 * "x"}...", and it is {LUMINAIRE};'
-        ' its character 41 is "\\u{fc}"; it has 70 characters, 10 too many',
+        f' its character 41 is "\\u{{fc}}"; it has {MOST + 10} characters, 10 too many',
     ]),
     ('"year": 100, "week": 54, "yaer": 1', [
         "yaer: no such key (year?)",
@@ -388,10 +395,23 @@ def run(program, command, given, stderr=subprocess.PIPE):
     return subprocess.run(words, input=given, stdout=subprocess.PIPE, stderr=stderr, timeout=60)
 
 
+def above(field):
+    """Give an item with a value one above a field's range, and its line."""
+    key, least, most = field["key"], field["least"], field["most"]
+    if field["form"] == "number":
+        wanted = f"a whole number{UNITS[field['unit']]} from {least} to {most}, or null"
+        return f'"{key}": {most + 1}', [f"{key}: the number {most + 1}, and it is {wanted}"]
+    text = (most + 1) * "x"
+    told = text if most < 40 else text[:40] + "..."
+    wanted = f"a string of {least} to {most} characters, each from space to ~ in ASCII, or null"
+    line = f'{key}: the text "{told}", and it is {wanted}; it has {most + 1} characters, 1 too many'
+    return f'"{key}": "{text}"', [line]
+
+
 def fails_on_lines(program):
     """Give what is wrong with the lines of each mistake, and how many mistakes there are."""
     rows = [*INPUTS]
-    for item, lines in (*ITEMS, *ODD_ITEMS):
+    for item, lines in (*ITEMS, *(above(it) for it in FIELDS if it["most"]), *ODD_ITEMS):
         given = f'[{{"order": 6, "unit": 5, {item}}}]'.encode()
         rows.append(("check", given, [f"item 1 order 6: {it}" for it in lines]))
     for command, given, lines in rows:

@@ -20,7 +20,7 @@ sys.dont_write_bytecode = True
 import beside  # noqa: E402
 from base import BenchTest, settings, want  # noqa: E402
 from cases import case_of  # noqa: E402
-from driven import ROOT  # noqa: E402
+from driven import FIELDS, ROOT  # noqa: E402
 
 TOOL = ROOT / "tools" / "orders_from_csv"
 MARK = b"\xef\xbb\xbf"
@@ -281,15 +281,13 @@ class CheckTest(BenchTest):
             self.assertEqual((ended.returncode, ended.stdout), (0, case_of("full").wanted))
 
     def test_check_takes_each_key(self):
-        """The sixteen keys are those of the program, each of its kind, and fourteen may be unknown."""
-        values = {"gtin": "4006381333931", "identification": "0011223344556677", "colour": "24", "luminaire": "24"}
-        order = json.loads((ROOT / "examples" / "full.json").read_text())[0]
-        self.assertEqual(len(order), 16)
-        for key in [key for key in order if key not in ("order", "unit")]:
-            for value in (values.get(key, "24"), "null"):
-                ended = checked(f"order,unit,{key}\n1,5,{value}\n".encode())
-                self.assertEqual((key, ended.returncode, ended.stdout.splitlines()[-1]),
-                                 (key, 0, b"accepted 1 refused 0"))
+        """The keys of the fields are those of the program, each of its kind, and each may be unknown."""
+        values = {"gtin": "4006381333931", "identification": "0011223344556677", "text": "24"}
+        for it in FIELDS:
+            for value in (values.get(it["form"], it["most"]), "null"):
+                ended = checked(f"order,unit,{it['key']}\n1,5,{value}\n".encode())
+                self.assertEqual((it["key"], ended.returncode, ended.stdout.splitlines()[-1]),
+                                 (it["key"], 0, b"accepted 1 refused 0"))
 
     def test_check_judges_values(self):
         table = (b"order;unit;gtin;year\r\n1;5;04006381333931;\r\n2;64;;24\r\n3;5;4006381333932;24\r\n4;5;;100\r\n"

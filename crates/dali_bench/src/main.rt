@@ -330,6 +330,7 @@ fn carried_out(rt: &HostRuntime, command: &LinkCommand<'_>, progress: Option<&Pr
                 link_in: StdSource::new(rt.stdin()),
                 link_out: StdSink::new(Counted::new(rt.stdout(), progress)),
                 journal: store_of(rt, command),
+                older: None,
                 out: Lines {
                     output: Output::new(lines),
                 },

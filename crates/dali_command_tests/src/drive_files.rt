@@ -110,6 +110,7 @@ fn is_driven<'a, R: Files<File = File> + AllocGlobal + JournalFiles>(
         link_in: StdSource::new(drive.answers.as_bytes()),
         link_out: StdSink::new(&mut sent),
         journal: FileStore::journal(rt, drive.journal),
+        older: None,
         out: Lines {
             output: Output::new(&mut told),
         },

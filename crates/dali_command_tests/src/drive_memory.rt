@@ -45,13 +45,14 @@ fn is_driven(alloc: Global) -> bool {
         link_in: StdSource::new(SILENCE.as_bytes()),
         link_out: StdSink::new(&mut sent),
         journal: MemoryStore::new(alloc, Vec::new(alloc)),
+        older: None,
         out: Lines {
             output: Output::new(&mut told),
         },
     };
     let mut report = Report::new(alloc, 1, Some(Output::new(&mut reported)), None);
     let mut input = Input::new(ORDER.as_bytes());
-    let status = drive_input(alloc, None, &task, &mut input, &mut desk, &mut report);
+    let status = drive_input(alloc, &task, &mut input, &mut desk, &mut report);
     let is_kept = desk.journal.bytes() == SILENT_AT_7.as_slice();
     drop(desk);
     drop(report);

@@ -82,12 +82,13 @@ fn is_followed(alloc: Global, stream: &Stream<'_>) -> bool {
         link_in: StdSource::new(SILENCE.as_bytes()),
         link_out: StdSink::new(&mut sent),
         journal: MemoryStore::new(alloc, Vec::new(alloc)),
+        older: None,
         out: Lines {
             output: Output::new(&mut told),
         },
     };
     let mut report: Report<io::Sink> = Report::new(alloc, 1, None, None);
-    let status = follow_source(alloc, None, &task, &mut orders, &mut desk, &mut report);
+    let status = follow_source(alloc, &task, &mut orders, &mut desk, &mut report);
     let is_kept = desk.journal.bytes() == stream.kept;
     drop(desk);
     status == stream.status && told.as_slice() == stream.told.as_bytes() && is_kept

@@ -1,13 +1,11 @@
 -- Orders of a list that are followed are a drive of that list.
 use Rattle.std.proofs.Common.{◌≡◌, ◌≤◌, ◌-◌, ◌^◌, ◌∙◌, sym, ap, inl, inr, ℕ, List, [], ◌∷◌, ◌++◌, refl, arith, Option}
-use Rattle.std.proofs.Common.{None, append_assoc, append-nil, length, length-append, reverse}
+use Rattle.std.proofs.Common.{append_assoc, append-nil, length, length-append, reverse}
 use Rattle.std.proofs.lemmas.List.{length-map, length-reverse, nil_from_length, reverse-reverse}
 use Rattle.std.specs.Prelude.{⊤}
 use Rattle.std.specs.Io.KnownBytes.{Appends}
 use Rattle.dali_bank.specs.Order.{Contents}
 use Rattle.dali_frame.specs.declared.forward.Frame.{Frame}
-use Rattle.dali_store.specs.declared.opening.OpenFault.{OpenFault}
-use Rattle.dali_store.specs.declared.opening.OpenFault.TheVariants.{Join}
 use Rattle.dali_trace.specs.declared.happening.Happening.{Happening}
 use Rattle.dali_trace.specs.declared.happening.Happening.TheVariants.{Answered}
 use Rattle.dali_trace.specs.declared.fault.DriveFault.{DriveFault}
@@ -21,7 +19,8 @@ use Rattle.dali_drive.specs.declared.following.Given.TheVariants as gives
 use Rattle.dali_drive.specs.declared.listed.ListedOrders.{ListedOrders}
 use Rattle.dali_drive.specs.declared.stored.StoredFault.{StoredFault}
 use Rattle.dali_drive.specs.declared.stored.StoredFault.TheVariants.{Open, Drive}
-use Rattle.dali_drive.specs.Behind.{EndsBehind, IsFollowBehind, IsFollowBehindBreak, IsDriveBehind, IsDriveBehindBreak}
+use Rattle.dali_drive.specs.Behind.{EndsAtFault, EndsBehind, IsFollowBehind, IsFollowBehindBreak, IsStoredDrive}
+use Rattle.dali_drive.specs.Behind.{IsDriveBehind, IsDriveBehindBreak}
 use Rattle.dali_drive.specs.Desks.{Look}
 use Rattle.dali_drive.specs.Driven.{at_moment, IsDriven, orders_asked}
 use Rattle.dali_drive.specs.Followed.{Step, happenings, told_lines, given_in, submitted, as_given, muted, IsOver}
@@ -29,7 +28,6 @@ use Rattle.dali_drive.specs.Followed.{BrokenOrder, BrokenStep, IsObservedFollow,
 use Rattle.dali_drive.specs.Followed.Step.{Happened, Told}
 use Rattle.dali_drive.specs.Listed.{GaveListed, IsEmpty, ListedState, state_of}
 use Rattle.dali_drive.specs.Observed.{IsObserved, IsObservedBreak}
-use Rattle.dali_drive.specs.Stored.{IsStoredDrive, EndsAtFault}
 use Rattle.dali_drive.specs.Transcript.{Streams, said_lines}
 use Rattle.dali_drive.proofs.DriveLemmas.{at_append}
 use Rattle.dali_drive.proofs.FollowLawLemmas.{asked_given, given_then, submitted_both}
@@ -165,45 +163,27 @@ module _ {B : Type 0} (told : Start → B → B → List Happening → Type 0)
     observed = listed_broken told _ orders moment listed is _ _ _ _ _ told_end may_leave fault o.observed;
   }
 
--- without an older journal it is a drive over the store
+-- so it is a drive over a store
 
-pub stored_drive : {B : Type 0} (told : Start → B → B → List Happening → Type 0) (limit most : ℕ) (pace : Pace)
-    (orders : List (Contents × ℕ)) (first : Streams) (before : B) (last : Streams) (after : B) (writer : WriterState)
-    → IsDriveBehind told None limit most pace orders first before writer last after
-    → IsStoredDrive limit most pace orders first writer last
-stored_drive told limit most pace orders first before last after writer o =
-    record { begun = o.behind.begun; drive = rw o.behind.whole at o.observed.drive }
+pub stored_drive : {B : Type 0} (told : Start → B → B → List Happening → Type 0) (older : Option JournalState)
+    (limit most : ℕ) (pace : Pace) (orders : List (Contents × ℕ)) (first : Streams) (before : B) (last : Streams)
+    (after : B) (writer : WriterState)
+    → IsDriveBehind told older limit most pace orders first before writer last after
+    → IsStoredDrive older limit most pace orders first writer last
+stored_drive told older limit most pace orders first before last after writer o =
+    record { behind = o.behind; drive = o.observed.drive }
 
-pub stored_end : {B : Type 0} (told : Start → B → B → List Happening → Type 0)
-    (told_end : Start → B → B → List Happening → DriveFault → Frame → List ℕ → Type 0) (limit most : ℕ) (pace : Pace)
-    (orders : List (Contents × ℕ)) (old new : Look) (before after : B) (fault : DriveFault)
-    → IsDriveBehindBreak told told_end None limit most pace orders fault old.streams before new.streams after
-    new.may_leave
-    → EndsAtFault limit most pace orders (Drive fault) old new
-stored_end told told_end limit most pace orders old new before after fault o =
-    let b = rw o.behind.whole at o.observed.breaks in ((o.behind.begun, b.drive), b.left)
-
--- a drive of a list without an older journal ends as over the store, whatever broke it off
+-- and a drive of a list ends as that does, whatever broke it off
 pub listed_end : {B : Type 0} (told : Start → B → B → List Happening → Type 0)
-    (told_end : Start → B → B → List Happening → DriveFault → Frame → List ℕ → Type 0) (limit most : ℕ) (pace : Pace)
-    (orders : List Contents) (moment : ℕ) (listed : ListedOrders)
+    (told_end : Start → B → B → List Happening → DriveFault → Frame → List ℕ → Type 0) (older : Option JournalState)
+    (limit most : ℕ) (pace : Pace) (orders : List Contents) (moment : ℕ) (listed : ListedOrders)
     → state_of listed ≡ record { rest = orders; moment = moment } → (old : Look) (before : B) (left : ListedOrders)
     (new : Look) (after : B) (fault : StoredFault)
-    → EndsBehind GaveListed told told_end None limit most pace listed fault old before left new after
-    → EndsAtFault limit most pace (at_moment moment orders) fault old new
-listed_end told told_end limit most pace orders moment listed is old before left new after (Open (Join _)) ends =
-    absurd ends.why
-listed_end told told_end limit most pace orders moment listed is old before left new after (Open _) ends = ends.0
-listed_end told told_end limit most pace orders moment listed is old before left new after (Drive fault) ends =
-    stored_end told told_end limit most pace (at_moment moment orders) old new before after fault
-    (behind_broken told told_end None limit most pace orders moment listed is old.streams before left new.streams after
-    new.may_leave fault ends)
-
--- a journal that is opened is joined to no older one then
-pub unopened : {G B : Type 0} (gave : G → G → List Given → Type 0) (told : Start → B → B → List Happening → Type 0)
-    (told_end : Start → B → B → List Happening → DriveFault → Frame → List ℕ → Type 0) (older : Option JournalState)
-    (limit most : ℕ) (pace : Pace) (orders : G) (fault : OpenFault) (old : Look) (before : B) (new : Look)
-    → EndsAtFault limit most pace [] (Open fault) old new
-    → EndsBehind gave told told_end older limit most pace orders (Open fault) old before orders new before
-unopened gave told told_end older limit most pace orders (Join fault) old before new ends = absurd ends.0.0
-unopened gave told told_end older limit most pace orders _ old before new ends = (ends, refl, refl)
+    → EndsBehind GaveListed told told_end older limit most pace listed fault old before left new after
+    → EndsAtFault older limit most pace (at_moment moment orders) fault old new
+listed_end told told_end older limit most pace orders moment listed is old before left new after (Open fault) ends =
+    ends.0
+listed_end told told_end older limit most pace orders moment listed is old before left new after (Drive fault) ends =
+    let o = behind_broken told told_end older limit most pace orders moment listed is old.streams before left
+    new.streams after new.may_leave fault ends in
+    record { behind = o.behind; breaks = o.observed.breaks }

@@ -18,11 +18,10 @@ use Rattle.dali_drive.proofs.KillLemmas.{one_records}
 pub sat_so : (limit most : ℕ) (found : List ℕ) (sitting : Sitting) (left : List ℕ)
     → HasSat limit most found sitting left → IsSat limit found sitting left
 sat_so limit most found sitting left (inl e) =
-    let d = e.drive.drive.driven in
-    let holds = drive_holds d (made e.is_found e.drive.begun) in
-    rw e.is (sat_killed e.pace e.is_found e.drive.begun e.drive.drive.past e.drive.drive.past left
-    (d.legal, d.planned, d.in_range)
-    (inl (record { is = refl; finished = e.drive.drive.described.finished; bytes = cc (holds, e.is_left) })))
+    let d = e.drive.driven in
+    let holds = drive_holds d (made e.is_found e.begun) in
+    rw e.is (sat_killed e.pace e.is_found e.begun e.drive.past e.drive.past left (d.legal, d.planned, d.in_range)
+    (inl (record { is = refl; finished = e.drive.described.finished; bytes = cc (holds, e.is_left) })))
 sat_so limit most found sitting left (inr (inl b)) =
     rw b.is (sat_broken b.pace b.is_found b.begun b.drive left b.is_left b.past b.happened b.finished b.counts)
 sat_so limit most found sitting left (inr (inr k)) =

@@ -178,7 +178,8 @@ module _ (pace : Pace) {limit most : ℕ} {found : List ℕ} {first : Streams} (
     writer = writer;
     last = last;
     is_found = is;
-    drive = record { begun = b; drive = d };
+    begun = b;
+    drive = d;
     is_left = held;
     is = refl;
   }

@@ -7,7 +7,9 @@ use Rattle.dali_journal.specs.JournalState.{JournalState}
 use Rattle.dali_store.specs.Stores.{IsDurable, IsBetween, Becomes, LeavesOnly}
 use Rattle.dali_store.specs.Opened.{Loads, IsOpened, LeavesAlike}
 use Rattle.dali_store.proofs.OpenLemmas.{found_loads}
+use Rattle.dali_drive.specs.Behind.{IsOpenedBehind}
 use Rattle.dali_drive.specs.Stored.{LeavesPart}
+use Rattle.dali_drive.specs.Transcript.{Streams}
 use Rattle.dali_store.proofs.Moments.{started, and_then}
 use Rattle.dali_store.proofs.Betweens.{settled_between, between_first, between_second}
 
@@ -53,14 +55,16 @@ part_of_between limit most (Some bytes) (Some now) new before journal opened bec
   subst (λ (l : List ℕ). IsBetween (Some l) new c) becomes is,
 ))
 
-module _ {S : Type 0} (seen : S → Option (List ℕ)) (may_leave : S → List ℕ → Type 0) (moment : S → ℕ)
-    (left_since : S → ℕ → List ℕ → Type 0) (limit most : ℕ) where
-  pub driven_part : (old mid new : S) (journal : JournalState) → IsOpened limit most (seen old) journal
-      → Becomes (seen old) (seen mid) (journal_spelling Two journal.records)
-      → LeavesOnly moment left_since old mid (LeavesAlike limit (seen old) (may_leave old))
-      → LeavesOnly moment left_since mid new (IsBetween (seen mid) (seen new))
-      → LeavesOnly moment left_since old new (LeavesPart limit (seen old) (seen new) (may_leave old))
-  driven_part old mid new journal opened becomes opening driving =
+module _ {D : Type 0} (shows : D → Streams) (may_leave : D → List ℕ → Type 0) (moment : D → ℕ)
+    (left_since : D → ℕ → List ℕ → Type 0) (limit most : ℕ) where
+  pub driven_part : (older : Option JournalState) (old mid new : D) (journal : JournalState)
+      → IsOpenedBehind older limit most (shows old) (shows mid) journal
+      → LeavesOnly moment left_since old mid (LeavesAlike limit (shows old).journal (may_leave old))
+      → LeavesOnly moment left_since mid new (IsBetween (shows mid).journal (shows new).journal)
+      → LeavesOnly moment left_since old new (LeavesPart limit (shows old).journal (shows new).journal (may_leave old))
+  driven_part older old mid new journal o opening driving =
+      let begun = o.behind.begun in
       and_then moment left_since old mid new _ _ _ opening driving
-      (part_of_alike limit (seen old) (seen new) (may_leave old))
-      (part_of_between limit most (seen old) (seen mid) (seen new) (may_leave old) journal opened becomes)
+      (part_of_alike limit (shows old).journal (shows new).journal (may_leave old))
+      (λ c is. part_of_between limit most (shows old).journal begun.middle (shows new).journal (may_leave old)
+      begun.journal begun.opened begun.written c (rw o.streams at is))

@@ -14,7 +14,7 @@ use Rattle.dali_trace.specs.Trace.{Start}
 use Rattle.dali_trace.specs.Worked.{first_order, second_order, empty}
 use Rattle.dali_drive.specs.declared.following.Given.TheVariants as gives
 use Rattle.dali_drive.specs.declared.listed.ListedOrders.{ListedOrders}
-use Rattle.dali_drive.specs.Behind.{ActsOnceBehind, EndsUnjoined, IsBegunBehind, bytes_behind}
+use Rattle.dali_drive.specs.Behind.{ActsOnceBehind, IsBegunBehind, IsUnjoinedAt, bytes_behind}
 use Rattle.dali_drive.specs.Listed.{GaveListed, IsEmpty}
 use Rattle.dali_drive.specs.Desks.{Look}
 use Rattle.dali_drive.specs.Transcript.{Streams}
@@ -80,34 +80,30 @@ older_number_again older start there here acts =
 -- ---- two journals that are none together
 
 -- they have a number in common
-pub unjoined_without_a_common_number : {G B : Type 0} (older : JournalState) (limit most : ℕ) (orders : G)
-    (first : Streams) (before : B) (left : G) (last : Look) (after : B) → older.records ≡ older_records
-    → EndsUnjoined (Repeated 2) (Some older) limit most orders first before left last after → ⊥
-unjoined_without_a_common_number older limit most orders first before left last after there ends = grind arith
+pub unjoined_without_a_common_number : (older : JournalState) (limit most : ℕ) (first : Streams) (last : Look)
+    → older.records ≡ older_records → IsUnjoinedAt (Repeated 2) (Some older) limit most first last → ⊥
+unjoined_without_a_common_number older limit most first last there ends = grind arith
 
 -- a journal without an older one is never refused as unjoined
-pub alone_is_joined : {G B : Type 0} (fault : JoinFault) (limit most : ℕ) (orders : G) (first : Streams) (before : B)
-    (left : G) (last : Look) (after : B) → EndsUnjoined fault None limit most orders first before left last after → ⊥
-alone_is_joined fault limit most orders first before left last after ends = ends.why
+pub alone_is_joined : (fault : JoinFault) (limit most : ℕ) (first : Streams) (last : Look)
+    → IsUnjoinedAt fault None limit most first last → ⊥
+alone_is_joined fault limit most first last ends = ends.why
 
 -- no frame was sent, no line read and no reply written
-pub unjoined_and_sent : {G B : Type 0} (fault : JoinFault) (older : Option JournalState) (limit most : ℕ) (orders : G)
-    (first : Streams) (before : B) (left : G) (last : Look) (after : B) → first.link ≡ Some []
-    → last.streams.link ≡ Some (codes "C301\n")
-    → EndsUnjoined fault older limit most orders first before left last after → ⊥
-unjoined_and_sent fault older limit most orders first before left last after none sent ends = grind arith
+pub unjoined_and_sent : (fault : JoinFault) (older : Option JournalState) (limit most : ℕ) (first : Streams)
+    (last : Look) → first.link ≡ Some [] → last.streams.link ≡ Some (codes "C301\n")
+    → IsUnjoinedAt fault older limit most first last → ⊥
+unjoined_and_sent fault older limit most first last none sent ends = grind arith
 
-pub unjoined_and_heard : {G B : Type 0} (fault : JoinFault) (older : Option JournalState) (limit most : ℕ) (orders : G)
-    (first : Streams) (before : B) (left : G) (last : Look) (after : B) → first.answers ≡ Some (codes "--\n")
-    → last.streams.answers ≡ Some []
-    → EndsUnjoined fault older limit most orders first before left last after → ⊥
-unjoined_and_heard fault older limit most orders first before left last after line heard ends = grind arith
+pub unjoined_and_heard : (fault : JoinFault) (older : Option JournalState) (limit most : ℕ) (first : Streams)
+    (last : Look) → first.answers ≡ Some (codes "--\n") → last.streams.answers ≡ Some []
+    → IsUnjoinedAt fault older limit most first last → ⊥
+unjoined_and_heard fault older limit most first last line heard ends = grind arith
 
-pub unjoined_and_said : {G B : Type 0} (fault : JoinFault) (older : Option JournalState) (limit most : ℕ) (orders : G)
-    (first : Streams) (before : B) (left : G) (last : Look) (after : B) → first.out ≡ Some []
-    → last.streams.out ≡ Some (codes "reply 1 taken\n")
-    → EndsUnjoined fault older limit most orders first before left last after → ⊥
-unjoined_and_said fault older limit most orders first before left last after none said ends = grind arith
+pub unjoined_and_said : (fault : JoinFault) (older : Option JournalState) (limit most : ℕ) (first : Streams)
+    (last : Look) → first.out ≡ Some [] → last.streams.out ≡ Some (codes "reply 1 taken\n")
+    → IsUnjoinedAt fault older limit most first last → ⊥
+unjoined_and_said fault older limit most first last none said ends = grind arith
 
 -- ---- what a list gives
 

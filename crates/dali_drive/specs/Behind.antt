@@ -1,6 +1,6 @@
--- Orders that are followed after older journals: their records come after those of the store in one journal, and the
--- store keeps its own alone.
-use Rattle.std.specs.Prelude.{◌≡◌, ◌+◌, ◌++◌, ℕ, true, false, List, [], Option, Some, None, IfSome, option_map, drop, length}
+-- Orders that are driven or followed with the journal of a store, after older journals or none: their records come
+-- after those of the store in one journal, and the store keeps its own alone.
+use Rattle.std.specs.Prelude.{◌≡◌, ◌+◌, ◌++◌, ℕ, true, false, List, Option, Some, None, IfSome, option_map, drop, length}
 use Rattle.dali_bank.specs.Order.{Contents}
 use Rattle.dali_frame.specs.declared.forward.Frame.{Frame}
 use Rattle.dali_journal.specs.declared.behind.JoinFault.{JoinFault}
@@ -14,6 +14,7 @@ use Rattle.dali_journal.specs.Sentence.{is_begun, standing_of}
 use Rattle.dali_journal.specs.Spelling.{header, journal_spelling}
 use Rattle.dali_store.specs.declared.opening.OpenFault.{OpenFault}
 use Rattle.dali_store.specs.declared.opening.OpenFault.TheVariants.{Join}
+use Rattle.dali_store.specs.Opened.{IsOpenFault, LeavesAlike}
 use Rattle.dali_trace.specs.declared.happening.Happening.{Happening}
 use Rattle.dali_trace.specs.declared.happening.Reply.{Reply}
 use Rattle.dali_trace.specs.Replies.{IsReply, IsKnownReply}
@@ -24,9 +25,10 @@ use Rattle.dali_drive.specs.declared.following.Given.{Given}
 use Rattle.dali_drive.specs.declared.stored.StoredFault.{StoredFault}
 use Rattle.dali_drive.specs.declared.stored.StoredFault.TheVariants.{Open, Drive}
 use Rattle.dali_drive.specs.Followed.{IsObservedFollow, IsObservedFollowBreak}
-use Rattle.dali_drive.specs.Desks.{Look, IsDurableAt, IsUnfailed}
+use Rattle.dali_drive.specs.Desks.{Look, IsDurableAt, IsUnfailed, with_journal}
+use Rattle.dali_drive.specs.Driven.{BreaksOff, IsDrive}
 use Rattle.dali_drive.specs.Observed.{IsObserved, IsObservedBreak}
-use Rattle.dali_drive.specs.Stored.{IsBegun, EndsAtFault}
+use Rattle.dali_drive.specs.Stored.{IsBegun}
 use Rattle.dali_drive.specs.Transcript.{Streams}
 use Rattle.dali_write.specs.declared.pace.Pace.{Pace}
 
@@ -55,6 +57,49 @@ pub record IsBegunBehind (older : Option JournalState) (limit most : ℕ) (first
   pub begun : IsBegun limit most first
   pub journal : JournalState
   pub whole : IsWhole older limit begun.journal journal
+
+-- that is the journal which was opened, and its store shows its own records now
+pub record IsOpenedBehind (older : Option JournalState) (limit most : ℕ) (first last : Streams)
+    (journal : JournalState) : Type 0 where
+  pub behind : IsBegunBehind older limit most first
+  pub journal_is : behind.journal ≡ journal
+  pub streams : last ≡ record first { journal = behind.begun.middle }
+
+-- the journal was opened, and can't be joined to the older one
+pub record IsUnjoinedAt (fault : JoinFault) (older : Option JournalState) (limit most : ℕ) (first : Streams)
+    (last : Look) : Type 0 where
+  pub begun : IsBegun limit most first
+  pub why : IsUnjoined fault begun.journal older
+  pub streams : last.streams ≡ record first { journal = begun.middle }
+  pub settled : IsDurableAt last
+
+-- why no journal of both is opened: that of the store isn't, and a stop leaves what it might have left before or the
+-- same records; or they are none together
+abbrev pub EndsUnopened : Option JournalState → ℕ → ℕ → OpenFault → Look → Look → Type 0
+EndsUnopened older limit most (Join fault) first last = IsUnjoinedAt fault older limit most first.streams last
+EndsUnopened older limit most fault first last =
+    IsOpenFault limit most first.streams.journal last.streams.journal fault
+    × (last.streams ≡ with_journal first.streams last.streams)
+    × ((c : List ℕ) → last.may_leave c → LeavesAlike limit first.streams.journal first.may_leave c)
+
+-- a drive from that journal, over its store
+pub record IsStoredDrive (older : Option JournalState) (limit most : ℕ) (pace : Pace) (orders : List (Contents × ℕ))
+    (first : Streams) (writer : WriterState) (last : Streams) : Type 0 where
+  pub behind : IsBegunBehind older limit most first
+  pub drive : IsDrive (start_by pace behind.journal) orders (record first { journal = behind.begun.middle }) writer last
+
+-- one that broke off, and of which a stop leaves at least what was kept before the step that was broken off
+pub record IsStoredBreak (older : Option JournalState) (limit most : ℕ) (pace : Pace) (orders : List (Contents × ℕ))
+    (fault : DriveFault) (first : Streams) (last : Look) : Type 0 where
+  pub behind : IsBegunBehind older limit most first
+  pub breaks : BreaksOff (start_by pace behind.journal) orders fault (record first { journal = behind.begun.middle })
+      last.streams last.may_leave
+
+-- why not all was driven
+abbrev pub EndsAtFault : Option JournalState → ℕ → ℕ → Pace → List (Contents × ℕ) → StoredFault → Look → Look → Type 0
+EndsAtFault older limit most pace orders (Open fault) first last = EndsUnopened older limit most fault first last
+EndsAtFault older limit most pace orders (Drive fault) first last =
+    IsStoredBreak older limit most pace orders fault first.streams last
 
 pub record IsFollowBehind {G B : Type 0} (gave : G → G → List Given → Type 0) (over : G → Type 0)
     (told : Start → B → B → List Happening → Type 0) (older : Option JournalState) (limit most : ℕ) (pace : Pace)
@@ -89,24 +134,12 @@ pub record IsDriveBehindBreak {B : Type 0} (told : Start → B → B → List Ha
   pub observed : IsObservedBreak told told_end (start_by pace behind.journal) orders fault
       (record first { journal = behind.begun.middle }) before last after may_leave
 
--- the journal was opened, and can't be joined to the older one; nothing else was done
-pub record EndsUnjoined {G B : Type 0} (fault : JoinFault) (older : Option JournalState) (limit most : ℕ) (orders : G)
-    (first : Streams) (before : B) (orders_left : G) (last : Look) (after : B) : Type 0 where
-  pub begun : IsBegun limit most first
-  pub why : IsUnjoined fault begun.journal older
-  pub streams : last.streams ≡ record first { journal = begun.middle }
-  pub settled : IsDurableAt last
-  pub ungiven : orders_left ≡ orders
-  pub untold : after ≡ before
-
 -- why not all was followed
 abbrev pub EndsBehind : {G B : Type 0} → (G → G → List Given → Type 0) → (Start → B → B → List Happening → Type 0)
     → (Start → B → B → List Happening → DriveFault → Frame → List ℕ → Type 0) → Option JournalState → ℕ → ℕ → Pace → G
     → StoredFault → Look → B → G → Look → B → Type 0
-EndsBehind gave told told_end older limit most pace orders (Open (Join fault)) first before orders_left last after =
-    EndsUnjoined fault older limit most orders first.streams before orders_left last after
 EndsBehind gave told told_end older limit most pace orders (Open fault) first before orders_left last after =
-    EndsAtFault limit most pace [] (Open fault) first last × (orders_left ≡ orders) × (after ≡ before)
+    EndsUnopened older limit most fault first last × (orders_left ≡ orders) × (after ≡ before)
 EndsBehind gave told told_end older limit most pace orders (Drive fault) first before orders_left last after =
     IsFollowBehindBreak gave told told_end older limit most pace orders fault first.streams before orders_left
     last.streams after last.may_leave

@@ -17,8 +17,8 @@ use Rattle.dali_store.specs.Stores.{IsBetween}
 use Rattle.dali_trace.specs.declared.fault.DriveFault.{DriveFault}
 use Rattle.dali_trace.specs.declared.fault.DriveFault.TheVariants.{Journal, NoMemory, Out}
 use Rattle.dali_drive.specs.Transcript.{Streams}
-use Rattle.dali_drive.specs.Driven.{IsBrokenDrive}
-use Rattle.dali_drive.specs.Stored.{IsBegun, IsStoredDrive}
+use Rattle.dali_drive.specs.Driven.{IsDrive, IsBrokenDrive}
+use Rattle.dali_drive.specs.Stored.{IsBegun}
 use Rattle.dali_write.specs.declared.pace.Pace.{Pace}
 
 -- the step after this trace that the fault broke off, if it was done all the same: a record, a reply, or a frame with
@@ -51,9 +51,10 @@ pub record CameToItsEnd (limit most : ℕ) (found : List ℕ) (sitting : Sitting
   pub writer : WriterState
   pub last : Streams
   pub is_found : first.journal ≡ Some found
-  pub drive : IsStoredDrive limit most pace orders first writer last
+  pub begun : IsBegun limit most first
+  pub drive : IsDrive (start_by pace begun.journal) orders (record first { journal = begun.middle }) writer last
   pub is_left : last.journal ≡ Some left
-  pub is : sitting ≡ record { start = start_by pace drive.begun.journal; past = drive.drive.past }
+  pub is : sitting ≡ record { start = start_by pace begun.journal; past = drive.past }
 
 -- From a store that showed these bytes a drive broke off: all that may have happened did so or did not, and this is
 -- left of what was put last.

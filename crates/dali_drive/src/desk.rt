@@ -3,10 +3,10 @@ ghost use Rattle.std.specs.Prelude.{◌≡◌, ◌∷◌, [], ℕ, List, Option,
 ghost use Rattle.std.specs.Io.KnownBytes.{Appends, Keeps};
 ghost use Rattle.dali_frame.specs.Frame.{IsProper};
 ghost use Rattle.dali_trace.specs.declared.happening.Happening.TheVariants.{Sent};
-ghost use Rattle.dali_journal.specs.declared.version.Version.TheVariants.{Two};
-ghost use Rattle.dali_journal.specs.Spelling.{journal_spelling};
-ghost use Rattle.dali_store.specs.Stores.{Becomes, Elapses, LeavesOnly};
-ghost use Rattle.dali_store.specs.Opened.{IsOpened, IsOpenFault, LeavesAlike};
+ghost use Rattle.dali_journal.specs.JournalState.{JournalState};
+ghost use Rattle.dali_store.specs.Stores.{Elapses, LeavesOnly};
+ghost use Rattle.dali_store.specs.Opened.{LeavesAlike};
+ghost use Rattle.dali_drive.specs.Behind.{EndsUnopened, IsOpenedBehind, IsReadyBehind};
 ghost use Rattle.dali_drive.specs.Desks.{Look, IsDurableAt, IsUnfailed, IsAhead, ShowsFault, FailsOpen, EndsAs};
 ghost use Rattle.dali_drive.specs.Desks.{LeavesPut, LeavesNoMore, Grows, with_journal, with_link, with_out};
 ghost use Rattle.dali_drive.specs.Driven.{BreaksFrame, FlushesFirst};
@@ -124,21 +124,19 @@ pub(crate) fn keep<D: Desk>(desk: &mut D, bytes: &[u8]) -> bool
 
 /// A desk whose journal is still to be opened.
 pub trait OpenDesk: Desk {
-    /// Opens its journal (`dali_store::open`), over streams that haven't failed.
+    /// The journal of all older ones, which its own follows, if there are any.
+    ghost older: { Self → Option JournalState };
+
+    /// Opens its journal (`dali_store::open`), over streams that haven't failed, and joins it to the older one, which
+    /// has to be at rest: the journal of both. It has the older one no more then.
     fn open(&mut self, alloc: Global, limit: u32, most: usize) -> Result<Journal, OpenFault>
-        requires { IsUnfailed (Self.look self.old).failed }
-        ensures journal { IfOk result (λ journal.
-            IsOpened limit most (Self.look self.old).streams.journal journal) }
-        ensures holds { IfOk result (λ journal. Becomes (Self.look self.old).streams.journal
-            (Self.look self.new).streams.journal (journal_spelling Two journal.records)) }
-        ensures only { (Self.look self.new).streams
-            ≡ with_journal (Self.look self.old).streams (Self.look self.new).streams }
+        requires { IsReadyBehind (older self.old) (Self.look self.old) }
+        ensures journal { IfOk result (IsOpenedBehind (older self.old) limit most (Self.look self.old).streams
+            (Self.look self.new).streams) }
         ensures ahead { OnOk result (IsAhead (Self.look self.new)) }
-        ensures fault { IfErr result (IsOpenFault limit most (Self.look self.old).streams.journal
-            (Self.look self.new).streams.journal) }
+        ensures fault { IfErr result (λ fault. EndsUnopened (older self.old) limit most fault (Self.look self.old)
+            (Self.look self.new)) }
         ensures err { IfErr result (λ fault. FailsOpen fault (Self.look self.new).failed) }
-        ensures stop { (c : List ℕ) → (Self.look self.new).may_leave c
-            → LeavesAlike limit (Self.look self.old).streams.journal (Self.look self.old).may_leave c }
         ensures any_moment { LeavesOnly Self.moment Self.left_since self.old self.new
             (LeavesAlike limit (Self.look self.old).streams.journal (Self.look self.old).may_leave) };
 }

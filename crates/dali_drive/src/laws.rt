@@ -28,7 +28,7 @@ ghost use Rattle.dali_drive.specs.Behind.{IsBegunBehind, ActsOnceBehind, bytes_b
 ghost use Rattle.dali_trace.specs.declared.fault.DriveFault.{DriveFault};
 ghost use Rattle.dali_drive.specs.Transcript.{Streams};
 ghost use Rattle.dali_drive.specs.Driven.{IsDrive, IsBrokenDrive, KeepsRecords};
-ghost use Rattle.dali_drive.specs.Stored.{IsBegun, IsStoredDrive, IsPartBehind};
+ghost use Rattle.dali_drive.specs.Stored.{IsBegun, IsPartBehind};
 ghost use Rattle.dali_drive.specs.Sittings.{CameToItsEnd, BrokeOff};
 ghost use Rattle.dali_drive.specs.Kills.{StoodOnce};
 ghost use Rattle.dali_drive.specs.Repeats.{IsSameFile, HasSat, HaveSat, BeginsBy, ActOnce};
@@ -37,15 +37,15 @@ ghost use Rattle.dali_drive.specs.Followed.{submitted, happenings, muted, IsFoll
 ghost use Rattle.dali_drive.specs.UnitRead.{IsUnitRead, UnitReadBroke};
 ghost use Rattle.dali_write.specs.declared.pace.Pace.{Pace};
 
-/// The journal that a call of `drive_stored` leaves, by its contract: if it completed, exactly its trace; if it broke
-/// off, whatever a stop may leave of it bears out something that may have happened; and if no journal was opened, the
-/// same records, or what a stop might have left before.
+/// The journal that a call of `drive_stored` leaves with no older one, by its contract: if it completed, exactly its
+/// trace; if it broke off, whatever a stop may leave of it bears out something that may have happened; and if no journal
+/// was opened, the same records, or what a stop might have left before.
 pub fn drives_leave_what_happened()
     ensures ended { (limit most : ℕ) (pace : Pace) (orders : List (Contents × ℕ)) (found left : List ℕ)
-        (first : Streams) (writer : WriterState) (last : Streams)
+        (first : Streams) (writer : WriterState) (last : Streams) (begun : IsBegun limit most first)
+        (d : IsDrive (start_by pace begun.journal) orders (record first { journal = begun.middle }) writer last)
         → first.journal ≡ Some found → last.journal ≡ Some left
-        → (d : IsStoredDrive limit most pace orders first writer last)
-        → CameToItsEnd limit most found (record { start = start_by pace d.begun.journal; past = d.drive.past }) left }
+        → CameToItsEnd limit most found (record { start = start_by pace begun.journal; past = d.past }) left }
     ensures broken { (limit most : ℕ) (pace : Pace) (orders : List (Contents × ℕ)) (fault : DriveFault)
         (found left : List ℕ) (first last : Streams) (begun : IsBegun limit most first)
         (d : IsBrokenDrive (start_by pace begun.journal) orders fault (record first { journal = begun.middle }) last)
@@ -71,9 +71,9 @@ pub fn drives_handed_on_are_one()
 /// that is cut off.
 pub fn stops_leave_a_part()
     ensures ended { (limit most : ℕ) (pace : Pace) (orders : List (Contents × ℕ)) (found seen left : List ℕ)
-        (first : Streams)
-        (writer : WriterState) (last : Streams) → first.journal ≡ Some found → last.journal ≡ Some seen
-        → IsStoredDrive limit most pace orders first writer last
+        (first : Streams) (writer : WriterState) (last : Streams) (begun : IsBegun limit most first)
+        → first.journal ≡ Some found → last.journal ≡ Some seen
+        → IsDrive (start_by pace begun.journal) orders (record first { journal = begun.middle }) writer last
         → IsPartBehind limit (Some found) (Some seen) left → StoodOnce limit most found left first last }
     ensures broken { (limit most : ℕ) (pace : Pace) (orders : List (Contents × ℕ)) (fault : DriveFault)
         (found seen left : List ℕ) (first last : Streams) (begun : IsBegun limit most first)

@@ -1,12 +1,15 @@
 // A desk whose journal is in a store.
-ghost use Rattle.std.specs.Prelude.{⊤};
+ghost use Rattle.std.specs.Prelude.{◌≡◌, IfErr, IfOk, IfSome, ⊤};
+ghost use Rattle.dali_journal.specs.declared.standing.Standing.TheVariants.{Idle};
+ghost use Rattle.dali_journal.specs.Sentence.{standing_of};
+ghost use Rattle.dali_drive.specs.Behind.{IsUnjoined, IsWhole};
 
 use crate::desk::{Desk, OpenDesk};
 use crate::lines::AnswerText;
 use crate::link::exchange_noting;
 use crate::streams::{Sink, Source, put_all};
 use dali_frame::Frame;
-use dali_journal::Journal;
+use dali_journal::{JoinFault, Journal};
 use dali_store::{OpenFault, Store, append_all, open};
 use dali_trace::DriveFault;
 use std::alloc::Global;
@@ -17,6 +20,8 @@ pub struct StoreDesk<I, L, S, O> {
     pub link_in: I,
     pub link_out: L,
     pub journal: S,
+    /// The journal of all older ones, which that of the store follows, if there are any.
+    pub older: Option<Journal>,
     pub out: O,
 }
 
@@ -57,7 +62,35 @@ impl<I: Source, L: Sink, S: Store, O: Sink> Desk for StoreDesk<I, L, S, O> {
 }
 
 impl<I: Source, L: Sink, S: Store, O: Sink> OpenDesk for StoreDesk<I, L, S, O> {
+    ghost older = { λ desk. desk.older };
+
     fn open(&mut self, alloc: Global, limit: u32, most: usize) -> Result<Journal, OpenFault> {
-        open(alloc, &mut self.journal, limit, most)
+        let own = match open(alloc, &mut self.journal, limit, most) {
+            Ok(own) => own,
+            Err(fault) => return Err(fault),
+        };
+        match joined(own, self.older.take()) {
+            Ok(journal) => Ok(journal),
+            Err(fault) => Err(OpenFault::Join(fault)),
+        }
+    }
+}
+
+// The journal after the older one, if there is one.
+fn joined(own: Journal, older: Option<Journal>) -> Result<Journal, JoinFault>
+    requires rests { IfSome older (λ journal. standing_of journal.records ≡ Idle) }
+    ensures ok { IfOk result (IsWhole older own.limit own) }
+    ensures err { IfErr result (λ fault. IsUnjoined fault own older) }
+{
+    let Some(older) = older else {
+        return Ok(own);
+    };
+    match own.behind(older) {
+        Ok(whole) => {
+            // it shows what is true of every journal
+            let _most = whole.limit();
+            Ok(whole)
+        }
+        Err(fault) => Err(fault),
     }
 }

@@ -16,7 +16,6 @@ use Rattle.dali_drive.specs.Desks.{Look}
 use Rattle.dali_drive.specs.Listed.{GaveListed, IsEmpty, state_of}
 use Rattle.dali_drive.specs.Stored.{StoredShows}
 use Rattle.dali_drive.proofs.ListedDriveLemmas.{behind_driven}
-use Rattle.dali_store.specs.declared.opening.OpenFault.TheVariants.{Join}
 use Rattle.dali_job.specs.declared.link_command.Required.{Required}
 use Rattle.dali_report.specs.declared.outcome.Outcome.{Outcome}
 use Rattle.dali_report.specs.declared.report.Report.{Report}
@@ -37,12 +36,10 @@ pub break_told : {G N : Type 0} (gave : G → G → List Given → Type 0) (cont
     before left (with_lines last replies lost) after
     → StoredShows fault (with_lines last replies lost).failed → IsBreakTold fault status replies last.streams.out
     → BreaksBehind gave contents older pace before after orders left first status last
-break_told gave contents older pace before after orders left first last replies lost status (Open (Join why)) ends
-    shows told = inr (inl (search))
-break_told gave contents older pace before after orders left first last replies lost status (Open _) ends shows told =
-    inl (search)
-break_told gave contents older pace before after orders left first last replies lost status (Drive why) ends
-    shows told = inr (inr (search))
+break_told gave contents older pace before after orders left first last replies lost status (Open why) ends shows
+    told = inl (search)
+break_told gave contents older pace before after orders left first last replies lost status (Drive why) ends shows
+    told = inr (search)
 
 -- all that a list gave was followed, or not: so its orders were driven, or not
 pub list_answered : {N : Type 0} (older : Option JournalState) (contents : N → Option (List ℕ)) (moment : ℕ)

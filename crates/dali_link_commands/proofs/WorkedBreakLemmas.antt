@@ -1,6 +1,7 @@
 -- The state after a drive that isn't begun, breaks off, or comes to its end; and near misses of each.
 use Rattle.std.proofs.Common.{◌≡◌, sym, ap, Bool, true, false, ℕ, List, [], ◌∷◌, Option, Some, codes}
 use Rattle.dali_bank.specs.Order.{Contents}
+use Rattle.dali_journal.specs.declared.behind.JoinFault.{JoinFault}
 use Rattle.dali_journal.specs.JournalState.{JournalState}
 use Rattle.dali_store.specs.declared.opening.OpenFault.TheVariants as unopened
 use Rattle.dali_store.specs.declared.store.StoreFault.TheVariants as stores
@@ -10,7 +11,7 @@ use Rattle.dali_drive.specs.Desks.{Look}
 use Rattle.dali_drive.specs.Transcript.{Streams}
 use Rattle.dali_report.specs.declared.report.Report.{Report}
 use Rattle.dali_faults.specs.declared.fault.Status.{Status}
-use Rattle.dali_link_commands.specs.BehindAnswers.{UnopenedBehind, UnjoinedBehind, BrokenBehind, FollowsBehind}
+use Rattle.dali_link_commands.specs.BehindAnswers.{UnopenedBehind, BrokenBehind, FollowsBehind}
 use Rattle.dali_job.specs.declared.link_command.Required.{Required}
 use Rattle.dali_link_commands.specs.BehindAnswers.{EndsListBehind, EndsSourceBehind}
 use Rattle.dali_link_commands.proofs.WorkedBenchLemmas.{emptied_unsettled}
@@ -38,25 +39,20 @@ module _ {G N : Type 0} (gave : G → G → List Given → Type 0) (contents : N
 
   -- ---- journals that are none together
 
-  pub unjoined_and_sent : UnjoinedBehind gave contents older pace before after orders left first status last
-      → first.streams.link ≡ Some [] → last.streams.link ≡ Some (codes "C301\n") → ⊥
-  unjoined_and_sent u none sent = cc (ap (λ (s : Streams). s.link) u.unjoined.streams)
+  module _ (why : JoinFault)
+      (u : UnopenedBehind gave contents older pace before after orders left first status last)
+      (is : u.fault ≡ unopened.Join why) where
+    pub unjoined_and_sent : first.streams.link ≡ Some [] → last.streams.link ≡ Some (codes "C301\n") → ⊥
+    unjoined_and_sent none sent = cc (ap (λ (s : Streams). s.link) (rw is at u.unopened).streams)
 
-  pub unjoined_and_heard : UnjoinedBehind gave contents older pace before after orders left first status last
-      → first.streams.answers ≡ Some (codes "--\n") → last.streams.answers ≡ Some [] → ⊥
-  unjoined_and_heard u line heard = cc (ap (λ (s : Streams). s.answers) u.unjoined.streams)
+    pub unjoined_and_heard : first.streams.answers ≡ Some (codes "--\n") → last.streams.answers ≡ Some [] → ⊥
+    unjoined_and_heard none heard = cc (ap (λ (s : Streams). s.answers) (rw is at u.unopened).streams)
 
-  pub unjoined_and_given : UnjoinedBehind gave contents older pace before after orders left first status last
-      → (left ≡ orders → ⊥) → ⊥
-  unjoined_and_given u given = given u.unjoined.ungiven
+    pub unjoined_and_unsettled : last.streams.journal ≡ Some (1 ∷ []) → last.may_leave [] → ⊥
+    unjoined_and_unsettled shows less = emptied_unsettled _ _ shows less (rw is at u.unopened).settled
 
-  pub unjoined_and_unsettled : UnjoinedBehind gave contents older pace before after orders left first status last
-      → last.streams.journal ≡ Some (1 ∷ []) → last.may_leave [] → ⊥
-  unjoined_and_unsettled u shows less = emptied_unsettled _ _ shows less u.unjoined.settled
-
-  pub unjoined_where_a_store_failed : UnjoinedBehind gave contents older pace before after orders left first status last
-      → last.failed.journal ≡ true → ⊥
-  unjoined_where_a_store_failed u failed = cc
+    pub unjoined_where_a_store_failed : last.failed.journal ≡ true → ⊥
+    unjoined_where_a_store_failed failed = cc
 
   -- ---- what is broken off
 

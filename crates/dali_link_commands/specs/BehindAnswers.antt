@@ -2,7 +2,6 @@
 -- streams.
 use Rattle.std.specs.Prelude.{◌≡◌, ◌≢◌, ◌⊎◌, ◌++◌, ℕ, Bool, List, [], ◌∷◌, Option}
 use Rattle.dali_bank.specs.Order.{Contents}
-use Rattle.dali_journal.specs.declared.behind.JoinFault.{JoinFault}
 use Rattle.dali_journal.specs.JournalState.{JournalState}
 use Rattle.dali_input.specs.declared.fault.InputFault.{InputFault}
 use Rattle.dali_store.specs.declared.opening.OpenFault.{OpenFault}
@@ -12,12 +11,11 @@ use Rattle.dali_drive.specs.declared.listed.ListedOrders.{ListedOrders}
 use Rattle.dali_drive.specs.declared.std_streams.StdSource.{StdSource}
 use Rattle.dali_drive.specs.declared.stored.StoredFault.{StoredFault}
 use Rattle.dali_drive.specs.declared.stored.StoredFault.TheVariants as stored
-use Rattle.dali_drive.specs.Behind.{IsFollowBehind, IsFollowBehindBreak, IsDriveBehind, EndsUnjoined}
+use Rattle.dali_drive.specs.Behind.{EndsUnopened, IsFollowBehind, IsFollowBehindBreak, IsDriveBehind}
 use Rattle.dali_drive.specs.Driven.{at_moment}
 use Rattle.dali_drive.specs.Followed.{happenings}
 use Rattle.dali_drive.specs.Listed.{GaveListed, state_of}
 use Rattle.dali_drive.specs.StdStreams.{source_left, source_failed}
-use Rattle.dali_drive.specs.Stored.{EndsAtFault}
 use Rattle.dali_drive.specs.Desks.{Look, IsDurableAt, IsUnfailed, FailsOpen, ShowsFault}
 use Rattle.dali_link_commands.specs.declared.stream.order_lines.OrderLines.{OrderLines}
 use Rattle.dali_link_commands.specs.LinesGave as lines
@@ -33,7 +31,7 @@ use Rattle.dali_link_commands.specs.Bare.{TellsEnded}
 use Rattle.dali_job.specs.declared.link_command.Required.{Required}
 use Rattle.dali_link_commands.specs.FollowAnswers.{AreUnread, TellsFollowed}
 use Rattle.dali_faults.specs.JournalInput.{journal_limit, order_limit}
-use Rattle.dali_link_commands.specs.Older.{AreJoined, IsUnusable, fault_unjoined}
+use Rattle.dali_link_commands.specs.Older.{AreJoined, IsUnusable}
 use Rattle.dali_link_commands.specs.Benches.{IsUndriven, with_lines}
 use Rattle.dali_link_commands.specs.OrdersAnswers.{EndsUndriven, IsUnopened, IsUnread}
 use Rattle.dali_link_commands.specs.Told.{IsFaultTold}
@@ -61,28 +59,17 @@ module _ {G N : Type 0} (gave : G → G → List Given → Type 0) (contents : N
   -- The lines of a fault follow what the output held then, 'replies'. It hadn't failed, unless that was the fault,
   -- 'lost'.
 
-  -- the journal wasn't opened, since its store failed or its bytes are none, which was reported; nothing was taken of
-  -- the orders
+  -- the journal wasn't opened, since its store failed or its bytes are none, or it can't be joined to the older one,
+  -- which was reported; nothing was taken of the orders
   pub record UnopenedBehind : Type 0 where
     pub fault : OpenFault
     pub replies : Option (List ℕ)
     pub lost : Bool
-    pub unopened : EndsAtFault order_limit journal_limit pace [] (stored.Open fault) first
-        (with_lines last replies lost)
+    pub unopened : EndsUnopened older order_limit journal_limit fault first (with_lines last replies lost)
     pub failed : FailsOpen fault (with_lines last replies lost).failed
     pub told : IsFaultTold (fault_unopened fault) status replies last.streams.out
     pub unread : left ≡ orders
     pub unreported : after ≡ before
-
-  -- it was opened, and can't be joined to the older one, which was reported
-  pub record UnjoinedBehind : Type 0 where
-    pub fault : JoinFault
-    pub replies : Option (List ℕ)
-    pub lost : Bool
-    pub unjoined : EndsUnjoined fault older order_limit journal_limit orders first.streams before left
-        (with_lines last replies lost) after
-    pub unfailed : IsUnfailed (with_lines last replies lost).failed
-    pub told : IsFaultTold (fault_unjoined fault) status replies last.streams.out
 
   -- it broke off after what had been given so far, since a stream failed or gave no answer, which was reported; the
   -- report has what there was, and a stop leaves all that was kept before the step that was broken off
@@ -97,7 +84,7 @@ module _ {G N : Type 0} (gave : G → G → List Given → Type 0) (contents : N
 
   -- why not all was followed
   abbrev pub BreaksBehind : Type 0
-  BreaksBehind = UnopenedBehind ⊎ UnjoinedBehind ⊎ BrokenBehind
+  BreaksBehind = UnopenedBehind ⊎ BrokenBehind
 
 module _ {G N : Type 0} (gave : G → G → List Given → Type 0) (over : G → Type 0) (failed refused : G → Bool)
     (contents : N → Option (List ℕ)) (older : Option JournalState) (pace : Pace) (required : Required)

@@ -52,11 +52,7 @@ pub fn address_beside<
     I: Read,
     L: Write,
     O: Write,
->(
-    rt: &R,
-    command: &AddressCommand<'_>,
-    desk: &mut StdBench<'s, R, I, L, O>,
-) -> Status
+>(rt: &R, command: &AddressCommand<'_>, desk: &mut StdBench<'s, R, I, L, O>) -> Status
     requires unfailed { IsUnfailed (⟦<StdBench<'s, R, I, L, O> as Desk>⟧.look desk.old).failed }
     ensures carried_out { let look = ⟦<StdBench<'s, R, I, L, O> as Desk>⟧.look in
         IsAddressAnswer (R.has rt.now) command.now (look desk.old) result (look desk.new) }

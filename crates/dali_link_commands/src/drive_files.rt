@@ -17,7 +17,6 @@ use dali_drive::{Desk, StdSource};
 use dali_faults::Status;
 use dali_input::Input;
 use dali_job::DriveTask;
-use dali_journal::Journal;
 use dali_report::Report;
 use std::alloc::Global;
 use std::fs::{File, Files, Metadata};
@@ -49,44 +48,52 @@ pub fn drive_files<
 ) -> Status
     requires unfailed { IsUnfailed (⟦<StdBench<'s, R, I, L, O> as Desk>⟧.look desk.old).failed }
     ensures driven { let look = ⟦<StdBench<'s, R, I, L, O> as Desk>⟧.look in
-        IsBehindNamed (held_under (R.has rt.now) task.now.older.items) (λ older. Drives task.now.follow task.now
-        N.contents older report.old report.new (look desk.old) result (look desk.new)) (EndsUnread (held_under (R.has
-        rt.now) task.now.older.items) report.old report.new (look desk.old) result (look desk.new)) }
+        IsBehindNamed (held_under (R.has rt.now) task.now.older.items)
+        (λ older. Drives task.now.follow task.now N.contents older report.old report.new (look desk.old) result
+        (look desk.new))
+        (EndsUnread (held_under (R.has rt.now) task.now.older.items) report.old report.new (look desk.old) result
+        (look desk.new)) }
     ensures unwritten { TellsUnwritten result (⟦<StdBench<'s, R, I, L, O> as Desk>⟧.look desk.new) }
 {
-    let older = match read_older(rt, task.older.as_slice()) {
-        Ok(older) => older,
+    match read_older(rt, task.older.as_slice()) {
+        Ok(older) => desk.older = older,
         Err(problem) => return problem.tell(&mut desk.out),
-    };
+    }
     match opened(rt, task.orders) {
         Ok((file, found)) => {
             desk.journal.set_orders(&found);
-            drive_file(rt.alloc(), older, task, file, desk, report)
+            drive_file(rt.alloc(), task, file, desk, report)
         }
         Err(error) => Problem::refused(rt.alloc(), task.orders, error).tell(&mut desk.out),
     }
 }
 
 // Drives the orders of a file that is open.
-fn drive_file<'s, R: Files<File = File> + AllocGlobal, I: Read, L: Write, O: Write, N: Write + Drop>(
+fn drive_file<
+    's,
+    R: Files<File = File> + AllocGlobal,
+    I: Read,
+    L: Write,
+    O: Write,
+    N: Write + Drop,
+>(
     alloc: Global,
-    older: Option<Journal>,
     task: &DriveTask<'_>,
     file: File,
     desk: &mut StdBench<'s, R, I, L, O>,
     report: &mut Report<N>,
 ) -> Status
-    requires ready { IsReadyBehind older (⟦<StdBench<'s, R, I, L, O> as Desk>⟧.look desk.old) }
+    requires ready { IsReadyBehind desk.old.older (⟦<StdBench<'s, R, I, L, O> as Desk>⟧.look desk.old) }
     ensures driven { let look = ⟦<StdBench<'s, R, I, L, O> as Desk>⟧.look in
-        Drives task.now.follow task.now N.contents older report.old report.new (look desk.old) result (look desk.new)
-        }
+        Drives task.now.follow task.now N.contents desk.old.older report.old report.new (look desk.old) result
+        (look desk.new) }
     ensures unwritten { TellsUnwritten result (⟦<StdBench<'s, R, I, L, O> as Desk>⟧.look desk.new) }
 {
     if task.follow {
         let mut orders = OrderLines::new(alloc, StdSource::new(file), task.moment);
-        follow_source(alloc, older, task, &mut orders, desk, report)
+        follow_source(alloc, task, &mut orders, desk, report)
     } else {
-        drive_input(alloc, older, task, &mut Input::new(file), desk, report)
+        drive_input(alloc, task, &mut Input::new(file), desk, report)
     }
 }
 

@@ -17,7 +17,7 @@ use dali_drive::{Desk, ListedOrders, Orders, Sink, Source, Terms, follow_stored}
 use dali_faults::{JOURNAL_LIMIT, Status};
 use dali_input::InputFault;
 use dali_job::DriveTask;
-use dali_journal::{Journal, MOST_ORDERS};
+use dali_journal::MOST_ORDERS;
 use dali_report::{Outcome, Report};
 use dali_store::Store;
 use dali_write::Pace;
@@ -91,26 +91,24 @@ fn terms_of(pace: Pace) -> Terms
 /// File. A drive breaks off at 1 Journal, 2 Link, 3 Line, 4 End, 6 TooLong or 20 Memory. If `lines` fails, it is 7 Out,
 /// or a first part of the fault's line is written; later calls of it write nothing more.
 ///
-/// With an older journal, if there is one, which has to be at rest, an order that it has ended gets its kept reply, or
-/// `reused`, with no frame. If both have an order number in common, nothing is sent: 15 Older.
+/// If the desk has an older journal, which has to be at rest, an order that it has ended gets its kept reply, or
+/// `reused`, with no frame. If both journals have an order number in common, nothing is sent: 15 Older.
 pub fn follow_source<G: OrderSource, I: Source, L: Sink, S: Store, W: Write, N: Write + Drop>(
     alloc: Global,
-    older: Option<Journal>,
     task: &DriveTask<'_>,
     orders: &mut G,
     desk: &mut Bench<I, L, S, W>,
     report: &mut Report<N>,
 ) -> Status
-    requires ready { IsReadyBehind older (⟦<Bench<I, L, S, W> as Desk>⟧.look desk.old) }
+    requires ready { IsReadyBehind desk.old.older (⟦<Bench<I, L, S, W> as Desk>⟧.look desk.old) }
     ensures answer { let look = ⟦<Bench<I, L, S, W> as Desk>⟧.look in
-        IsSourceBehind G.gave G.over G.failed G.refused N.contents older task.now.pace task.now.required report.old
-        report.new orders.old orders.new (look desk.old) result (look desk.new) }
+        IsSourceBehind G.gave G.over G.failed G.refused N.contents desk.old.older task.now.pace task.now.required
+        report.old report.new orders.old orders.new (look desk.old) result (look desk.new) }
     ensures unwritten { TellsUnwritten result (⟦<Bench<I, L, S, W> as Desk>⟧.look desk.new) }
     ensures any_moment { LeavesOnly S.moment S.left_since desk.old.journal desk.new.journal
-        (LeavesPart order_limit (S.seen desk.old.journal) (S.seen desk.new.journal)
-        (S.may_leave desk.old.journal)) }
+        (LeavesPart order_limit (S.seen desk.old.journal) (S.seen desk.new.journal) (S.may_leave desk.old.journal)) }
 {
-    match follow_stored(alloc, older, terms_of(task.pace), orders, desk, report) {
+    match follow_stored(alloc, terms_of(task.pace), orders, desk, report) {
         Ok(_writer) => tell_followed(alloc, &mut desk.out, task, orders, report.outcome()),
         Err(fault) => tell_broken(alloc, task.journal, desk, fault),
     }

@@ -59,7 +59,13 @@ pub fn watched_of(command: &LinkCommand<'_>) -> Watched
 /// Carries a command out at a desk whose streams haven't failed, and whose store is its own (`store_of`). Each short
 /// address that it reads or asks has to be at most 63. The progress that is shown follows its orders, and changes
 /// nothing.
-pub fn carry_out<'s, R: Files<File = File> + AllocGlobal + JournalFiles, I: Read, L: Write, O: Write>(
+pub fn carry_out<
+    's,
+    R: Files<File = File> + AllocGlobal + JournalFiles,
+    I: Read,
+    L: Write,
+    O: Write,
+>(
     rt: &R,
     command: &LinkCommand<'_>,
     desk: &mut StdBench<'s, R, I, L, O>,

@@ -25,12 +25,7 @@ pub fn verify_file<
     L: Write,
     O: Write,
     N: Write + Drop,
->(
-    rt: &R,
-    name: &str,
-    desk: &mut StdBench<'s, R, I, L, O>,
-    report: &mut Report<N>,
-) -> Status
+>(rt: &R, name: &str, desk: &mut StdBench<'s, R, I, L, O>, report: &mut Report<N>) -> Status
     requires unfailed { IsUnfailed (⟦<StdBench<'s, R, I, L, O> as Desk>⟧.look desk.old).failed }
     ensures verified { let look = ⟦<StdBench<'s, R, I, L, O> as Desk>⟧.look in
         IsFileAnswer (IsVerifyAnswer N.contents report.old report.new) (report.new ≡ report.old) (look desk.old)

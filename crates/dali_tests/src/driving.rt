@@ -103,6 +103,7 @@ fn is_stored(alloc: Global) -> Result<bool, Fail> {
         link_in: StdSource::new(SILENCE.as_bytes()),
         link_out: StdSink::new(&mut link),
         journal: MemoryStore::new(alloc, Vec::new(alloc)),
+        older: None,
         out: StdSink::new(&mut told),
     };
     let driven = drive_stored(alloc, TERMS, &orders, 0, &mut desk);

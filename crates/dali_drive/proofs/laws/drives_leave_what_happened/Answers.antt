@@ -3,8 +3,8 @@ use Rattle.dali_drive.proofs.RepeatLemmas.{unopened_same}
 use Rattle.dali_drive.proofs.laws.drives_leave_what_happened.Goals as goal
 
 pub returns-clause-ended : goal.returns-clause-ended
-returns-clause-ended g = λ limit most pace orders found left first writer last is held d.
-    came_to_its_end pace is d.begun d.drive held
+returns-clause-ended g = λ limit most pace orders found left first writer last begun d is held.
+    came_to_its_end pace is begun d held
 
 pub returns-clause-broken : goal.returns-clause-broken
 returns-clause-broken g = λ limit most pace orders fault found left first last begun d is between.

@@ -6,7 +6,7 @@ use Rattle.dali_link_commands.proofs.drive.drive_input.Goals as goal
 pub returns-in-Ok-Ok-clause-driven : goal.returns-in-Ok-Ok-clause-driven
 returns-in-Ok-Ok-clause-driven g c = (
   read_and_answered
-      (IsAnswerBehind c.args.older g.N.Write.contents c.args.task.now.moment c.args.task.now.pace
+      (IsAnswerBehind c.args.desk.now.older g.N.Write.contents c.args.task.now.moment c.args.task.now.pace
       c.args.task.now.required c.args.report.now
       c.drive_orders.new.report)
       (c.drive_orders.new.report ≡ c.args.report.now) _ _ _ _ _ _ c.as_slice.result.now c.as_slice.ensures.value
@@ -17,7 +17,7 @@ returns-in-Ok-Ok-clause-driven g c = (
 pub returns-in-Ok-Err-clause-driven : goal.returns-in-Ok-Err-clause-driven
 returns-in-Ok-Err-clause-driven g c = (
   read_and_answered
-      (IsAnswerBehind c.args.older g.N.Write.contents c.args.task.now.moment c.args.task.now.pace
+      (IsAnswerBehind c.args.desk.now.older g.N.Write.contents c.args.task.now.moment c.args.task.now.pace
       c.args.task.now.required c.args.report.now
       c.args.report.now)
       (c.args.report.now ≡ c.args.report.now) _ _ _ _ _ _ c.as_slice.result.now c.as_slice.ensures.value
@@ -25,10 +25,10 @@ returns-in-Ok-Err-clause-driven g c = (
   search rules,
 )
 
-pub returns-in-Err-read_orders-clause-driven : goal.returns-in-Err-read_orders-clause-driven
-returns-in-Err-read_orders-clause-driven g c = (
+pub returns-clause-driven : goal.returns-clause-driven
+returns-clause-driven g c = (
   read_and_answered
-      (IsAnswerBehind c.args.older g.N.Write.contents c.args.task.now.moment c.args.task.now.pace
+      (IsAnswerBehind c.args.desk.now.older g.N.Write.contents c.args.task.now.moment c.args.task.now.pace
       c.args.task.now.required c.args.report.now
       c.args.report.now)
       (c.args.report.now ≡ c.args.report.now) _ _ _ _ _ _ c.as_slice.result.now c.as_slice.ensures.value

@@ -18,7 +18,7 @@ returns-then-task-clause-driven g c = rw c.if-task.true (
 
 pub returns-else-task-clause-driven : goal.returns-else-task-clause-driven
 returns-else-task-clause-driven g c = rw c.if-task.false (
-    file_answered (IsAnswerBehind c.args.older g.N.Write.contents c.args.task.now.moment c.args.task.now.pace
+    file_answered (IsAnswerBehind c.args.desk.now.older g.N.Write.contents c.args.task.now.moment c.args.task.now.pace
     c.args.task.now.required c.args.report.now c.drive_input.new.report)
     (c.drive_input.new.report ≡ c.args.report.now) _ _ _ _ _ c.drive_input.ensures.driven.0
     )

@@ -10,7 +10,8 @@ pub returns-in-Ok-opened-clause-driven : goal.returns-in-Ok-opened-clause-driven
 returns-in-Ok-opened-clause-driven g c = inl (
   c.in-Ok.older,
   rw c.as_slice.ensures.value at c.in-Ok.ensures.ok,
-  kept_orders g.L.Write.contents g.I.Read.remaining g.O.Write.contents c.args.desk.now c.set_orders.new.self
+  kept_orders g.L.Write.contents g.I.Read.remaining g.O.Write.contents
+      (record c.args.desk.now { older = c.in-Ok.older }) c.set_orders.new.self
       (λ (first : Look). Drives c.args.task.now.follow c.args.task.now g.N.Write.contents c.in-Ok.older
       c.args.report.now c.drive_file.new.report first c.drive_file.result
       (std_look g.L.Write.contents g.I.Read.remaining g.O.Write.contents c.drive_file.new.desk))

@@ -1,4 +1,4 @@
-use Rattle.std.proofs.Common.{rules, ◌∙◌, inl, inr, subst}
+use Rattle.std.proofs.Common.{◌∙◌, inl, inr, subst}
 use Rattle.dali_text.specs.Output.{has_failed, held}
 use Rattle.dali_report.specs.declared.outcome.Outcome.{Outcome}
 use Rattle.dali_link_commands.specs.FollowAnswers.{TellsFollowed}
@@ -30,10 +30,10 @@ pub returns-in-Err-clause-answer : goal.returns-in-Err-clause-answer
 returns-in-Err-clause-answer g c =
     let desk = c.follow_stored.new.desk in
     rw c.tell_broken.ensures.only (
-      inr (break_told g.G.Orders.gave g.N.Write.contents c.args.older c.args.task.now.pace c.args.report.now
-          c.follow_stored.new.observer _ _
-          _ _ (held g.W.Write.contents desk.out.output) (has_failed desk.out.output) c.tell_broken.result c.in-Err.fault
-          (rw c.terms_of.ensures at c.in-Err.ensures.broken) c.in-Err.ensures.err c.tell_broken.ensures.told)
+    inr (break_told g.G.Orders.gave g.N.Write.contents c.args.desk.now.older c.args.task.now.pace c.args.report.now
+    c.follow_stored.new.observer _ _ _ _ (held g.W.Write.contents desk.out.output) (has_failed desk.out.output)
+    c.tell_broken.result c.in-Err.fault (rw c.terms_of.ensures at c.in-Err.ensures.broken) c.in-Err.ensures.err
+    c.tell_broken.ensures.told)
     )
 
 pub returns-in-Err-clause-any_moment : goal.returns-in-Err-clause-any_moment

@@ -29,7 +29,7 @@ pub struct Terms {
 /// `follow` does. The desk's own journal keeps its own records alone.
 ///
 /// The older one has to be at rest. Its orders count as begun, so that each gets its kept reply, or `reused`, with no
-/// frame.
+/// frame. The desk has it no more then: whoever follows once more goes on with the writer.
 pub fn follow_stored<D: OpenDesk, G: Orders, B: Observer>(
     alloc: Global,
     terms: Terms,

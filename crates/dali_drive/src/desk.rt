@@ -1,5 +1,5 @@
 // The streams of a drive.
-ghost use Rattle.std.specs.Prelude.{◌≡◌, ◌∷◌, [], ℕ, List, Option, IfErr, IfOk, OnOk, true, false};
+ghost use Rattle.std.specs.Prelude.{◌≡◌, ◌∷◌, [], ℕ, List, Option, None, IfErr, IfOk, OnOk, true, false};
 ghost use Rattle.std.specs.Io.KnownBytes.{Appends, Keeps};
 ghost use Rattle.dali_frame.specs.Frame.{IsProper};
 ghost use Rattle.dali_trace.specs.declared.happening.Happening.TheVariants.{Sent};
@@ -128,11 +128,12 @@ pub trait OpenDesk: Desk {
     ghost older: { Self → Option JournalState };
 
     /// Opens its journal (`dali_store::open`), over streams that haven't failed, and joins it to the older one, which
-    /// has to be at rest: the journal of both. It has the older one no more then.
+    /// has to be at rest: the journal of both. The older one is given away with it, so a desk is opened once.
     fn open(&mut self, alloc: Global, limit: u32, most: usize) -> Result<Journal, OpenFault>
         requires { IsReadyBehind (older self.old) (Self.look self.old) }
         ensures journal { IfOk result (IsOpenedBehind (older self.old) limit most (Self.look self.old).streams
             (Self.look self.new).streams) }
+        ensures given { OnOk result (older self.new ≡ None) }
         ensures ahead { OnOk result (IsAhead (Self.look self.new)) }
         ensures fault { IfErr result (λ fault. EndsUnopened (older self.old) limit most fault (Self.look self.old)
             (Self.look self.new)) }

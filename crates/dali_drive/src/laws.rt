@@ -37,9 +37,9 @@ ghost use Rattle.dali_drive.specs.Followed.{submitted, happenings, muted, IsFoll
 ghost use Rattle.dali_drive.specs.UnitRead.{IsUnitRead, UnitReadBroke};
 ghost use Rattle.dali_write.specs.declared.pace.Pace.{Pace};
 
-/// The journal that a call of `drive_stored` leaves with no older one, by its contract: if it completed, exactly its
-/// trace; if it broke off, whatever a stop may leave of it bears out something that may have happened; and if no journal
-/// was opened, the same records, or what a stop might have left before.
+/// The journal that a call of `drive_stored` leaves if there is no older one, by its contract: if it completed, exactly
+/// its trace; if it broke off, whatever a stop may leave of it bears out something that may have happened; and if no
+/// journal was opened, the same records, or what a stop might have left before.
 pub fn drives_leave_what_happened()
     ensures ended { (limit most : ℕ) (pace : Pace) (orders : List (Contents × ℕ)) (found left : List ℕ)
         (first : Streams) (writer : WriterState) (last : Streams) (begun : IsBegun limit most first)

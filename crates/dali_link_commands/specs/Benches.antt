@@ -1,4 +1,4 @@
--- What a command does at its desk, by how that looks before and after it.
+-- The desk of a command, by how it looks before and after it.
 use Rattle.std.specs.Prelude.{◌≡◌, ◌↔◌, ℕ, Bool, true, List, Option}
 use Rattle.dali_drive.specs.Desks.{Look, LeavesNoMore}
 use Rattle.dali_faults.specs.declared.fault.Status.{Status}

@@ -12,7 +12,7 @@ use Rattle.dali_job.specs.declared.link_command.Required.{Required}
 use Rattle.dali_link_commands.specs.Bare.{TellsEnded}
 use Rattle.dali_link_commands.specs.Told.{IsFaultTold}
 
--- How a command ends that followed a source to its end, and what is reported then: if the source has failed, that; else,
+-- How a command ends that followed a source to its end, and what is reported then: if the source has failed, that; else
 -- if an item was refused, which was reported, it is refused; else it ends as a drive.
 abbrev pub TellsFollowed : Bool → Bool → Required → Outcome → Status → Option (List ℕ) → Option (List ℕ) → Type 0
 TellsFollowed true has_refused required outcome status before after = IsFaultTold (Input File) status before after

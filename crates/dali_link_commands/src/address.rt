@@ -84,7 +84,8 @@ pub fn address<I: Source, L: Sink, S: Store, W: Write>(
 ) -> Status
     requires unfailed { IsUnfailed (⟦<Bench<I, L, S, W> as Desk>⟧.look desk.old).failed }
     ensures answer { let look = ⟦<Bench<I, L, S, W> as Desk>⟧.look in
-        IsAskedAnswer asked (look desk.old) result (look desk.new) × TellsUnwritten result (look desk.new) }
+        IsAskedAnswer asked (look desk.old) result (look desk.new)
+        × TellsUnwritten result (look desk.new) }
 {
     match asked {
         Asked::Run(task) => run(alloc, task, units, None, desk),
@@ -102,8 +103,8 @@ fn run<I: Source, L: Sink, S: Store, W: Write>(
 ) -> Status
     requires unfailed { IsUnfailed (⟦<Bench<I, L, S, W> as Desk>⟧.look desk.old).failed }
     ensures answer { let look = ⟦<Bench<I, L, S, W> as Desk>⟧.look in
-        IsRunAnswer task counted (on_link (look desk.old)) (look desk.old) result (look desk.new) × TellsUnwritten
-        result (look desk.new) }
+        IsRunAnswer task counted (on_link (look desk.old)) (look desk.old) result (look desk.new)
+        × TellsUnwritten result (look desk.new) }
 {
     let ended = address_units(
         task,
@@ -128,7 +129,8 @@ fn count<I: Source, L: Sink, S: Store, W: Write>(
 ) -> Status
     requires unfailed { IsUnfailed (⟦<Bench<I, L, S, W> as Desk>⟧.look desk.old).failed }
     ensures answer { let look = ⟦<Bench<I, L, S, W> as Desk>⟧.look in
-        IsCountAnswer (look desk.old) result (look desk.new) × TellsUnwritten result (look desk.new) }
+        IsCountAnswer (look desk.old) result (look desk.new)
+        × TellsUnwritten result (look desk.new) }
 {
     match count_units(CENSUS_CARE, &mut desk.link_in, &mut desk.link_out) {
         Ok(end) => {

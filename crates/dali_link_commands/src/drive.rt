@@ -38,7 +38,8 @@ pub fn drive_input<R: Read, I: Source, L: Sink, S: Store, W: Write, N: Write + D
     ensures driven { let look = ⟦<Bench<I, L, S, W> as Desk>⟧.look in
         IsReaderAnswer (IsAnswerBehind desk.old.older N.contents task.now.moment task.now.pace task.now.required
         report.old report.new) (report.new ≡ report.old) (look desk.old) result (look desk.new)
-        (state_of R.remaining input.old) (state_of R.remaining input.new) × TellsUnwritten result (look desk.new) }
+        (state_of R.remaining input.old) (state_of R.remaining input.new)
+        × TellsUnwritten result (look desk.new) }
     ensures read { ReadsAtMost orders_limit (state_of R.remaining input.old) (state_of R.remaining input.new) }
     ensures any_moment { LeavesOnly S.moment S.left_since desk.old.journal desk.new.journal
         (LeavesPart order_limit (S.seen desk.old.journal) (S.seen desk.new.journal) (S.may_leave desk.old.journal)) }
@@ -68,7 +69,8 @@ fn drive_orders<I: Source, L: Sink, S: Store, W: Write, N: Write + Drop>(
     requires ready { IsReadyBehind desk.old.older (⟦<Bench<I, L, S, W> as Desk>⟧.look desk.old) }
     ensures answer { let look = ⟦<Bench<I, L, S, W> as Desk>⟧.look in
         IsAnswerBehind desk.old.older N.contents task.now.moment task.now.pace task.now.required report.old report.new
-        orders.now (look desk.old) result (look desk.new) × TellsUnwritten result (look desk.new) }
+        orders.now (look desk.old) result (look desk.new)
+        × TellsUnwritten result (look desk.new) }
     ensures any_moment { LeavesOnly S.moment S.left_since desk.old.journal desk.new.journal
         (LeavesPart order_limit (S.seen desk.old.journal) (S.seen desk.new.journal) (S.may_leave desk.old.journal)) }
 {

@@ -34,7 +34,8 @@ pub fn read_bank<I: Source, L: Sink, S: Store, W: Write>(
     requires ready { (unit ≤ 63) × IsUnfailed (⟦<Bench<I, L, S, W> as Desk>⟧.look desk.old).failed }
     ensures answer { let look = ⟦<Bench<I, L, S, W> as Desk>⟧.look in
         IsReadAnswer unit (LeavesOnly S.moment S.left_since desk.old.journal desk.new.journal) (look desk.old) result
-        (look desk.new) × TellsUnwritten result (look desk.new) }
+        (look desk.new)
+        × TellsUnwritten result (look desk.new) }
 {
     match read_unit(unit, &Places::Bank, &mut desk.link_in, &mut desk.link_out) {
         Ok(Some(bytes)) => {

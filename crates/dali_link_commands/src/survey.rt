@@ -43,8 +43,8 @@ pub fn verify_input<R: Read, I: Source, L: Sink, S: Store, W: Write, N: Write + 
     requires unfailed { IsUnfailed (⟦<Bench<I, L, S, W> as Desk>⟧.look desk.old).failed }
     ensures verified { let look = ⟦<Bench<I, L, S, W> as Desk>⟧.look in
         IsReaderAnswer (IsVerifyAnswer N.contents report.old report.new) (report.new ≡ report.old) (look desk.old)
-        result (look desk.new) (state_of R.remaining input.old) (state_of R.remaining input.new) × TellsUnwritten
-        result (look desk.new) }
+        result (look desk.new) (state_of R.remaining input.old) (state_of R.remaining input.new)
+        × TellsUnwritten result (look desk.new) }
     ensures read { ReadsAtMost orders_limit (state_of R.remaining input.old) (state_of R.remaining input.new) }
 {
     let bytes = match read_input(alloc, input, ORDERS_LIMIT) {
@@ -74,8 +74,8 @@ pub fn verify_units<I: Source, L: Sink, S: Store, W: Write, N: Write + Drop>(
 ) -> Status
     requires unfailed { IsUnfailed (⟦<Bench<I, L, S, W> as Desk>⟧.look desk.old).failed }
     ensures answer { let look = ⟦<Bench<I, L, S, W> as Desk>⟧.look in
-        IsVerifyAnswer N.contents report.old report.new orders.now (look desk.old) result (look desk.new) ×
-        TellsUnwritten result (look desk.new) }
+        IsVerifyAnswer N.contents report.old report.new orders.now (look desk.old) result (look desk.new)
+        × TellsUnwritten result (look desk.new) }
 {
     report.expect(orders);
     let ended = verify_orders(
@@ -123,8 +123,8 @@ pub fn scan<I: Source, L: Sink, S: Store, W: Write>(
     requires short { AllByRecursion (λ address. address ≤ 63) addresses.now }
     requires unfailed { IsUnfailed (⟦<Bench<I, L, S, W> as Desk>⟧.look desk.old).failed }
     ensures answer { let look = ⟦<Bench<I, L, S, W> as Desk>⟧.look in
-        IsScanAnswer sought (asked_addresses addresses.now) (look desk.old) result (look desk.new) × TellsUnwritten
-        result (look desk.new) }
+        IsScanAnswer sought (asked_addresses addresses.now) (look desk.old) result (look desk.new)
+        × TellsUnwritten result (look desk.new) }
 {
     let addresses = asked(addresses);
     match scan_units(

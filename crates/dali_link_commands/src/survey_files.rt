@@ -29,7 +29,8 @@ pub fn verify_file<
     requires unfailed { IsUnfailed (⟦<StdBench<'s, R, I, L, O> as Desk>⟧.look desk.old).failed }
     ensures verified { let look = ⟦<StdBench<'s, R, I, L, O> as Desk>⟧.look in
         IsFileAnswer (IsVerifyAnswer N.contents report.old report.new) (report.new ≡ report.old) (look desk.old)
-        result (look desk.new) × TellsUnwritten result (look desk.new) }
+        result (look desk.new)
+        × TellsUnwritten result (look desk.new) }
 {
     match opened(rt, name) {
         Ok((file, _found)) => {

@@ -66,7 +66,8 @@ def main(arguments):
         faults = [(it.name, fault_of(it, room)) for it in cases]
         faults += [(f"{name} without memory", it.result()) for name, it in runs]
     used = {word for case in cases for word in case.words}
-    inputs = [it.relative_to(ROOT).as_posix() for it in sorted((ROOT / "examples").glob("*.json"))]
+    inputs = [it.relative_to(ROOT).as_posix() for it in sorted((ROOT / "examples").glob("*.json"))
+              if it.name != "orders.schema.json"]
     faults += [(it, None if it in used else "no case runs on it") for it in inputs]
     failed = [(name, fault) for name, fault in faults if fault]
     for name, fault in failed:

@@ -26,6 +26,7 @@ from driven import FIELDS, ROOT, simulated_link  # noqa: E402
 from read_plan import bytes_of  # noqa: E402
 
 TABLE = ROOT / "tools" / "fields.json"
+SCHEMA = ROOT / "examples" / "orders.schema.json"
 ORDERS = 1000
 # The order of all fields, and its bytes by location, which the case `full` has, each written there by hand.
 FULL = json.loads((ROOT / "examples" / "full.json").read_text(encoding="utf-8"))[0]
@@ -49,8 +50,8 @@ def run(words, given=b""):
 
 
 def schema():
-    """Give the schema that the script prints."""
-    return json.loads(subprocess.check_output([ROOT / "scripts" / "orders_schema"], timeout=60))
+    """Give the schema."""
+    return json.loads(SCHEMA.read_text(encoding="utf-8"))
 
 
 def validator():
@@ -186,6 +187,10 @@ class FullTest(BenchTest):
 
 class SchemaTest(BenchTest):
     """The JSON Schema of a file of orders."""
+
+    def test_schema_is_made_of_the_table(self):
+        made = subprocess.check_output([ROOT / "scripts" / "orders_schema"], timeout=60)
+        self.assertEqual(made, SCHEMA.read_bytes())
 
     def test_schema_has_each_key(self):
         self.assertEqual(list(schema()["items"]["properties"]), list(FULL))

@@ -277,10 +277,6 @@ class ArchiveTest(BenchTest):
                          added)
         self.assertEqual((top / "examples" / "label.zpl").read_bytes(), (ROOT / "examples" / "label.zpl").read_bytes())
 
-    def test_archive_has_the_schema_of_orders(self):
-        schema = (unpacked(self.folder) / "examples" / "orders.schema.json").read_text()
-        self.assertEqual(run([ROOT / "scripts" / "orders_schema"]), (0, schema, ""))
-
     def test_archive_tells_a_limit_on_the_length_of_files(self):
         top = unpacked(self.folder)
         for limit, journal, fault in ((0, None, "fault 21 File"), (10, HEADER, "drive fault 1 Journal")):

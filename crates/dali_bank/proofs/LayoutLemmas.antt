@@ -11,9 +11,7 @@ use Rattle.std.proofs.lemmas.List.{take_more, flat_map_more, get_or_past}
 use Rattle.std.proofs.lemmas.List.Concat.{length-flat_map}
 use Rattle.std.proofs.lemmas.List.Sums.{sum_by-le-sum_by}
 use Rattle.dali_bank.specs.declared.field.Field.{Field}
-use Rattle.dali_bank.specs.declared.field.Field.TheVariants.{Gtin, Identification, Year, Week, InputPower, MinDimPower}
-use Rattle.dali_bank.specs.declared.field.Field.TheVariants.{MinVoltage, MaxVoltage, LightOutput, Cri, Cct}
-use Rattle.dali_bank.specs.declared.field.Field.TheVariants.{Distribution, Colour, Luminaire}
+use Rattle.dali_bank.specs.declared.field.Field.TheVariants.{Gtin, Identification}
 use Rattle.dali_bank.specs.Draft.{Drafted, AreFound, found_of, bytes_of, placed_at, updates_of, GivesNumber}
 use Rattle.dali_bank.specs.Layout.{fields, rank_of, row_of, first_of, length_of, SuitsForm}
 use Rattle.dali_bank.specs.Numbers.{big_endian}
@@ -65,71 +63,25 @@ placed_at-writable : (first size : ℕ) (bytes : List ℕ) → ArePlaces first s
 placed_at-writable first size bytes (inl low) few = placed_low first bytes low.0 (omega (arith, low.1, few))
 placed_at-writable first size bytes (inr high) few = placed_high first bytes high.0 (omega (arith, high.1, few))
 
--- ---- the layout, a line for each field
+-- ---- the layout
 
 field_places : (field : Field) → ArePlaces (first_of field) (length_of field)
 field_places Gtin = inl (lit≤ tt, lit≤ tt)
 field_places Identification = inl (lit≤ tt, lit≤ tt)
-field_places Year = inr (lit≤ tt, lit≤ tt)
-field_places Week = inr (lit≤ tt, lit≤ tt)
-field_places InputPower = inr (lit≤ tt, lit≤ tt)
-field_places MinDimPower = inr (lit≤ tt, lit≤ tt)
-field_places MinVoltage = inr (lit≤ tt, lit≤ tt)
-field_places MaxVoltage = inr (lit≤ tt, lit≤ tt)
-field_places LightOutput = inr (lit≤ tt, lit≤ tt)
-field_places Cri = inr (lit≤ tt, lit≤ tt)
-field_places Cct = inr (lit≤ tt, lit≤ tt)
-field_places Distribution = inr (lit≤ tt, lit≤ tt)
-field_places Colour = inr (lit≤ tt, lit≤ tt)
-field_places Luminaire = inr (lit≤ tt, lit≤ tt)
+field_places _ = inr (lit≤ tt, lit≤ tt)
 
-pub rank_within : (field : Field) → rank_of field < 14
+pub rank_within : (field : Field) → rank_of field < length fields
 rank_within Gtin = lit< tt
-rank_within Identification = lit< tt
-rank_within Year = lit< tt
-rank_within Week = lit< tt
-rank_within InputPower = lit< tt
-rank_within MinDimPower = lit< tt
-rank_within MinVoltage = lit< tt
-rank_within MaxVoltage = lit< tt
-rank_within LightOutput = lit< tt
-rank_within Cri = lit< tt
-rank_within Cct = lit< tt
-rank_within Distribution = lit< tt
-rank_within Colour = lit< tt
-rank_within Luminaire = lit< tt
+rank_within _ = lit< tt
 
 rank_place : (field : Field) → get_or fields (rank_of field) Gtin ≡ field
 rank_place Gtin = refl
-rank_place Identification = refl
-rank_place Year = refl
-rank_place Week = refl
-rank_place InputPower = refl
-rank_place MinDimPower = refl
-rank_place MinVoltage = refl
-rank_place MaxVoltage = refl
-rank_place LightOutput = refl
-rank_place Cri = refl
-rank_place Cct = refl
-rank_place Distribution = refl
-rank_place Colour = refl
-rank_place Luminaire = refl
+rank_place _ = refl
 
 pub field_room : (field : Field) → SuitsForm (row_of field).form (row_of field).length
 field_room Gtin = refl
 field_room Identification = refl
-field_room Year = (lit≤ tt, lit< tt)
-field_room Week = (lit≤ tt, lit< tt)
-field_room InputPower = (lit≤ tt, lit< tt)
-field_room MinDimPower = (lit≤ tt, lit< tt)
-field_room MinVoltage = (lit≤ tt, lit< tt)
-field_room MaxVoltage = (lit≤ tt, lit< tt)
-field_room LightOutput = (lit≤ tt, lit< tt)
-field_room Cri = (lit≤ tt, lit< tt)
-field_room Cct = (lit≤ tt, lit< tt)
-field_room Distribution = (lit≤ tt, lit< tt)
-field_room Colour = (lit≤ tt, lit≤ tt)
-field_room Luminaire = (lit≤ tt, lit≤ tt)
+field_room _ = (lit≤ tt, lit≤ tt)
 
 pub same_rank : (one other : Field) → rank_of one ≡ rank_of other → one ≡ other
 same_rank one other same = sym (rank_place one) ∙ ap (λ k. get_or fields k Gtin) same ∙ rank_place other
@@ -139,7 +91,8 @@ all_at P [] k all within = absurd (omega arith)
 all_at P (field ∷ fs) zero all within = all.0
 all_at P (field ∷ fs) (suc k) all within = all_at P fs k all.1 (omega arith)
 
-at_each : (P : Field → Type 0) → AllByRecursion P fields → (field : Field) → P field
+-- what holds of all fields of the list holds of each field
+pub at_each : (P : Field → Type 0) → AllByRecursion P fields → (field : Field) → P field
 at_each P all field = subst P (rank_place field) (all_at P fields (rank_of field) all (rank_within field))
 
 pub all_of : (P : Field → Type 0) (fs : List Field) → ((field : Field) → P field) → AllByRecursion P fs
@@ -170,22 +123,7 @@ FollowFrom from [] = ⊤
 FollowFrom from (field ∷ others) = (from ≤ first_of field) × FollowFrom (first_of field + length_of field) others
 
 fields_follow : FollowFrom 0x03 fields
-fields_follow = (
-  lit≤ tt,
-  (
-    lit≤ tt,
-    (
-      lit≤ tt,
-      (
-        lit≤ tt,
-        (
-          lit≤ tt,
-          (lit≤ tt, (lit≤ tt, (lit≤ tt, (lit≤ tt, (lit≤ tt, (lit≤ tt, (lit≤ tt, (lit≤ tt, (lit≤ tt, tt))))))))),
-        ),
-      ),
-    ),
-  ),
-)
+fields_follow = search arith
 
 -- ---- the updates of a draft
 

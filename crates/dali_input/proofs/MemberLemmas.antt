@@ -1,7 +1,7 @@
 -- Lemmas on the walk over an object's members.
 use Rattle.std.proofs.Common.{slice_index_or, replicate, ◌≡◌, ◌≢◌, ℕ, List, [], ◌∷◌, ◌++◌, Bool, true, false, ◌&&◌}
 use Rattle.std.proofs.Common.{Option, Some, None, option_and_then, option_map, string_bytes, append_assoc}
-use Rattle.std.proofs.Common.{refl, sym, ap, subst, ◌∙◌, MatchOption, Ordering, Less, Equal, Greater, is_eq}
+use Rattle.std.proofs.Common.{length, refl, sym, ap, subst, ◌∙◌, MatchOption, Ordering, Less, Equal, Greater, is_eq}
 use Rattle.std.proofs.lemmas.Map.Text.{is_eq-slice_cmp}
 use Rattle.std.proofs.lemmas.Slice.Eq.{bytes_eq-Decides}
 use Rattle.std.specs.Cmp.Lexicographic.{slice_cmp}
@@ -19,13 +19,11 @@ use Rattle.serde_json.proofs.Views.{Entry, put_last, get_member-put, get_member-
 use Rattle.dali_bank.specs.declared.fault.BankFault.{BankFault}
 use Rattle.dali_bank.specs.declared.fault.BankFault.TheVariants.{Kind}
 use Rattle.dali_bank.specs.declared.field.Field.{Field}
-use Rattle.dali_bank.specs.declared.field.Field.TheVariants.{Gtin, Identification, Year, Week, InputPower, MinDimPower}
-use Rattle.dali_bank.specs.declared.field.Field.TheVariants.{MinVoltage, MaxVoltage, LightOutput, Cri, Cct}
-use Rattle.dali_bank.specs.declared.field.Field.TheVariants.{Distribution, Colour, Luminaire}
+use Rattle.dali_bank.specs.declared.field.Field.TheVariants.{Gtin}
 use Rattle.dali_bank.specs.Draft.{Drafted}
 use Rattle.dali_bank.specs.Faults.{IsValueFault}
 use Rattle.dali_bank.specs.Keys.{key_of}
-use Rattle.dali_bank.specs.Layout.{rank_of}
+use Rattle.dali_bank.specs.Layout.{fields, rank_of}
 use Rattle.dali_input.specs.declared.key.Key.{Key}
 use Rattle.dali_input.specs.declared.key.Key.TheVariants.{Order, Unit, Of}
 use Rattle.dali_input.specs.declared.members.Members.{Members}
@@ -126,24 +124,12 @@ pub record WalkedSoFar (source : Data) (left : List Entry) (members : Members) :
   pub taken : TakenSoFar (members_view done) members
 
 -- before the walk no key has a value
-nothing_taken : (field : Field) → held (slice_index_or (replicate 14 None) (rank_of field) None) ≡ None
+nothing_taken : (field : Field) → held (slice_index_or (replicate (length fields) None) (rank_of field) None) ≡ None
 nothing_taken Gtin = refl
-nothing_taken Identification = refl
-nothing_taken Year = refl
-nothing_taken Week = refl
-nothing_taken InputPower = refl
-nothing_taken MinDimPower = refl
-nothing_taken MinVoltage = refl
-nothing_taken MaxVoltage = refl
-nothing_taken LightOutput = refl
-nothing_taken Cri = refl
-nothing_taken Cct = refl
-nothing_taken Distribution = refl
-nothing_taken Colour = refl
-nothing_taken Luminaire = refl
+nothing_taken _ = refl
 
 abbrev pub no_values : Members
-no_values = record { order = None; unit = None; fields = replicate 14 None; are_known = true }
+no_values = record { order = None; unit = None; fields = replicate (length fields) None; are_known = true }
 
 pub has_none : HasNone no_values
 has_none = record { values = nothing; known = refl }

@@ -1,9 +1,11 @@
 -- Which items the tokens of an array give, and what is held of an item, by hand, on both sides of each rule.
-use Rattle.std.proofs.Common.{◌≡◌, ◌∙◌, refl, sym, ap, true, false, [], ◌∷◌, Some, None, codes, option_map, replicate, arith}
+use Rattle.std.proofs.Common.{◌≡◌, ◌∙◌, refl, sym, ap, true, false, [], ◌∷◌, Some, None, codes, option_map, arith}
+use Rattle.std.proofs.Common.{length, replicate}
 use Rattle.json.specs.Token.{Token}
 use Rattle.json.proofs.Grammar.{value_is}
 use Rattle.serde_json.specs.Data.{Data, null, number, unsigned, array, object, no_items, item, no_members, member}
 use Rattle.serde_json.specs.Read.{converted, of_json}
+use Rattle.dali_bank.specs.Layout.{fields}
 use Rattle.dali_input.specs.declared.key.Key.TheVariants.{Unit}
 use Rattle.dali_input.specs.declared.members.Members.{Members}
 use Rattle.dali_input.specs.declared.shallow.Shallow.TheVariants as shallow
@@ -42,7 +44,7 @@ abbrev seven : Data
 seven = number (unsigned 7)
 
 abbrev held_none : Members
-held_none = record { order = None; unit = None; fields = replicate 14 None; are_known = true }
+held_none = record { order = None; unit = None; fields = replicate (length fields) None; are_known = true }
 
 pub no_member_is_left_out : ¬ AreMembersOf (object (member (codes "unit") seven no_members)) held_none
 no_member_is_left_out = λ are. let clash : None ≡ Some seven = are.values Unit in cc

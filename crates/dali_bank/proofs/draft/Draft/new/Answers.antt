@@ -5,4 +5,4 @@ use Rattle.dali_bank.proofs.draft.Draft.new.Goals as goal
 pub returns-clause-ok : goal.returns-clause-ok
 returns-clause-ok c =
     ap (λ found. record { id = c.args.id; unit = c.args.unit; found = found }) (map-none (λ b. b.items) c.default.result
-    14 c.default.ensures.long (λ i within. c.default.ensures.at i None within))
+    _ c.default.ensures.long (λ i within. c.default.ensures.at i None within))

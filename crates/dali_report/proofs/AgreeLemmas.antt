@@ -1,20 +1,18 @@
 -- The fields that are reported agree with what was found.
-use Rattle.std.proofs.Common.{◌≡◌, ◌<◌, ◌≤◌, ◌+◌, ◌-◌, ◌∙◌, ◌⊎◌, inl, inr, refl, sym, ap, true≢false, ℕ, Bool, true, false, cond}
-use Rattle.std.proofs.Common.{List, [], ◌∷◌, ◌++◌, drop, length, map, get_or, slice_set, arith}
-use Rattle.std.specs.Prelude.{◌≢◌, nat_lt}
+use Rattle.std.proofs.Common.{◌≡◌, ◌<◌, ◌≤◌, ◌+◌, ◌-◌, ◌∙◌, inl, inr, refl, sym, ap, true≢false, ℕ, Bool, true, false, cond}
+use Rattle.std.proofs.Common.{List, [], ◌∷◌, ◌++◌, drop, length, map, get_or, slice_set, take, arith}
+use Rattle.std.specs.Prelude.{◌≢◌, ⊤}
 use Rattle.std.specs.List.{AllByRecursion, filter}
 use Rattle.std.specs.Str.{bytes_eq}
 use Rattle.std.proofs.lemmas.List.{get_or-drop, get_or-set_other, get_or-set_same, get_or-take, length-set}
-use Rattle.std.proofs.lemmas.Bool.{le-ltb, lt-ltb, ltb-false, ltb-true}
+use Rattle.std.proofs.lemmas.Bool.{cases_lt, le-ltb, lt-ltb}
 use Rattle.std.proofs.lemmas.Slice.Eq.{bytes_eq-Decides}
 use Rattle.dali_bank.specs.declared.field.Field.{Field}
-use Rattle.dali_bank.specs.declared.field.Field.TheVariants.{Gtin, Identification, Year, Week, InputPower, MinDimPower}
-use Rattle.dali_bank.specs.declared.field.Field.TheVariants.{MinVoltage, MaxVoltage, LightOutput, Cri, Cct}
-use Rattle.dali_bank.specs.declared.field.Field.TheVariants.{Distribution, Colour, Luminaire}
 use Rattle.dali_bank.specs.Blank.{blank_bank}
 use Rattle.dali_bank.specs.Layout.{fields, first_of, length_of}
 use Rattle.dali_bank.specs.Order.{AreUpdates, Contents, IsWritable, RisesAbove}
 use Rattle.dali_bank.specs.Shown.{part_of}
+use Rattle.dali_bank.proofs.LayoutLemmas.{at_each}
 use Rattle.dali_write.specs.Plans.{greatest}
 use Rattle.dali_read.specs.declared.finding.Finding.TheVariants.{Same, Other}
 use Rattle.dali_read.specs.Findings.{IsFirstOther, IsFound, own_bytes, told_bytes}
@@ -140,59 +138,28 @@ writable_middle (first ∷ before) update behind all = writable_middle before up
 abbrev Covers : Field → ℕ → Type 0
 Covers field location = (first_of field ≤ location) × (location < first_of field + length_of field)
 
-lt_or_le : (one two : ℕ) → (one < two) ⊎ (two ≤ one)
-lt_or_le one two = by (nat_lt one two) refl where
-  by : (below : Bool) → nat_lt one two ≡ below → (one < two) ⊎ (two ≤ one)
-  by true is = inl (ltb-true one two is)
-  by false is = inr (ltb-false one two is)
+-- each field begins where the one before it ends
+abbrev Adjoin : ℕ → List Field → Type 0
+Adjoin from [] = ⊤
+Adjoin from (field ∷ some) = (first_of field ≡ from) × Adjoin (from + length_of field) some
 
-early_field : (l : ℕ) → 0x13 ≤ l → l < 0x19 → (field : Field) × Covers field l
-early_field l low high =
-    elim (lt_or_le l 0x14) [
-      | inl below ↦ (Year, (low, below))
-      | inr week ↦ elim (lt_or_le l 0x15) [
-        | inl below ↦ (Week, (week, below))
-        | inr power ↦ elim (lt_or_le l 0x17) [
-          | inl below ↦ (InputPower, (power, below))
-          | inr least ↦ (MinDimPower, (least, high))
-        ]
-      ]
-    ]
+-- where the last of them ends
+abbrev end_of : ℕ → List Field → ℕ
+end_of from [] = from
+end_of from (field ∷ some) = end_of (from + length_of field) some
 
-middle_field : (l : ℕ) → 0x19 ≤ l → l < 0x21 → (field : Field) × Covers field l
-middle_field l low high =
-    elim (lt_or_le l 0x1B) [
-      | inl below ↦ (MinVoltage, (low, below))
-      | inr most ↦ elim (lt_or_le l 0x1D) [
-        | inl below ↦ (MaxVoltage, (most, below))
-        | inr light ↦ elim (lt_or_le l 0x20) [
-          | inl below ↦ (LightOutput, (light, below))
-          | inr cri ↦ (Cri, (cri, high))
-        ]
-      ]
-    ]
+covered : (l from : ℕ) (some : List Field) → Adjoin from some → from ≤ l → l < end_of from some
+    → (field : Field) × Covers field l
+covered l from [] adjoin low high = absurd (omega (arith, low, high))
+covered l from (field ∷ some) adjoin low high = elim (cases_lt l (from + length_of field)) [
+  | inl below ↦ (field, rw adjoin.0 (low, below))
+  | inr above ↦ covered l (from + length_of field) some adjoin.1 above high
+]
 
-late_field : (l : ℕ) → 0x19 ≤ l → l ≤ 0x77 → (field : Field) × Covers field l
-late_field l low high =
-    elim (lt_or_le l 0x21) [
-      | inl below ↦ middle_field l low below
-      | inr cct ↦ elim (lt_or_le l 0x23) [
-        | inl below ↦ (Cct, (cct, below))
-        | inr way ↦ elim (lt_or_le l 0x24) [
-          | inl below ↦ (Distribution, (way, below))
-          | inr colour ↦ elim (lt_or_le l 0x3C) [
-            | inl below ↦ (Colour, (colour, below))
-            | inr name ↦ (Luminaire, (name, omega (arith, high)))
-          ]
-        ]
-      ]
-    ]
-
+-- the fields before the content format, and those after it
 field_at : (location : ℕ) → IsWritable location → (field : Field) × Covers field location
-field_at l (inl (low, high)) =
-    elim (lt_or_le l 0x09) [ inl b ↦ (Gtin, (low, b)) | inr a ↦ (Identification, (a, omega arith)) ]
-field_at l (inr (low, high)) =
-    elim (lt_or_le l 0x19) [ inl below ↦ early_field l low below | inr above ↦ late_field l above high ]
+field_at l (inl (low, high)) = covered l 0x03 (take 2 fields) (search arith) low (omega (arith, high))
+field_at l (inr (low, high)) = covered l 0x13 (drop 2 fields) (search arith) low (omega (arith, high))
 
 part_at : (field : Field) (bank : List ℕ) (location : ℕ) → Covers field location
     → get_or (part_of field bank) (location - first_of field) 0 ≡ get_or bank location 0
@@ -224,22 +191,6 @@ none_passes test (field ∷ some) none = by (test field) refl none (none_passes 
   by true is none rest = cc
   by false is none rest = (is, rest none)
 
-each : (P : Field → Type 0) → AllByRecursion P fields → (field : Field) → P field
-each P all Gtin = all.0
-each P all Identification = all.1.0
-each P all Year = all.1.1.0
-each P all Week = all.1.1.1.0
-each P all InputPower = all.1.1.1.1.0
-each P all MinDimPower = all.1.1.1.1.1.0
-each P all MinVoltage = all.1.1.1.1.1.1.0
-each P all MaxVoltage = all.1.1.1.1.1.1.1.0
-each P all LightOutput = all.1.1.1.1.1.1.1.1.0
-each P all Cri = all.1.1.1.1.1.1.1.1.1.0
-each P all Cct = all.1.1.1.1.1.1.1.1.1.1.0
-each P all Distribution = all.1.1.1.1.1.1.1.1.1.1.1.0
-each P all Colour = all.1.1.1.1.1.1.1.1.1.1.1.1.0
-each P all Luminaire = all.1.1.1.1.1.1.1.1.1.1.1.1.1.0
-
 some_between : (held wanted : List ℕ) (location : ℕ) (found : List Difference) → IsWritable location
     → get_or held location 0 ≢ get_or wanted location 0 → AreDifferences held wanted found → found ≢ []
 some_between held wanted location found writable other are = λ none.
@@ -248,7 +199,7 @@ some_between held wanted location found writable other are = λ none.
     let empty : filter (differs held wanted) fields ≡ [] =
     sym are.all ∙ ap (λ (l : List Difference). map (λ one. one.field) l) none in
     let fails : differs held wanted field.0 ≡ false =
-    each (λ one. differs held wanted one ≡ false) (none_passes (differs held wanted) fields empty) field.0 in
+    at_each (λ one. differs held wanted one ≡ false) (none_passes (differs held wanted) fields empty) field.0 in
     true≢false (sym passes ∙ fails)
 
 inside : (location : ℕ) → IsWritable location → location < length blank_bank

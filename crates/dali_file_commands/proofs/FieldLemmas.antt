@@ -1,98 +1,71 @@
 -- Lemmas on the lines of fields, and on what a field takes.
-use Rattle.std.proofs.Common.{◌≡◌, ℕ, ◌+◌, ◌*◌, ◌<◌, ◌≤◌, List, [], ◌∷◌, ◌++◌, ◌-◌, Option, ap, arith, codes, drop, get_or, length, refl, replicate, take}
-use Rattle.std.specs.List.{flat_map}
+use Rattle.std.proofs.Common.{◌≡◌, ℕ, ◌^◌, ◌<◌, ◌≤◌, List, [], ◌∷◌, ◌++◌, ◌-◌, Option, ap, arith, codes, drop}
+use Rattle.std.proofs.Common.{get_or, length, lit≤, refl, replicate, suc, take, zero}
+use Rattle.std.specs.List.{AllByRecursion, flat_map}
+use Rattle.std.proofs.lemmas.List.{length-replicate}
 use Rattle.std.specs.Fmt.{digits}
 use Rattle.std.proofs.Common.{take_all}
 use Rattle.json.specs.Print.{escape_byte}
 use Rattle.serde_json.specs.Written.{compact_text}
 use Rattle.dali_bank.specs.declared.field.Field.{Field}
-use Rattle.dali_bank.specs.declared.field.Field.TheVariants.{Gtin, Identification, Year, Week, InputPower, MinDimPower}
-use Rattle.dali_bank.specs.declared.field.Field.TheVariants.{MinVoltage, MaxVoltage, LightOutput, Cri, Cct}
-use Rattle.dali_bank.specs.declared.field.Field.TheVariants.{Distribution, Colour, Luminaire}
+use Rattle.dali_bank.specs.declared.field.Field.TheVariants.{Gtin, Identification, Colour, Luminaire}
 use Rattle.dali_bank.specs.Keys.{key_of}
 use Rattle.dali_bank.specs.Layout.{first_of, length_of}
 use Rattle.dali_bank.specs.Numbers.{SpellsNumber}
-use Rattle.dali_bank.specs.Spelling.{IsText}
+use Rattle.dali_bank.specs.Spelling.{IsText, IsTextByte}
+use Rattle.dali_bank.proofs.NumberLemmas.{last_bytes}
 use Rattle.dali_text.specs.Digits.{bytes_digits}
-use Rattle.dali_file_commands.specs.FieldLines.{FormsAreOfLayout, IsFormOf, field_text, form_of, form_word, help_of}
+use Rattle.dali_file_commands.specs.FieldLines.{FormsAreOfLayout, field_text, form_of, form_word, help_of}
 use Rattle.dali_file_commands.specs.FieldLines.{least_of, lines_text, most_of, place_text, range_text, unit_data}
 use Rattle.dali_file_commands.specs.FieldLines.{words_text}
 use Rattle.dali_file_commands.specs.declared.fields.Form.{Form}
 
 -- ---- what a field takes
 
-one_byte : (n : ℕ) → n < 256 → SpellsNumber 1 n (n ∷ [])
-one_byte n below = record { sized = refl; in_range = (below, tt); adds_up = omega arith }
+-- some bytes stand for a number of a range
+abbrev IsSpelled : ℕ → ℕ → ℕ → ℕ → Type 0
+IsSpelled size least most n = (bytes : List ℕ) × ((least ≤ n) × (n ≤ most) × SpellsNumber size n bytes)
 
-two_bytes : (first second n : ℕ) → first < 256 → second < 256 → first * 256 + second ≡ n
-    → SpellsNumber 2 n (first ∷ second ∷ [])
-two_bytes first second n below below_too is =
-    record { sized = refl; in_range = (below, (below_too, tt)); adds_up = omega (arith, is) }
+-- a range that the bytes have room for
+numbers : (size least most : ℕ) → size ≤ 8 → least ≤ most → most < 256 ^ size → most < 2 ^ 64
+    → IsSpelled size least most least × IsSpelled size least most most
+    × ((n : ℕ) → IsSpelled size least most n → (least ≤ n) × (n ≤ most))
+numbers size least most few rises room fits = (
+  (_, (omega arith, rises, last_bytes size least few (omega (arith, room, rises)) (omega (arith, rises, fits)))),
+  (_, (rises, omega arith, last_bytes size most few room fits)),
+  λ n has. (has.1.0, has.1.1),
+)
 
-three_bytes : (first second third n : ℕ) → first < 256 → second < 256 → third < 256
-    → first * 65536 + (second * 256 + third) ≡ n → SpellsNumber 3 n (first ∷ second ∷ third ∷ [])
-three_bytes first second third n low low_too low_as_well is =
-    record { sized = refl; in_range = (low, (low_too, (low_as_well, tt))); adds_up = omega (arith, is) }
+-- some bytes stand for a text
+abbrev IsLaid : ℕ → List ℕ → Type 0
+IsLaid size s = (bytes : List ℕ) × (IsText size s × (bytes ≡ s ++ replicate (size - length s) 0))
+
+letters : (count : ℕ) → AllByRecursion IsTextByte (replicate count 0x41)
+letters zero = tt
+letters (suc count) = ((lit≤ tt, lit≤ tt), letters count)
 
 short_text : (size : ℕ) → 1 ≤ size → IsText size (codes "A")
-short_text size some = record { some = omega arith; few = some; characters = ((omega arith, omega arith), tt) }
+short_text size some = record { some = omega arith; few = some; characters = letters 1 }
 
--- from 0 to 65534, in two bytes
-words : IsFormOf InputPower (form_of InputPower)
-words = (
-  (_, (omega arith, omega arith, two_bytes 0 0 0 (omega arith) (omega arith) refl)),
-  (_, (omega arith, omega arith, two_bytes 0xFF 0xFE 65534 (omega arith) (omega arith) refl)),
-  λ n has. (has.1.0, has.1.1),
+long_text : (size : ℕ) → 1 ≤ size → IsText size (replicate size 0x41)
+long_text size some =
+    record { some = rw length-replicate some; few = rw length-replicate (omega arith); characters = letters size }
+
+texts : (size : ℕ) → 1 ≤ size → IsLaid size (codes "A") × IsLaid size (replicate size 0x41)
+    × ((s : List ℕ) → IsLaid size s → (1 ≤ length s) × (length s ≤ size))
+texts size some = (
+  (_, (short_text size some, refl)),
+  (_, (long_text size some, refl)),
+  λ s has. (has.1.0.some, has.1.0.few),
 )
 
 -- the form of each field is that of the layout
 pub form_is : FormsAreOfLayout
 form_is Gtin = λ s. tt
 form_is Identification = λ s. tt
-form_is Year = (
-  (_, (omega arith, omega arith, one_byte 0 (omega arith))),
-  (_, (omega arith, omega arith, one_byte 99 (omega arith))),
-  λ n has. (has.1.0, has.1.1),
-)
-form_is Week = (
-  (_, (omega arith, omega arith, one_byte 1 (omega arith))),
-  (_, (omega arith, omega arith, one_byte 53 (omega arith))),
-  λ n has. (has.1.0, has.1.1),
-)
-form_is InputPower = words
-form_is MinDimPower = words
-form_is MinVoltage = words
-form_is MaxVoltage = words
-form_is LightOutput = (
-  (_, (omega arith, omega arith, three_bytes 0 0 0 0 (omega arith) (omega arith) (omega arith) refl)),
-  (_, (omega arith, omega arith, three_bytes 0xFF 0xFF 0xFE 16777214 (omega arith) (omega arith) (omega arith) refl)),
-  λ n has. (has.1.0, has.1.1),
-)
-form_is Cri = (
-  (_, (omega arith, omega arith, one_byte 0 (omega arith))),
-  (_, (omega arith, omega arith, one_byte 100 (omega arith))),
-  λ n has. (has.1.0, has.1.1),
-)
-form_is Cct = (
-  (_, (omega arith, omega arith, two_bytes 0 0 0 (omega arith) (omega arith) refl)),
-  (_, (omega arith, omega arith, two_bytes 0xFF 0xFD 65533 (omega arith) (omega arith) refl)),
-  λ n has. (has.1.0, has.1.1),
-)
-form_is Distribution = (
-  (_, (omega arith, omega arith, one_byte 0 (omega arith))),
-  (_, (omega arith, omega arith, one_byte 254 (omega arith))),
-  λ n has. (has.1.0, has.1.1),
-)
-form_is Colour = (
-  (_, (short_text 24 (omega arith), refl)),
-  (_, (record { some = omega arith; few = omega arith; characters = search arith }, refl)),
-  λ s has. (has.1.0.some, has.1.0.few),
-)
-form_is Luminaire = (
-  (_, (short_text 60 (omega arith), refl)),
-  (_, (record { some = omega arith; few = omega arith; characters = search arith }, refl)),
-  λ s has. (has.1.0.some, has.1.0.few),
-)
+form_is Colour = texts _ (lit≤ tt)
+form_is Luminaire = texts _ (lit≤ tt)
+form_is _ = numbers _ _ _ (lit≤ tt) (lit≤ tt) (lit≤ tt) (lit≤ tt)
 
 -- ---- a field's line
 
@@ -106,19 +79,7 @@ ArePieces field = place_text (length_of field) (first_of field)
 pieces_are : (field : Field) → ArePieces field
 unfolding escape_byte digits
 pieces_are Gtin = refl
-pieces_are Identification = refl
-pieces_are Year = refl
-pieces_are Week = refl
-pieces_are InputPower = refl
-pieces_are MinDimPower = refl
-pieces_are MinVoltage = refl
-pieces_are MaxVoltage = refl
-pieces_are LightOutput = refl
-pieces_are Cri = refl
-pieces_are Cct = refl
-pieces_are Distribution = refl
-pieces_are Colour = refl
-pieces_are Luminaire = refl
+pieces_are _ = refl
 
 -- what was written is the line, by what each piece is of
 pub pieces_told : (field : Field) (bytes first : ℕ) (form : Form) (word help key unit unknown : List ℕ)

@@ -162,16 +162,16 @@ impl fmt::Display for OrNull {
     }
 }
 
-// The values that a field takes.
+/// The values that a field takes.
 #[derive(Clone, Copy)]
-enum Form {
-    // The digits of a GTIN.
+pub(crate) enum Form {
+    /// The digits of a GTIN.
     Gtin,
-    // Sixteen hexadecimal digits.
+    /// Sixteen hexadecimal digits.
     Identification,
-    // A number from the least to the most.
+    /// A number from the least to the most.
     Number { least: u64, most: u64 },
-    // A text of one character to the most.
+    /// A text of one character to the most.
     Text { most: u64 },
 }
 
@@ -179,8 +179,8 @@ impl Form {
     ghost use Rattle.std.specs.Prelude.{◌≡◌};
     ghost use Rattle.dali_file_commands.specs.FieldLines.{form_of, form_word, least_of, most_of};
 
-    // The form of this field.
-    fn of(field: Field) -> Form
+    /// The form of this field.
+    pub(crate) fn of(field: Field) -> Form
         ensures { result ≡ form_of field }
     {
         match field {
@@ -264,9 +264,9 @@ fn help_of(field: Field) -> &'static str
     }
 }
 
-// The unit of a field's number as JSON, or null.
+/// The unit of a field's number as JSON, or null.
 #[tactic(auto, unfolding(json::specs::Print::escape_byte))]
-fn unit_of(field: Field) -> &'static str
+pub(crate) fn unit_of(field: Field) -> &'static str
     ensures { result.now ≡ compact_text (unit_data field) }
 {
     match field {

@@ -8,6 +8,7 @@ mod accepted_note;
 mod bank_note;
 mod described;
 mod failure;
+mod field_rule;
 mod first_lines;
 mod firsts;
 mod flaw;

@@ -1,3 +1,4 @@
+use crate::fields::Form;
 use dali_bank::Field;
 use dali_text::Letter;
 use std::fmt;
@@ -11,12 +12,11 @@ pub(crate) struct Flaw<'a> {
 
 impl fmt::Display for Flaw<'_> {
     fn fmt<W: fmt::Write>(&self, f: &mut fmt::Formatter<W>) -> fmt::Result {
-        match self.field {
-            Field::Gtin => tell_gtin(f, self.text),
-            Field::Identification => tell_digits(f, self.text),
-            Field::Colour => tell_text(f, self.text, 24),
-            Field::Luminaire => tell_text(f, self.text, 60),
-            _ => Ok(()),
+        match Form::of(self.field) {
+            Form::Gtin => tell_gtin(f, self.text),
+            Form::Identification => tell_digits(f, self.text),
+            Form::Number { .. } => Ok(()),
+            Form::Text { most } => tell_text(f, self.text, most as usize),
         }
     }
 }

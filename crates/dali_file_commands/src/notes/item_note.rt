@@ -1,4 +1,5 @@
 use crate::notes::described::Described;
+use crate::notes::field_rule::FieldRule;
 use crate::notes::flaw::Flaw;
 use crate::notes::near_key::near_key;
 use crate::notes::note::Note;
@@ -98,7 +99,7 @@ fn note_field(note: &mut Note, field: Field, value: Option<Shallow<'_>>) {
     if field_fault(field, given).is_none() {
         return;
     }
-    let (key, found, rule) = (field.key(), Described(value), rule_of(field));
+    let (key, found, rule) = (field.key(), Described(value), FieldRule(field));
     match given {
         Shallow::Text(text) => {
             let flaw = Flaw { field, text };
@@ -131,25 +132,5 @@ fn note_whole(note: &mut Note, members: &Members<'_>, fault: ItemFault) {
             note.add("no field is given, and an order has one at least, as gtin or year")
         }
         _ => {}
-    }
-}
-
-// The values that a field takes.
-fn rule_of(field: Field) -> &'static str {
-    match field {
-        Field::Gtin => "a string of 8, 12, 13 or 14 digits, the last its check digit, or null",
-        Field::Identification => "a string of 16 hexadecimal digits, or null",
-        Field::Year => "a whole number from 0 to 99, or null",
-        Field::Week => "a whole number from 1 to 53, or null",
-        Field::InputPower | Field::MinDimPower =>
-            "a whole number of watts from 0 to 65534, or null",
-        Field::MinVoltage | Field::MaxVoltage => "a whole number of volts from 0 to 65534, or null",
-        Field::LightOutput => "a whole number of lumens from 0 to 16777214, or null",
-        Field::Cri => "a whole number from 0 to 100, or null",
-        Field::Cct => "a whole number of kelvins from 0 to 65533, or null",
-        Field::Distribution => "a whole number from 0 to 254, or null",
-        Field::Colour => "a string of 1 to 24 characters, each from space to ~ in ASCII, or null",
-        Field::Luminaire =>
-            "a string of 1 to 60 characters, each from space to ~ in ASCII, or null",
     }
 }

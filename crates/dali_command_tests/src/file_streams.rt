@@ -113,6 +113,7 @@ counts 39 of 39 orders 1 standing idle
 // The first 5 bytes of a bank.
 const BANK: &[u8] = b"77FFFF\n03A4";
 
+// The first lines that `show` writes.
 const BANK_TOLD: &[u8] = b"\
 last 77
 indicator FF
@@ -120,21 +121,9 @@ lock FF
 gtin absent
 identification absent
 format absent
-year absent
-week absent
-input_power absent
-min_dim_power absent
-min_voltage absent
-max_voltage absent
-light_output absent
-cri absent
-cct absent
-distribution absent
-colour absent
-luminaire absent
 ";
 
-// Commands, inputs, whether these are good, and what is written of them.
+// Commands, inputs, and what is written of them, or begins with it.
 static WRITTEN: [(Command, &[u8], &[u8]); 10] = [
     (Command::Check, ORDER, ORDER_TOLD),
     (Command::Check, b"[", b"fault 11 Json\n"),
@@ -173,7 +162,8 @@ fn is_cut(alloc: Global, command: Command, input: &[u8], text: &[u8]) -> bool {
     does(alloc, command, &mut reader, room, Status::Unwritten, text)
 }
 
-// The writer fails at each place of what is written, and at the flush after it. Nothing more is written then.
+// The writer fails at each place of what is written, and at the flush after it, or amid more lines. Nothing more is
+// written then.
 fn fails_to_write(alloc: Global, command: Command, input: &[u8], text: &[u8]) -> Result<(), Fail> {
     for room in 0..=text.len() {
         let is_so = is_cut(alloc, command, input, &text[..room]);

@@ -1,4 +1,5 @@
-// Values at the edges of their fields. The bytes of values amid them are in examples/check.cases.
+// Values of each form at the edges of a field. The bytes of all fields are in examples/check.cases, and their ranges
+// are tried by tests/test_fields.py.
 use dali_bank::{BLANK, BankFault, Draft, Field, Order, Shown, Value, read_field};
 use dali_shared_tests::expect_that;
 use std::test::Fail;
@@ -22,8 +23,9 @@ fn has_bytes(updates: &[(u8, u8)], bytes: &[u8]) -> bool {
     updates.len() == bytes.len()
 }
 
-// GTINs with few digits or leading zeros, an identification in digits of either case, and the most of each number.
-static VALUES: [(Field, Value<'static>, &[u8]); 18] = [
+// GTINs with few digits or leading zeros, an identification in digits of either case, and numbers of one to three
+// bytes.
+static VALUES: [(Field, Value<'static>, &[u8]); 10] = [
     (
         Field::Gtin,
         Value::Digits("73513537"),
@@ -49,23 +51,15 @@ static VALUES: [(Field, Value<'static>, &[u8]); 18] = [
         Value::Hex("0123456789aBcDeF"),
         &[0x01, 0x23, 0x45, 0x67, 0x89, 0xab, 0xcd, 0xef],
     ),
-    (Field::Year, Value::Number(0), &[0x00]),
-    (Field::Year, Value::Number(99), &[0x63]),
     (Field::Week, Value::Number(1), &[0x01]),
     (Field::Week, Value::Number(53), &[0x35]),
-    (Field::InputPower, Value::Number(65534), &[0xff, 0xfe]),
-    (Field::MinDimPower, Value::Number(65534), &[0xff, 0xfe]),
-    (Field::MinVoltage, Value::Number(65534), &[0xff, 0xfe]),
-    (Field::MaxVoltage, Value::Number(65534), &[0xff, 0xfe]),
     (Field::LightOutput, Value::Number(0), &[0x00, 0x00, 0x00]),
     (
         Field::LightOutput,
         Value::Number(16777214),
         &[0xff, 0xff, 0xfe],
     ),
-    (Field::Cri, Value::Number(100), &[0x64]),
     (Field::Cct, Value::Number(65533), &[0xff, 0xfd]),
-    (Field::Distribution, Value::Number(254), &[0xfe]),
 ];
 
 #[test]
@@ -79,21 +73,15 @@ fn values_and_their_bytes(_rt: HostRuntime) -> Result<(), Fail> {
 
 // Numbers past their range, texts that are no GTIN and no identification, and texts with other characters or one too
 // many.
-static REFUSED: [(Field, Value<'static>, BankFault); 24] = [
+static REFUSED: [(Field, Value<'static>, BankFault); 18] = [
     (Field::Year, Value::Number(u64::MAX), BankFault::Range),
     (Field::Week, Value::Number(0), BankFault::Range),
-    (Field::InputPower, Value::Number(65535), BankFault::Range),
-    (Field::MinDimPower, Value::Number(65535), BankFault::Range),
-    (Field::MinVoltage, Value::Number(65535), BankFault::Range),
-    (Field::MaxVoltage, Value::Number(65535), BankFault::Range),
     (
         Field::LightOutput,
         Value::Number(16777215),
         BankFault::Range,
     ),
-    (Field::Cri, Value::Number(101), BankFault::Range),
     (Field::Cct, Value::Number(65534), BankFault::Range),
-    (Field::Distribution, Value::Number(255), BankFault::Range),
     (Field::Gtin, Value::Digits("0000000"), BankFault::Gtin),
     (Field::Gtin, Value::Digits("000000000"), BankFault::Gtin),
     (Field::Gtin, Value::Digits("00000000000"), BankFault::Gtin),

@@ -101,13 +101,13 @@ class DayStorm(Storm):
         assert status == 0 or is_told or seconds is not None or self.server, (status, told)
 
     def repeat(self):
-        """Repeat an order that came to no good end, or was cancelled, and break that off now and then."""
+        """Repeat an order that came to no good end, or was cancelled, and once one was, break that off now and then."""
         found = self.bench.rows("select number from bench_orders where state in ('ended', 'cancelled') and"
                                 " (code is null or code <> 0)")
         if not found:
             return
         number = str(self.chance.choice(found)[0])
-        seconds = self.chance.choice((None, self.chance.uniform(0, 0.3)))
+        seconds = self.chance.choice((None, self.chance.uniform(0, 0.3))) if self.counts["repeated"] else None
         status, output, told = self.ended("again", number, seconds=seconds)
         self.counts["repeated"] += f" repeats {number}" in output
         assert status == 0 or "was repeated by order" in told or seconds is not None or self.server, (status, told)

@@ -313,7 +313,8 @@ class StoreTest(BenchTest):
         copy = self.folder / "copy"
         shutil.copytree(place / "tools", copy / "tools")
         shutil.copy(PROGRAM, copy / "line_computer")
-        ended = subprocess.run(["/usr/bin/env", "python3" if bench.python == "python3" else bench.python,
+        # A Python that anybody may run, and not one in somebody's home.
+        ended = subprocess.run(["/usr/bin/env", "PATH=/usr/local/bin:/usr/bin:/bin", "python3",
                                 copy / "line_computer", "status", "--store", bench.store], capture_output=True,
                                text=True, user=NOBODY, group=NOBODY, extra_groups=[], cwd="/", check=False)
         self.assertEqual((ended.returncode, ended.stderr),

@@ -1,4 +1,4 @@
-ghost use Rattle.std.specs.Prelude.{◌≡◌, Some};
+ghost use Rattle.std.specs.Prelude.{◌≡◌, ◌≤◌, length};
 
 use std::error::Error;
 use std::fmt;
@@ -25,13 +25,30 @@ pub enum BankFault {
 }
 
 impl BankFault {
-    ghost use Rattle.dali_bank.specs.Faults.{number_of};
+    ghost use Rattle.dali_bank.specs.Faults.{name_of, number_of};
 
     /// The fault's number.
     pub fn number(&self) -> u8
         ensures { result ≡ number_of self.now }
     {
         *self as u8
+    }
+
+    /// The fault's name, of at most 8 characters.
+    pub fn name(&self) -> &'static str
+        ensures name { result.now ≡ name_of self.now }
+        ensures short { length result.now ≤ 8 }
+    {
+        match self {
+            BankFault::Unit => "Unit",
+            BankFault::Kind => "Kind",
+            BankFault::Range => "Range",
+            BankFault::Gtin => "Gtin",
+            BankFault::Text => "Text",
+            BankFault::Twice => "Twice",
+            BankFault::Voltage => "Voltage",
+            BankFault::Empty => "Empty",
+        }
     }
 }
 
@@ -42,16 +59,7 @@ impl fmt::Display for BankFault {
     ghost output = { λ fault. Some (name_of fault) };
 
     fn fmt<W: fmt::Write>(&self, f: &mut fmt::Formatter<W>) -> fmt::Result {
-        f.write_str(match self {
-            BankFault::Unit => "Unit",
-            BankFault::Kind => "Kind",
-            BankFault::Range => "Range",
-            BankFault::Gtin => "Gtin",
-            BankFault::Text => "Text",
-            BankFault::Twice => "Twice",
-            BankFault::Voltage => "Voltage",
-            BankFault::Empty => "Empty",
-        })
+        f.write_str(self.name())
     }
 }
 

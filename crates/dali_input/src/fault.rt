@@ -1,4 +1,4 @@
-ghost use Rattle.std.specs.Prelude.{◌≡◌};
+ghost use Rattle.std.specs.Prelude.{◌≡◌, ◌≤◌, length};
 
 use std::alloc::{AllocError, AllocFailed};
 use std::error::Error;
@@ -22,13 +22,28 @@ pub enum InputFault {
 }
 
 impl InputFault {
-    ghost use Rattle.dali_input.specs.Faults.{number_of};
+    ghost use Rattle.dali_input.specs.Faults.{name_of, number_of};
 
     /// The fault's number.
     pub fn number(&self) -> u8
         ensures { result ≡ number_of self.now }
     {
         *self as u8
+    }
+
+    /// The fault's name, of at most 8 characters.
+    pub fn name(&self) -> &'static str
+        ensures name { result.now ≡ name_of self.now }
+        ensures short { length result.now ≤ 8 }
+    {
+        match self {
+            InputFault::Json => "Json",
+            InputFault::Document => "Document",
+            InputFault::TooBig => "TooBig",
+            InputFault::Hex => "Hex",
+            InputFault::Memory => "Memory",
+            InputFault::File => "File",
+        }
     }
 }
 
@@ -39,14 +54,7 @@ impl fmt::Display for InputFault {
     ghost output = { λ fault. Some (name_of fault) };
 
     fn fmt<W: fmt::Write>(&self, f: &mut fmt::Formatter<W>) -> fmt::Result {
-        f.write_str(match self {
-            InputFault::Json => "Json",
-            InputFault::Document => "Document",
-            InputFault::TooBig => "TooBig",
-            InputFault::Hex => "Hex",
-            InputFault::Memory => "Memory",
-            InputFault::File => "File",
-        })
+        f.write_str(self.name())
     }
 }
 

@@ -1,4 +1,5 @@
-ghost use Rattle.std.specs.Prelude.{◌≡◌, Some, None, IfOk, IfErr, IfSome, IfNone, OnOk, option_map, option_and_then};
+ghost use Rattle.std.specs.Prelude.{◌≡◌, ◌≤◌, Some, None, IfOk, IfErr, IfSome, IfNone, OnOk, length, option_map};
+ghost use Rattle.std.specs.Prelude.{option_and_then};
 ghost use Rattle.serde_json.specs.Data.{Data};
 ghost use Rattle.serde_json.specs.Find.{as_number, as_u64};
 ghost use Rattle.serde_json.specs.View.{view};
@@ -29,7 +30,7 @@ pub enum ItemFault {
 }
 
 impl ItemFault {
-    ghost use Rattle.dali_input.specs.Faults.{item_number_of};
+    ghost use Rattle.dali_input.specs.Faults.{item_name_of, item_number_of};
 
     /// The fault's number.
     pub fn number(&self) -> u8
@@ -41,6 +42,18 @@ impl ItemFault {
             ItemFault::Key => 10,
         }
     }
+
+    /// The fault's name, of at most 8 characters.
+    pub fn name(&self) -> &'static str
+        ensures name { result.now ≡ item_name_of self.now }
+        ensures short { length result.now ≤ 8 }
+    {
+        match self {
+            ItemFault::Bank(fault) => fault.name(),
+            ItemFault::Shape => "Shape",
+            ItemFault::Key => "Key",
+        }
+    }
 }
 
 impl fmt::Display for ItemFault {
@@ -50,11 +63,7 @@ impl fmt::Display for ItemFault {
     ghost output = { λ fault. Some (item_name_of fault) };
 
     fn fmt<W: fmt::Write>(&self, f: &mut fmt::Formatter<W>) -> fmt::Result {
-        match self {
-            ItemFault::Bank(fault) => fault.fmt(f),
-            ItemFault::Shape => f.write_str("Shape"),
-            ItemFault::Key => f.write_str("Key"),
-        }
+        f.write_str(self.name())
     }
 }
 

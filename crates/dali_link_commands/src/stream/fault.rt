@@ -1,11 +1,8 @@
 // Why a line is refused, and how that is printed.
 ghost use Rattle.std.specs.Prelude.{◌≡◌, ◌≤◌, length};
 ghost use Rattle.arrayvec.specs.ArrayVec.{array_vec_len};
-ghost use Rattle.dali_bank.specs.Faults.{name_of as bank_fault_name};
-ghost use Rattle.dali_input.specs.Faults.{name_of as input_fault_name};
 ghost use Rattle.dali_link_commands.specs.LineFaults.{item_line, item_head};
 
-use dali_bank::BankFault;
 use dali_drive::{Line, push_decimal, push_text};
 use dali_input::{InputFault, ItemFault};
 use std::error::Error;
@@ -39,10 +36,8 @@ impl OrderLineFault {
         ensures short { length result.now ≤ 8 }
     {
         match self {
-            OrderLineFault::Input(fault) => input_name(*fault),
-            OrderLineFault::Item(ItemFault::Bank(fault)) => bank_name(*fault),
-            OrderLineFault::Item(ItemFault::Shape) => "Shape",
-            OrderLineFault::Item(ItemFault::Key) => "Key",
+            OrderLineFault::Input(fault) => fault.name(),
+            OrderLineFault::Item(fault) => fault.name(),
         }
     }
 }
@@ -65,36 +60,6 @@ impl Error for OrderLineFault {}
 pub(crate) struct RefusedLine {
     pub(crate) order: Option<u64>,
     pub(crate) fault: OrderLineFault,
-}
-
-fn input_name(fault: InputFault) -> &'static str
-    ensures name { result.now ≡ input_fault_name fault }
-    ensures short { length result.now ≤ 8 }
-{
-    match fault {
-        InputFault::Json => "Json",
-        InputFault::Document => "Document",
-        InputFault::TooBig => "TooBig",
-        InputFault::Hex => "Hex",
-        InputFault::Memory => "Memory",
-        InputFault::File => "File",
-    }
-}
-
-fn bank_name(fault: BankFault) -> &'static str
-    ensures name { result.now ≡ bank_fault_name fault }
-    ensures short { length result.now ≤ 8 }
-{
-    match fault {
-        BankFault::Unit => "Unit",
-        BankFault::Kind => "Kind",
-        BankFault::Range => "Range",
-        BankFault::Gtin => "Gtin",
-        BankFault::Text => "Text",
-        BankFault::Twice => "Twice",
-        BankFault::Voltage => "Voltage",
-        BankFault::Empty => "Empty",
-    }
 }
 
 // The line of a refused item, on the line of this number.

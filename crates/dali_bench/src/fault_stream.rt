@@ -1,6 +1,5 @@
 // How a fault outside of any command is reported.
-use dali_faults::{Fault, Status, write_fault};
-use dali_input::InputFault;
+use dali_input::{Fault, InputFault, Status, write_fault};
 use dali_text::{Escaped, Output};
 use std::io;
 use std::io::ErrorKind;

@@ -1,7 +1,7 @@
 // The words for a person about a wrong command line.
 use crate::fault_stream::{FaultStream, out_of_memory, tell_cause};
 use clap::error::ErrorKind;
-use dali_faults::Status;
+use dali_input::Status;
 use dali_job::Refusal;
 use dali_text::Escaped;
 

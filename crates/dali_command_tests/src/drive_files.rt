@@ -1,6 +1,6 @@
 // `drive` over files. Its contract and that of a store say what it does with other orders, answers and journals.
 use dali_drive::{StdSink, StdSource, StoreDesk};
-use dali_faults::Status;
+use dali_input::Status;
 use dali_job::{DriveTask, Required};
 use dali_link_commands::drive_files::drive_files;
 use dali_link_commands::journal_files::JournalFiles;

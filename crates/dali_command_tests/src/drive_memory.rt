@@ -1,8 +1,7 @@
 // `drive` with everything in memory: the orders, the link, the journal, the lines and the report.
 use crate::drive_files::{LINK, ORDER, SILENCE, TAKEN};
 use dali_drive::{StdSink, StdSource, StoreDesk};
-use dali_faults::Status;
-use dali_input::Input;
+use dali_input::{Input, Status};
 use dali_job::{DriveTask, Required};
 use dali_link_commands::drive::drive_input;
 use dali_link_commands::lines::Lines;

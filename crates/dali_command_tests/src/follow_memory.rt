@@ -3,7 +3,7 @@ use crate::drive_files::{SILENCE, SILENT};
 use crate::drive_memory::SILENT_AT_7;
 use crate::streams::{Behind, TestReader};
 use dali_drive::{StdSink, StdSource, StoreDesk};
-use dali_faults::Status;
+use dali_input::Status;
 use dali_job::{DriveTask, Required};
 use dali_link_commands::follow::follow_source;
 use dali_link_commands::lines::Lines;

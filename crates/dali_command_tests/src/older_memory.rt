@@ -1,6 +1,6 @@
 // Two older journals in memory that are one journal together, and two of which one can't be used.
 use crate::drive_files::SILENT;
-use dali_faults::Fault;
+use dali_input::Fault;
 use dali_link_commands::older::joined_older;
 use dali_shared_tests::expect_that;
 use dali_store::MemoryStore;

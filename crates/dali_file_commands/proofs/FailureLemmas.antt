@@ -3,9 +3,9 @@ use Rattle.std.proofs.Common.{◌≡◌, ◌⊎◌, List, ℕ, Option, Result, O
 use Rattle.std.specs.Io.KnownBytes.{Appends}
 use Rattle.dali_input.specs.declared.fault.InputFault.{InputFault}
 use Rattle.dali_input.specs.Input.{InputState, IsReadFailure}
-use Rattle.dali_faults.specs.declared.fault.Fault.TheVariants.{Input}
-use Rattle.dali_faults.specs.declared.fault.Status.{Status}
-use Rattle.dali_faults.specs.Faults.{IsFailure, told_line, status_of}
+use Rattle.dali_input.specs.declared.command_fault.Fault.TheVariants.{Input}
+use Rattle.dali_input.specs.declared.command_fault.Status.{Status}
+use Rattle.dali_input.specs.CommandFaults.{IsFailure, told_line, status_of}
 
 -- a failure is reported by the line of its fault, whatever other answers are possible
 pub failure_told : {E : Type 0} (before after : InputState) (old new : Option (List ℕ)) (fault : InputFault)

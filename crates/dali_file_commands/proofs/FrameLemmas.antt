@@ -11,8 +11,8 @@ use Rattle.dali_text.specs.FrameLine.{frame_line}
 use Rattle.dali_text.specs.declared.output.Output.{Output}
 use Rattle.dali_text.specs.Output.{held}
 use Rattle.dali_file_commands.specs.NoteLines.{Tells}
-use Rattle.dali_faults.specs.declared.fault.Status.{Status}
-use Rattle.dali_faults.specs.declared.fault.Status.TheVariants.{Good}
+use Rattle.dali_input.specs.declared.command_fault.Status.{Status}
+use Rattle.dali_input.specs.declared.command_fault.Status.TheVariants.{Good}
 use Rattle.dali_file_commands.specs.FrameAnswers.{AreFourDigits}
 use Rattle.dali_file_commands.specs.Notes.{IsNotedAnswer}
 use Rattle.std.proofs.KnownBytes.{Appends-nil}

@@ -6,9 +6,9 @@ use Rattle.dali_text.specs.declared.output.Output.{Output}
 use Rattle.dali_text.proofs.StreamLemmas.{appends_both}
 use Rattle.dali_input.specs.Orders.{Outcome}
 use Rattle.dali_file_commands.specs.NoteLines.{Tells}
-use Rattle.dali_faults.specs.declared.fault.Fault.{Fault}
-use Rattle.dali_faults.specs.declared.fault.Status.{Status}
-use Rattle.dali_faults.specs.Faults.{told_line}
+use Rattle.dali_input.specs.declared.command_fault.Fault.{Fault}
+use Rattle.dali_input.specs.declared.command_fault.Status.{Status}
+use Rattle.dali_input.specs.CommandFaults.{told_line}
 use Rattle.dali_file_commands.specs.Notes.{AreItemNotes, IsFaultNote, IsItemNote, IsNotedFault}
 use Rattle.dali_file_commands.proofs.ReportLemmas.{each_one_more}
 

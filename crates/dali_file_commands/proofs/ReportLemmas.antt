@@ -14,7 +14,7 @@ use Rattle.dali_input.specs.Items.{Judges}
 use Rattle.dali_input.specs.Orders.{Outcome, JudgesEach}
 use Rattle.dali_input.proofs.ItemsLemmas.{before, before_push, before_end}
 use Rattle.dali_input.proofs.OrderLemmas.{judges_one_more}
-use Rattle.dali_faults.specs.declared.fault.Status.TheVariants.{Refused}
+use Rattle.dali_input.specs.declared.command_fault.Status.TheVariants.{Refused}
 use Rattle.dali_file_commands.specs.declared.known.Known.{Known}
 use Rattle.dali_file_commands.specs.Known.{IsKnownTo, known_lines}
 use Rattle.dali_file_commands.specs.Report.{AreEach, AreItemLines, refused_count, report_status}

@@ -11,11 +11,11 @@ use Rattle.dali_text.specs.RunText.{run_text}
 use Rattle.dali_input.specs.Input.{InputState}
 use Rattle.dali_input.specs.Scenario.{Planned}
 use Rattle.dali_input.specs.Setup.{IsSetUp}
-use Rattle.dali_faults.specs.declared.fault.Fault.TheVariants.{Run}
-use Rattle.dali_faults.specs.declared.fault.Fault.{Fault}
-use Rattle.dali_faults.specs.declared.fault.Status.{Status}
-use Rattle.dali_faults.specs.declared.fault.Status.TheVariants.{Good}
-use Rattle.dali_faults.specs.Faults.{told_line, status_of}
+use Rattle.dali_input.specs.declared.command_fault.Fault.TheVariants.{Run}
+use Rattle.dali_input.specs.declared.command_fault.Fault.{Fault}
+use Rattle.dali_input.specs.declared.command_fault.Status.{Status}
+use Rattle.dali_input.specs.declared.command_fault.Status.TheVariants.{Good}
+use Rattle.dali_input.specs.CommandFaults.{told_line, status_of}
 use Rattle.dali_text.specs.declared.output.Output.{Output}
 use Rattle.dali_text.specs.Output.{held}
 use Rattle.dali_file_commands.specs.NoteLines.{Tells}

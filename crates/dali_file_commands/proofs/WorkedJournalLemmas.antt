@@ -4,12 +4,12 @@ use Rattle.dali_input.specs.declared.fault.InputFault.TheVariants.{TooBig, Memor
 use Rattle.dali_input.specs.declared.fault.InputFault.{InputFault}
 use Rattle.dali_input.specs.Input.{InputState, IsReadFailure}
 use Rattle.dali_text.specs.JournalLines.{journal_text}
-use Rattle.dali_faults.specs.declared.fault.Fault.{Fault}
-use Rattle.dali_faults.specs.declared.fault.Fault.TheVariants.{Input}
-use Rattle.dali_faults.specs.declared.fault.Status.{Status}
-use Rattle.dali_faults.specs.declared.fault.Status.TheVariants.{Good, Refused}
-use Rattle.dali_faults.specs.Faults.{IsRefusal, status_of, told_line}
-use Rattle.dali_faults.specs.JournalInput.{IsUnloaded, journal_limit}
+use Rattle.dali_input.specs.declared.command_fault.Fault.{Fault}
+use Rattle.dali_input.specs.declared.command_fault.Fault.TheVariants.{Input}
+use Rattle.dali_input.specs.declared.command_fault.Status.{Status}
+use Rattle.dali_input.specs.declared.command_fault.Status.TheVariants.{Good, Refused}
+use Rattle.dali_input.specs.CommandFaults.{IsRefusal, status_of, told_line}
+use Rattle.dali_input.specs.JournalInput.{IsUnloaded, journal_limit}
 use Rattle.dali_file_commands.specs.JournalAnswers.{IsJournalAnswer, IsJournalReport, IsNoJournal}
 
 module _ (with_updates : Bool) (input : List ℕ) (status : Status) (text : List ℕ) where

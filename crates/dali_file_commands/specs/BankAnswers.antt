@@ -4,10 +4,10 @@ use Rattle.dali_text.specs.BankLines.{AreLines, rows}
 use Rattle.dali_input.specs.declared.fault.InputFault.{InputFault}
 use Rattle.dali_input.specs.BankText.{IsBankIn, IsTextFault, text_limit}
 use Rattle.dali_input.specs.Input.{InputState, ReadsInput}
-use Rattle.dali_faults.specs.declared.fault.Fault.TheVariants.{Input}
-use Rattle.dali_faults.specs.declared.fault.Status.{Status}
-use Rattle.dali_faults.specs.declared.fault.Status.TheVariants.{Good}
-use Rattle.dali_faults.specs.Faults.{IsFailure, IsRefusal}
+use Rattle.dali_input.specs.declared.command_fault.Fault.TheVariants.{Input}
+use Rattle.dali_input.specs.declared.command_fault.Status.{Status}
+use Rattle.dali_input.specs.declared.command_fault.Status.TheVariants.{Good}
+use Rattle.dali_input.specs.CommandFaults.{IsFailure, IsRefusal}
 
 -- the status and the text of the bank in an input
 pub record IsBankAnswer (input : List ℕ) (status : Status) (text : List ℕ) : Type 0 where

@@ -3,8 +3,8 @@ use Rattle.std.specs.Prelude.{ℕ, List}
 use Rattle.dali_input.specs.Input.{InputState}
 use Rattle.dali_input.specs.BankText.{text_limit}
 use Rattle.dali_input.specs.Orders.{orders_limit}
-use Rattle.dali_faults.specs.JournalInput.{journal_limit}
-use Rattle.dali_faults.specs.declared.fault.Status.{Status}
+use Rattle.dali_input.specs.JournalInput.{journal_limit}
+use Rattle.dali_input.specs.declared.command_fault.Status.{Status}
 use Rattle.dali_file_commands.specs.declared.file_command.FileCommand.{FileCommand}
 use Rattle.dali_file_commands.specs.declared.file_command.FileCommand.TheVariants.{Check, Run, Show, Journal}
 use Rattle.dali_file_commands.specs.Known.{asked}

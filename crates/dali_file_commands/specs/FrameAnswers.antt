@@ -6,10 +6,10 @@ use Rattle.dali_frame.specs.Frame.{Spells}
 use Rattle.dali_frame.specs.Hex.{SpellsHexNumber}
 use Rattle.dali_text.specs.FrameLine.{frame_line}
 use Rattle.dali_input.specs.declared.fault.InputFault.TheVariants.{Hex}
-use Rattle.dali_faults.specs.declared.fault.Fault.TheVariants.{Input}
-use Rattle.dali_faults.specs.declared.fault.Status.{Status}
-use Rattle.dali_faults.specs.declared.fault.Status.TheVariants.{Good}
-use Rattle.dali_faults.specs.Faults.{IsRefusal}
+use Rattle.dali_input.specs.declared.command_fault.Fault.TheVariants.{Input}
+use Rattle.dali_input.specs.declared.command_fault.Status.{Status}
+use Rattle.dali_input.specs.declared.command_fault.Status.TheVariants.{Good}
+use Rattle.dali_input.specs.CommandFaults.{IsRefusal}
 
 -- four hexadecimal digits, each in upper or lower case
 abbrev pub AreFourDigits : List ℕ → Type 0

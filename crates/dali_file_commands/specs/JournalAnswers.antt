@@ -4,11 +4,11 @@ use Rattle.dali_journal.specs.declared.version.Version.{Version}
 use Rattle.dali_journal.specs.JournalState.{JournalState}
 use Rattle.dali_text.specs.JournalLines.{journal_text}
 use Rattle.dali_input.specs.Input.{InputState, ReadsInput}
-use Rattle.dali_faults.specs.declared.fault.Fault.{Fault}
-use Rattle.dali_faults.specs.declared.fault.Status.{Status}
-use Rattle.dali_faults.specs.declared.fault.Status.TheVariants.{Good}
-use Rattle.dali_faults.specs.Faults.{IsFailure, IsRefusal}
-use Rattle.dali_faults.specs.JournalInput.{IsJournalIn, IsUnloaded, journal_limit}
+use Rattle.dali_input.specs.declared.command_fault.Fault.{Fault}
+use Rattle.dali_input.specs.declared.command_fault.Status.{Status}
+use Rattle.dali_input.specs.declared.command_fault.Status.TheVariants.{Good}
+use Rattle.dali_input.specs.CommandFaults.{IsFailure, IsRefusal}
+use Rattle.dali_input.specs.JournalInput.{IsJournalIn, IsUnloaded, journal_limit}
 
 -- the status and the text of a journal, with the updates of each begun order or without
 pub record IsJournalReport (with_updates : Bool) (input : List ℕ) (status : Status) (text : List ℕ) : Type 0 where

@@ -10,13 +10,13 @@ use Rattle.dali_journal.specs.JournalState.{JournalState}
 use Rattle.dali_journal.specs.declared.fault.JournalFault.{JournalFault}
 use Rattle.dali_journal.specs.declared.fault.JournalFault.TheVariants as journals
 use Rattle.dali_trace.specs.declared.fault.RunFault.TheVariants.{Limit, NoMemory}
-use Rattle.dali_faults.specs.declared.fault.Fault.{Fault}
-use Rattle.dali_faults.specs.declared.fault.Fault.TheVariants.{Input, Setup, Run, Journal, Drive, Older}
-use Rattle.dali_faults.specs.declared.fault.Status.{Status}
-use Rattle.dali_faults.specs.declared.fault.Status.TheVariants.{Good}
+use Rattle.dali_input.specs.declared.command_fault.Fault.{Fault}
+use Rattle.dali_input.specs.declared.command_fault.Fault.TheVariants.{Input, Setup, Run, Journal, Drive, Older}
+use Rattle.dali_input.specs.declared.command_fault.Status.{Status}
+use Rattle.dali_input.specs.declared.command_fault.Status.TheVariants.{Good}
 use Rattle.dali_file_commands.specs.declared.file_command.FileCommand.{FileCommand}
 use Rattle.dali_file_commands.specs.declared.file_command.FileCommand.TheVariants as commands
-use Rattle.dali_faults.specs.Faults.{told_line}
+use Rattle.dali_input.specs.CommandFaults.{told_line}
 use Rattle.dali_file_commands.specs.Known.{asked}
 use Rattle.dali_file_commands.specs.Report.{AreEach, IsReportText}
 

@@ -7,10 +7,10 @@ use Rattle.dali_text.specs.OrderLines.{order_lines, tally_line}
 use Rattle.dali_input.specs.declared.fault.InputFault.{InputFault}
 use Rattle.dali_input.specs.Input.{InputState, ReadsInput}
 use Rattle.dali_input.specs.Orders.{Outcome, JudgesEach, AreItems, IsInputFault}
-use Rattle.dali_faults.specs.declared.fault.Fault.TheVariants.{Input}
-use Rattle.dali_faults.specs.declared.fault.Status.{Status}
-use Rattle.dali_faults.specs.declared.fault.Status.TheVariants.{Good, Refused}
-use Rattle.dali_faults.specs.Faults.{IsFailure, IsRefusal, item_line}
+use Rattle.dali_input.specs.declared.command_fault.Fault.TheVariants.{Input}
+use Rattle.dali_input.specs.declared.command_fault.Status.{Status}
+use Rattle.dali_input.specs.declared.command_fault.Status.TheVariants.{Good, Refused}
+use Rattle.dali_input.specs.CommandFaults.{IsFailure, IsRefusal, item_line}
 use Rattle.dali_file_commands.specs.declared.known.Known.{Known}
 use Rattle.dali_file_commands.specs.Known.{IsFreeText, IsKnownTo, known_lines}
 

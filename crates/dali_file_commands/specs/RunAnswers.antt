@@ -16,11 +16,11 @@ use Rattle.dali_input.specs.declared.fault.InputFault.{InputFault}
 use Rattle.dali_input.specs.Scenario.{IsScenario, Planned}
 use Rattle.dali_input.specs.Setup.{IsSetUp, IsSetupRefused}
 use Rattle.dali_input.specs.Values.{IsNoReading}
-use Rattle.dali_faults.specs.declared.fault.Fault.{Fault}
-use Rattle.dali_faults.specs.declared.fault.Fault.TheVariants.{Input, Setup, Run, Journal, Drive, Older}
-use Rattle.dali_faults.specs.declared.fault.Status.{Status}
-use Rattle.dali_faults.specs.declared.fault.Status.TheVariants.{Good}
-use Rattle.dali_faults.specs.Faults.{IsRefusal}
+use Rattle.dali_input.specs.declared.command_fault.Fault.{Fault}
+use Rattle.dali_input.specs.declared.command_fault.Fault.TheVariants.{Input, Setup, Run, Journal, Drive, Older}
+use Rattle.dali_input.specs.declared.command_fault.Status.{Status}
+use Rattle.dali_input.specs.declared.command_fault.Status.TheVariants.{Good}
+use Rattle.dali_input.specs.CommandFaults.{IsRefusal}
 
 -- the most bytes of a scenario
 abbrev pub scenario_limit : ℕ

@@ -5,7 +5,7 @@ ghost use Rattle.dali_input.specs.Input.{ReadsAtMost, state_of};
 ghost use Rattle.dali_input.specs.Items.{Judges};
 ghost use Rattle.dali_input.specs.ItemsLeft.{AreLeft, IsItem};
 ghost use Rattle.dali_input.specs.Orders.{Outcome, JudgesEach, orders_limit};
-ghost use Rattle.dali_faults.specs.Ends.{TellsEnd};
+ghost use Rattle.dali_input.specs.Ends.{TellsEnd};
 ghost use Rattle.dali_file_commands.specs.NoteLines.{SomeAbout, Tells};
 ghost use Rattle.dali_file_commands.specs.Known.{asked};
 ghost use Rattle.dali_file_commands.specs.Survey.{IsSurveyed};
@@ -18,8 +18,7 @@ use crate::notes::{
     Note, Repeats, note_of_accepted, note_of_item, note_of_orders, write_noted_failure,
 };
 use dali_bank::Order;
-use dali_faults::{Fault, Status, write_refused_item};
-use dali_input::{Input, Item, ItemFault, Items, ORDERS_LIMIT, read_input};
+use dali_input::{ORDERS_LIMIT, Fault, Input, Item, ItemFault, Items, Status, read_input, write_refused_item};
 use dali_journal::Journal;
 use dali_text::{Output, OutputFailed, write_order, write_tally};
 use json::Scratch;

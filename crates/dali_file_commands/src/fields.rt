@@ -3,13 +3,13 @@ ghost use Rattle.std.specs.List.{flat_map};
 ghost use Rattle.serde_json.specs.Written.{compact_text};
 ghost use Rattle.dali_bank.specs.Layout.{length_of};
 ghost use Rattle.dali_text.specs.Output.{TellsFailure, Takes, has_failed, is_flushed};
-ghost use Rattle.dali_faults.specs.Ends.{TellsEnd};
+ghost use Rattle.dali_input.specs.Ends.{TellsEnd};
 ghost use Rattle.dali_file_commands.specs.FieldLines.{FormsAreOfLayout, array_text, field_text, fields_text, lines_text};
 ghost use Rattle.dali_file_commands.specs.FieldLines.{place_text, range_text, unit_data, words_text};
 ghost use Rattle.dali_file_commands.specs.FieldLines.{help_of as help_told};
 
 use dali_bank::Field;
-use dali_faults::Status;
+use dali_input::Status;
 use dali_text::{Output, OutputFailed, write_bytes};
 use std::fmt;
 use std::io::Write;

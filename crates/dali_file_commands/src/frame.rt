@@ -5,13 +5,12 @@ ghost use Rattle.dali_frame.specs.declared.forward.Frame.{Frame};
 ghost use Rattle.dali_text.specs.FrameLine.{frame_line};
 ghost use Rattle.dali_text.specs.Output.{Takes, has_failed, is_flushed};
 ghost use Rattle.dali_file_commands.specs.NoteLines.{Tells};
-ghost use Rattle.dali_faults.specs.Ends.{TellsEnd};
+ghost use Rattle.dali_input.specs.Ends.{TellsEnd};
 ghost use Rattle.dali_file_commands.specs.FrameAnswers.{AreFourDigits, IsFrameAnswer};
 ghost use Rattle.dali_file_commands.specs.Notes.{IsNotedAnswer};
 
 use crate::notes::{note_of_word, write_noted_failure};
-use dali_faults::{Fault, Status};
-use dali_input::InputFault;
+use dali_input::{Fault, InputFault, Status};
 use dali_text::{Output, OutputFailed, write_frame};
 use std::alloc::Global;
 use std::io::Write;

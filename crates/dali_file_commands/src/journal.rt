@@ -2,15 +2,14 @@ ghost use Rattle.std.specs.Prelude.{◌≡◌, ◌≢◌, ◌↔◌, List, ℕ, 
 ghost use Rattle.dali_text.specs.Output.{Takes, has_failed, is_flushed};
 ghost use Rattle.dali_input.specs.Input.{ReadsAtMost, state_of};
 ghost use Rattle.dali_file_commands.specs.NoteLines.{Tells};
-ghost use Rattle.dali_faults.specs.Ends.{TellsEnd};
+ghost use Rattle.dali_input.specs.Ends.{TellsEnd};
 ghost use Rattle.dali_file_commands.specs.JournalAnswers.{IsJournalAnswer, TellsInput};
-ghost use Rattle.dali_faults.specs.JournalInput.{journal_limit};
+ghost use Rattle.dali_input.specs.JournalInput.{journal_limit};
 ghost use Rattle.dali_file_commands.specs.Notes.{IsNotedAnswer};
 
 use crate::notes::{Kind, Note, note_of_journal, note_of_size, write_noted_failure};
-pub use dali_faults::JOURNAL_LIMIT;
-use dali_faults::{Fault, Status, journal_in};
-use dali_input::{Input, read_input};
+pub use dali_input::JOURNAL_LIMIT;
+use dali_input::{Fault, Input, Status, journal_in, read_input};
 use dali_text::{Output, OutputFailed, write_journal};
 use std::alloc::Global;
 use std::io::{Read, Write};

@@ -8,17 +8,14 @@ ghost use Rattle.dali_input.specs.Scenario.{IsScenario, planned_of};
 ghost use Rattle.dali_input.specs.Setup.{IsSetUp, IsSetupRefused};
 ghost use Rattle.dali_input.specs.Values.{IsNoReading};
 ghost use Rattle.dali_file_commands.specs.NoteLines.{Tells};
-ghost use Rattle.dali_faults.specs.Ends.{TellsEnd};
+ghost use Rattle.dali_input.specs.Ends.{TellsEnd};
 ghost use Rattle.dali_file_commands.specs.Notes.{IsNotedAnswer};
 ghost use Rattle.dali_file_commands.specs.RunAnswers.{IsRan, IsRunAnswer, IsUnrun, scenario_limit};
 
 use crate::notes::{Note, note_of_json, note_of_scenario, note_of_setup, write_noted_failure};
 use dali_engine::{Outcome, RunFault, run_sim_with_pace};
-use dali_faults::{Fault, Status};
+use dali_input::{Fault, Input, InputFault, Scenario, Setup, SetupFault, Status, json_of, read_input, scenario_of, setup_of};
 use dali_gear::SimBus;
-use dali_input::{
-    Input, InputFault, Scenario, Setup, SetupFault, json_of, read_input, scenario_of, setup_of,
-};
 use dali_journal::MOST_ORDERS;
 use dali_text::{Output, OutputFailed, write_run};
 use serde_json::Value;

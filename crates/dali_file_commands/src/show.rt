@@ -5,12 +5,11 @@ ghost use Rattle.dali_input.specs.BankText.{text_limit};
 ghost use Rattle.dali_input.specs.Input.{ReadsAtMost, state_of};
 ghost use Rattle.dali_file_commands.specs.NoteLines.{Tells};
 ghost use Rattle.dali_file_commands.specs.BankAnswers.{IsShowAnswer, ShowsInput};
-ghost use Rattle.dali_faults.specs.Ends.{TellsEnd};
+ghost use Rattle.dali_input.specs.Ends.{TellsEnd};
 ghost use Rattle.dali_file_commands.specs.Notes.{IsNotedAnswer};
 
 use crate::notes::{Note, note_of_bank, write_noted_failure};
-use dali_faults::{Fault, Status};
-use dali_input::{Input, TEXT_LIMIT, bank_of, read_input};
+use dali_input::{TEXT_LIMIT, Fault, Input, Status, bank_of, read_input};
 use dali_text::{Output, OutputFailed, write_bank};
 use std::alloc::Global;
 use std::io::{Read, Write};

@@ -11,3 +11,4 @@ pub mod WorkedItemsLemmas
 pub mod TokenLemmas
 pub mod ObjectLemmas
 pub mod ItemsLemmas
+pub mod WorkedFaultLemmas

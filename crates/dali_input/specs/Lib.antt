@@ -10,3 +10,6 @@ pub mod Scenario
 pub mod Setup
 pub mod Shallow
 pub mod ItemsLeft
+pub mod CommandFaults
+pub mod Ends
+pub mod JournalInput

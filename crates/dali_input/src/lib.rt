@@ -1,5 +1,6 @@
-//! The contents of files: bytes read up to a limit, banks in hexadecimal digits, JSON values, orders, and scenarios
-//! with what they set up (profile).
+//! The contents of files: bytes read up to a limit, banks in hexadecimal digits, JSON values, orders, journals, and
+//! scenarios with what they set up; and the faults of the program: how each is reported, and with which status a
+//! command ends at it (profile).
 //!
 //! The contents of a file are never trusted: each call reports what is there, or why it says nothing.
 //!
@@ -7,10 +8,13 @@
 #![tactic(auto)]
 
 mod bank_text;
+mod command_fault;
 mod fault;
+mod fault_lines;
 mod input;
 mod item;
 mod items;
+mod journal_input;
 mod key;
 mod members;
 mod number;
@@ -24,10 +28,13 @@ mod value;
 mod values;
 
 pub use bank_text::{MOST_BANK_TEXT, TEXT_LIMIT, bank_of, text_of};
+pub use command_fault::{Fault, Status};
 pub use fault::InputFault;
+pub use fault_lines::{drive_line, write_failure, write_fault, write_refused_item};
 pub use input::{Input, json_of, read_input};
 pub use item::{Item, ItemFault, field_fault, order_of};
 pub use items::Items;
+pub use journal_input::{JOURNAL_LIMIT, journal_in};
 pub use members::Members;
 pub use odd_keys::OddKeys;
 pub use orders::{ORDERS_LIMIT, read_orders};

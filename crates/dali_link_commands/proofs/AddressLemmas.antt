@@ -11,7 +11,7 @@ use Rattle.dali_address_link.specs.Counted.{IsCounted}
 use Rattle.dali_drive.specs.Desks.{Look}
 use Rattle.dali_drive.specs.Surveys.{link_of}
 use Rattle.dali_drive.specs.Transcript.{Streams}
-use Rattle.dali_faults.specs.declared.fault.Status.{Status}
+use Rattle.dali_input.specs.declared.command_fault.Status.{Status}
 use Rattle.dali_link_commands.specs.AddressAnswers.{IsCountAnswer, IsRunAnswer, census_care, marked_in}
 use Rattle.dali_link_commands.specs.ReadAnswers.{IsUntouched, on_link}
 

@@ -20,12 +20,12 @@ use Rattle.dali_job.specs.declared.link_command.Required.{Required}
 use Rattle.dali_report.specs.declared.outcome.Outcome.{Outcome}
 use Rattle.dali_report.specs.declared.report.Report.{Report}
 use Rattle.dali_report.specs.Told.{IsTold, IsToldEnd}
-use Rattle.dali_faults.specs.declared.fault.Status.{Status}
+use Rattle.dali_input.specs.declared.command_fault.Status.{Status}
 use Rattle.dali_link_commands.specs.Bare.{TellsEnded}
 use Rattle.dali_link_commands.specs.BehindAnswers.{BreaksBehind, IsAnswerBehind, IsBreakTold, IsSourceBehind}
 use Rattle.dali_link_commands.specs.Benches.{with_lines}
 use Rattle.dali_link_commands.specs.Older.{held_under}
-use Rattle.dali_faults.specs.JournalInput.{journal_limit, order_limit}
+use Rattle.dali_input.specs.JournalInput.{journal_limit, order_limit}
 use Rattle.dali_write.specs.declared.pace.Pace.{Pace}
 
 -- the cause that broke a drive off was reported, and only its lines were written for that

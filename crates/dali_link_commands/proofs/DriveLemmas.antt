@@ -12,14 +12,14 @@ use Rattle.dali_input.specs.Input.{InputState, IsReadFailure, ReadsInput}
 use Rattle.dali_input.specs.Orders.{orders_limit}
 use Rattle.dali_drive.specs.Desks.{Look}
 use Rattle.dali_drive.specs.Streams.{PutsFirst}
-use Rattle.dali_faults.specs.declared.fault.Status.{Status}
+use Rattle.dali_input.specs.declared.command_fault.Status.{Status}
 use Rattle.dali_job.specs.declared.link_command.DriveTask.{DriveTask}
 use Rattle.dali_journal.specs.JournalState.{JournalState}
 use Rattle.dali_report.specs.declared.report.Report.{Report}
 use Rattle.dali_link_commands.specs.LinkCommands.{Drives}
 use Rattle.dali_link_commands.specs.OrdersAnswers.{EndsUndriven, IsInputAnswer, IsReaderAnswer, IsFileAnswer, IsUnread}
 use Rattle.dali_link_commands.specs.Told.{TellsLine, refused_lines}
-use Rattle.dali_faults.specs.Faults.{item_line}
+use Rattle.dali_input.specs.CommandFaults.{item_line}
 use Rattle.dali_text.proofs.StreamLemmas.{appends_both, appends_kept}
 
 -- the bytes that were read are those that the command had

@@ -9,7 +9,7 @@ use Rattle.dali_journal.specs.declared.standing.Standing.TheVariants.{Idle}
 use Rattle.dali_journal.specs.JournalState.{JournalState}
 use Rattle.dali_journal.specs.Sentence.{standing_of}
 use Rattle.dali_store.specs.Stores.{IsDurable}
-use Rattle.dali_faults.specs.declared.fault.Fault.{Fault}
+use Rattle.dali_input.specs.declared.command_fault.Fault.{Fault}
 use Rattle.dali_link_commands.specs.Older.{AreJoined, AreOne, AreReadAtRest, IsFirstUnusable, IsJoinedBehind}
 use Rattle.dali_link_commands.specs.Older.{IsReadAtRest, IsReadBehind, IsUnusable, held_under, records_in, records_named}
 

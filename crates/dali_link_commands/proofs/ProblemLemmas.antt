@@ -6,11 +6,11 @@ use Rattle.std.specs.Io.KnownBytes.{Appends}
 use Rattle.dali_trace.specs.declared.fault.DriveFault.{DriveFault}
 use Rattle.dali_trace.specs.declared.fault.DriveFault.TheVariants as drives
 use Rattle.dali_drive.specs.Streams.{PutsFirst}
-use Rattle.dali_faults.specs.declared.fault.Fault.{Fault}
-use Rattle.dali_faults.specs.declared.fault.Fault.TheVariants.{Drive}
-use Rattle.dali_faults.specs.declared.fault.Status.{Status}
-use Rattle.dali_faults.specs.declared.fault.Status.TheVariants.{Unwritten}
-use Rattle.dali_faults.specs.Faults.{status_of, told_line}
+use Rattle.dali_input.specs.declared.command_fault.Fault.{Fault}
+use Rattle.dali_input.specs.declared.command_fault.Fault.TheVariants.{Drive}
+use Rattle.dali_input.specs.declared.command_fault.Status.{Status}
+use Rattle.dali_input.specs.declared.command_fault.Status.TheVariants.{Unwritten}
+use Rattle.dali_input.specs.CommandFaults.{status_of, told_line}
 use Rattle.dali_link_commands.specs.Told.{IsFaultTold, IsPlain, TellsLine, TellsText, error_line, is_worded}
 use Rattle.dali_text.proofs.StreamLemmas.{appends_both}
 

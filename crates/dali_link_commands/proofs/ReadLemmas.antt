@@ -11,7 +11,7 @@ use Rattle.dali_drive.specs.declared.store_desk.StoreDesk.{StoreDesk}
 use Rattle.dali_drive.specs.Desks.{Look}
 use Rattle.dali_drive.specs.StdStreams.{source_left, source_failed, sink_held, sink_failed}
 use Rattle.dali_drive.specs.StoreDesks.{store_look}
-use Rattle.dali_faults.specs.declared.fault.Status.{Status}
+use Rattle.dali_input.specs.declared.command_fault.Status.{Status}
 use Rattle.dali_link_commands.specs.declared.lines.Lines.{Lines}
 use Rattle.dali_link_commands.specs.ReadAnswers.{IsReadAnswer}
 use Rattle.dali_text.specs.Output.{has_failed, held}

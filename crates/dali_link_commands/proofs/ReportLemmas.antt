@@ -2,7 +2,7 @@
 use Rattle.std.proofs.Common.{◌≡◌, refl, ℕ, Bool, true, false, ◌&&◌, List, Option}
 use Rattle.dali_report.specs.declared.report.Report.{Report}
 use Rattle.dali_report.specs.Told.{has_failed, has_output}
-use Rattle.dali_faults.specs.declared.fault.Status.{Status}
+use Rattle.dali_input.specs.declared.command_fault.Status.{Status}
 use Rattle.dali_link_commands.specs.declared.report_output.ReportOutput.{ReportOutput}
 use Rattle.dali_drive.specs.Desks.{Look}
 use Rattle.dali_link_commands.specs.Benches.{with_lines}

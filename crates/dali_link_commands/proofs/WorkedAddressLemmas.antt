@@ -10,8 +10,8 @@ use Rattle.dali_address.specs.declared.census.CensusEnd.TheVariants.{Apart, Uncl
 use Rattle.dali_drive.specs.Desks.{Look}
 use Rattle.dali_drive.specs.Transcript.{Streams}
 use Rattle.dali_trace.specs.declared.fault.DriveFault.TheVariants as faults
-use Rattle.dali_faults.specs.declared.fault.Status.{Status}
-use Rattle.dali_faults.specs.declared.fault.Status.TheVariants.{Good, Refused}
+use Rattle.dali_input.specs.declared.command_fault.Status.{Status}
+use Rattle.dali_input.specs.declared.command_fault.Status.TheVariants.{Good, Refused}
 use Rattle.dali_link_commands.specs.AddressAnswers.{BreaksRun, EndsRun, TellsBreak, held_named, is_apart}
 use Rattle.dali_link_commands.specs.AddressAnswers.{is_left_open, status_at_end}
 

@@ -1,7 +1,7 @@
 -- The requirements at the end of a drive, and how it is reported that nothing was done, on both sides of each rule.
 use Rattle.std.proofs.Common.{◌≡◌, refl, inl, inr, [], ◌∷◌, ℕ, Some, false}
 use Rattle.dali_report.specs.declared.outcome.Outcome.TheVariants as outcomes
-use Rattle.dali_faults.specs.declared.fault.Status.TheVariants.{Good, Refused}
+use Rattle.dali_input.specs.declared.command_fault.Status.TheVariants.{Good, Refused}
 use Rattle.dali_job.specs.declared.link_command.Required.TheVariants.{Nothing, Done, DoneNow}
 use Rattle.dali_link_commands.specs.Bare.{TellsBare, TellsEnded, ended_status, is_empty, nothing_line}
 

@@ -5,11 +5,11 @@ use Rattle.dali_journal.specs.declared.behind.JoinFault.TheVariants as joins
 use Rattle.dali_journal.specs.declared.fault.JournalFault.TheVariants as journals
 use Rattle.dali_journal.specs.JournalState.{JournalState}
 use Rattle.dali_input.specs.declared.fault.InputFault.TheVariants.{Memory, File, TooBig}
-use Rattle.dali_faults.specs.declared.fault.Fault.TheVariants.{Input, Journal, Older}
-use Rattle.dali_faults.specs.declared.fault.Status.TheVariants.{Refused}
+use Rattle.dali_input.specs.declared.command_fault.Fault.TheVariants.{Input, Journal, Older}
+use Rattle.dali_input.specs.declared.command_fault.Status.TheVariants.{Refused}
 use Rattle.dali_link_commands.specs.declared.older.OlderFault.TheVariants.{Unloaded, AtWork, Join}
 use Rattle.dali_link_commands.specs.BehindAnswers.{IsBehindNamed}
-use Rattle.dali_faults.specs.Faults.{status_of, told_line}
+use Rattle.dali_input.specs.CommandFaults.{status_of, told_line}
 use Rattle.dali_link_commands.specs.Older.{AreOne, AreReadAtRest, fault_older, fault_unjoined}
 
 -- a file that is no journal, isn't at rest, or shares a number with another one, is reported as 15 Older

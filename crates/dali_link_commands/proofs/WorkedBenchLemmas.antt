@@ -1,7 +1,7 @@
 -- The parts of a desk, by hand: its lines, what was left alone, and how it ends if its lines have failed.
 use Rattle.std.proofs.Common.{◌≡◌, refl, ap, true, false, ℕ, List, [], ◌∷◌, Option, Some, codes}
 use Rattle.std.specs.Prelude.{⊤}
-use Rattle.dali_faults.specs.declared.fault.Status.TheVariants.{Good, Unwritten}
+use Rattle.dali_input.specs.declared.command_fault.Status.TheVariants.{Good, Unwritten}
 use Rattle.dali_drive.specs.Desks.{Failures, Look, failures, look_of}
 use Rattle.dali_drive.specs.Transcript.{shown}
 use Rattle.dali_store.specs.Stores.{IsDurable}

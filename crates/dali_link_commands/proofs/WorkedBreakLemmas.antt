@@ -10,7 +10,7 @@ use Rattle.dali_drive.specs.declared.following.Given.{Given}
 use Rattle.dali_drive.specs.Desks.{Look}
 use Rattle.dali_drive.specs.Transcript.{Streams}
 use Rattle.dali_report.specs.declared.report.Report.{Report}
-use Rattle.dali_faults.specs.declared.fault.Status.{Status}
+use Rattle.dali_input.specs.declared.command_fault.Status.{Status}
 use Rattle.dali_link_commands.specs.BehindAnswers.{UnopenedBehind, BrokenBehind, FollowsBehind}
 use Rattle.dali_job.specs.declared.link_command.Required.{Required}
 use Rattle.dali_link_commands.specs.BehindAnswers.{EndsListBehind, EndsSourceBehind}

@@ -1,11 +1,11 @@
 -- How a drive's fault is reported: one of the replies' stream by its status alone, with nothing written after them.
 use Rattle.std.proofs.Common.{◌≡◌, refl, inl, inr, ap, ℕ, zero, suc, List, [], ◌++◌, Option, Some, codes, get_or, arith}
 use Rattle.dali_trace.specs.declared.fault.DriveFault.TheVariants as faults
-use Rattle.dali_faults.specs.declared.fault.Status.TheVariants.{Good, Refused, Failed, Unwritten}
+use Rattle.dali_input.specs.declared.command_fault.Status.TheVariants.{Good, Refused, Failed, Unwritten}
 use Rattle.dali_input.specs.declared.fault.InputFault.TheVariants.{File, TooBig}
-use Rattle.dali_faults.specs.declared.fault.Fault.TheVariants.{Input, Drive}
+use Rattle.dali_input.specs.declared.command_fault.Fault.TheVariants.{Input, Drive}
 use Rattle.dali_link_commands.specs.Told.{IsFaultTold, IsFaultText, error_line}
-use Rattle.dali_faults.specs.Faults.{told_line}
+use Rattle.dali_input.specs.CommandFaults.{told_line}
 
 pub out_told_by_its_status : (written : Option (List ℕ)) → IsFaultTold (Drive faults.Out) Unwritten written written
 out_told_by_its_status written = (told_line (Drive faults.Out), refl, (refl, refl))

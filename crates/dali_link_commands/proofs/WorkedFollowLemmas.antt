@@ -2,9 +2,9 @@
 use Rattle.std.proofs.Common.{refl, ◌++◌, [], Some, codes, true, false, arith}
 use Rattle.dali_input.specs.declared.fault.InputFault.TheVariants.{File}
 use Rattle.dali_report.specs.declared.outcome.Outcome.TheVariants as outcomes
-use Rattle.dali_faults.specs.declared.fault.Fault.TheVariants.{Input}
-use Rattle.dali_faults.specs.declared.fault.Status.TheVariants.{Good, Refused, Failed}
-use Rattle.dali_faults.specs.Faults.{told_line}
+use Rattle.dali_input.specs.declared.command_fault.Fault.TheVariants.{Input}
+use Rattle.dali_input.specs.declared.command_fault.Status.TheVariants.{Good, Refused, Failed}
+use Rattle.dali_input.specs.CommandFaults.{told_line}
 use Rattle.dali_job.specs.declared.link_command.Required.TheVariants.{Nothing, Done, DoneNow}
 use Rattle.dali_link_commands.specs.FollowAnswers.{TellsFollowed}
 use Rattle.dali_link_commands.specs.Told.{error_line}

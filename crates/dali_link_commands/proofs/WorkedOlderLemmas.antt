@@ -11,9 +11,9 @@ use Rattle.dali_journal.specs.declared.record.Record.TheVariants.{Began, Ended}
 use Rattle.dali_journal.specs.declared.version.Version.{Version}
 use Rattle.dali_journal.specs.JournalState.{JournalState}
 use Rattle.dali_input.specs.declared.fault.InputFault.TheVariants.{File, Json, Memory, TooBig}
-use Rattle.dali_faults.specs.declared.fault.Fault.TheVariants.{Input, Older}
-use Rattle.dali_faults.specs.declared.fault.Fault.TheVariants as faults
-use Rattle.dali_faults.specs.JournalInput.{IsJournalIn}
+use Rattle.dali_input.specs.declared.command_fault.Fault.TheVariants.{Input, Older}
+use Rattle.dali_input.specs.declared.command_fault.Fault.TheVariants as faults
+use Rattle.dali_input.specs.JournalInput.{IsJournalIn}
 use Rattle.dali_link_commands.specs.declared.older.OlderFault.{OlderFault}
 use Rattle.dali_link_commands.specs.declared.older.OlderFault.TheVariants.{Unloaded, Cut, Join}
 use Rattle.dali_link_commands.specs.BehindAnswers.{IsOneUnusable, MayBeUnusable}

@@ -6,10 +6,10 @@ use Rattle.dali_input.specs.declared.item.ItemFault.{ItemFault}
 use Rattle.dali_input.specs.declared.item.ItemFault.TheVariants.{Shape, Key}
 use Rattle.dali_input.specs.Orders.{AreRefusedIn}
 use Rattle.dali_drive.specs.Desks.{Look}
-use Rattle.dali_faults.specs.declared.fault.Fault.TheVariants.{Input}
-use Rattle.dali_faults.specs.declared.fault.Status.{Status}
-use Rattle.dali_faults.specs.declared.fault.Status.TheVariants.{Good, Refused}
-use Rattle.dali_faults.specs.Faults.{told_line}
+use Rattle.dali_input.specs.declared.command_fault.Fault.TheVariants.{Input}
+use Rattle.dali_input.specs.declared.command_fault.Status.{Status}
+use Rattle.dali_input.specs.declared.command_fault.Status.TheVariants.{Good, Refused}
+use Rattle.dali_input.specs.CommandFaults.{told_line}
 use Rattle.dali_link_commands.specs.Benches.{with_lines}
 use Rattle.dali_link_commands.specs.OrdersAnswers.{EndsRefused, EndsUndriven, IsUnread}
 use Rattle.dali_link_commands.specs.Told.{refused_lines}

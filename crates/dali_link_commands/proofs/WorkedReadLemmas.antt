@@ -2,7 +2,7 @@
 use Rattle.std.proofs.Common.{◌≡◌, ◌≢◌, ◌∙◌, inl, inr, true, false, ℕ, List, [], ◌∷◌, Some}
 use Rattle.dali_input.specs.BankText.{rows_text}
 use Rattle.dali_drive.specs.Desks.{Look}
-use Rattle.dali_faults.specs.declared.fault.Status.{Status}
+use Rattle.dali_input.specs.declared.command_fault.Status.{Status}
 use Rattle.dali_link_commands.specs.ReadAnswers.{EndsRead, EndsSilent, EndsUnkept}
 use Rattle.dali_link_commands.proofs.WorkedBenchLemmas.{emptied, emptied_unsettled}
 

@@ -4,8 +4,8 @@ use Rattle.dali_link_commands.specs.declared.report_output.ReportOutput.{ReportO
 use Rattle.dali_drive.specs.Desks.{Look}
 use Rattle.dali_report.specs.declared.report.Report.{Report}
 use Rattle.dali_report.specs.Told.{has_failed, has_output}
-use Rattle.dali_faults.specs.declared.fault.Status.{Status}
-use Rattle.dali_faults.specs.declared.fault.Status.TheVariants.{Good, Failed}
+use Rattle.dali_input.specs.declared.command_fault.Status.{Status}
+use Rattle.dali_input.specs.declared.command_fault.Status.TheVariants.{Good, Failed}
 use Rattle.dali_link_commands.specs.LinkCommands.{EndsReported, IsReported}
 
 -- no end is good if a report is lost

@@ -5,7 +5,7 @@ use Rattle.dali_journal.specs.JournalState.{JournalState}
 use Rattle.dali_drive.specs.declared.following.Given.{Given}
 use Rattle.dali_drive.specs.Desks.{Look}
 use Rattle.dali_report.specs.declared.report.Report.{Report}
-use Rattle.dali_faults.specs.declared.fault.Status.{Status}
+use Rattle.dali_input.specs.declared.command_fault.Status.{Status}
 use Rattle.dali_link_commands.specs.BehindAnswers.{EndsUnread, UnopenedBehind}
 use Rattle.dali_write.specs.declared.pace.Pace.{Pace}
 

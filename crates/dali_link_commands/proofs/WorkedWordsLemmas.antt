@@ -2,9 +2,9 @@
 use Rattle.std.proofs.Common.{◌≡◌, ◌∙◌, refl, inl, inr, ℕ, ◌++◌, [], ◌∷◌, List, Option, Some, codes, true, false, arith}
 use Rattle.std.proofs.lemmas.List.{append_cancel_right}
 use Rattle.dali_input.specs.declared.fault.InputFault.TheVariants.{File}
-use Rattle.dali_faults.specs.declared.fault.Fault.TheVariants.{Input}
-use Rattle.dali_faults.specs.declared.fault.Status.TheVariants.{Good, Failed}
-use Rattle.dali_faults.specs.Faults.{told_line}
+use Rattle.dali_input.specs.declared.command_fault.Fault.TheVariants.{Input}
+use Rattle.dali_input.specs.declared.command_fault.Status.TheVariants.{Good, Failed}
+use Rattle.dali_input.specs.CommandFaults.{told_line}
 use Rattle.dali_report.specs.declared.report.Report.{Report}
 use Rattle.dali_report.specs.Told.{has_failed}
 use Rattle.dali_link_commands.specs.LinkCommands.{EndsReported, is_lost}

@@ -19,10 +19,10 @@ use Rattle.dali_trace.specs.declared.fault.DriveFault.{DriveFault}
 use Rattle.dali_trace.specs.declared.fault.DriveFault.TheVariants.{Out}
 use Rattle.dali_drive.specs.Streams.{PutsFirst}
 use Rattle.std.specs.Io.KnownBytes.{Appends}
-use Rattle.dali_faults.specs.declared.fault.Fault.{Fault}
-use Rattle.dali_faults.specs.declared.fault.Fault.TheVariants.{Drive}
-use Rattle.dali_faults.specs.declared.fault.Status.{Status}
-use Rattle.dali_faults.specs.declared.fault.Status.TheVariants.{Good, Refused, Unwritten}
+use Rattle.dali_input.specs.declared.command_fault.Fault.{Fault}
+use Rattle.dali_input.specs.declared.command_fault.Fault.TheVariants.{Drive}
+use Rattle.dali_input.specs.declared.command_fault.Status.{Status}
+use Rattle.dali_input.specs.declared.command_fault.Status.TheVariants.{Good, Refused, Unwritten}
 use Rattle.dali_job.specs.declared.link_command.AddressCommand.{AddressCommand}
 use Rattle.dali_job.specs.declared.link_command.Asked.{Asked}
 use Rattle.dali_job.specs.declared.link_command.Asked.TheVariants.{Count, Run}

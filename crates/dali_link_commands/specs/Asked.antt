@@ -6,9 +6,9 @@ use Rattle.dali_journal.specs.JournalState.{JournalState}
 use Rattle.dali_drive.specs.Behind.{IsWhole}
 use Rattle.dali_input.specs.declared.fault.InputFault.{InputFault}
 use Rattle.dali_store.specs.Stores.{Shows}
-use Rattle.dali_faults.specs.declared.fault.Fault.{Fault}
-use Rattle.dali_faults.specs.declared.fault.Fault.TheVariants.{Input}
-use Rattle.dali_faults.specs.JournalInput.{IsJournalIn, IsUnloaded}
+use Rattle.dali_input.specs.declared.command_fault.Fault.{Fault}
+use Rattle.dali_input.specs.declared.command_fault.Fault.TheVariants.{Input}
+use Rattle.dali_input.specs.JournalInput.{IsJournalIn, IsUnloaded}
 use Rattle.dali_link_commands.specs.declared.older.OlderFault.TheVariants.{Join}
 use Rattle.dali_link_commands.specs.Older.{AreJoined, IsOlderFault, IsStoreFailure, fault_unjoined}
 

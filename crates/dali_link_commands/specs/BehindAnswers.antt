@@ -23,14 +23,14 @@ use Rattle.dali_report.specs.declared.report.Report.{Report}
 use Rattle.dali_report.specs.Outcomes.{outcome_of}
 use Rattle.dali_report.specs.Told.{IsTold, IsToldEnd}
 use Rattle.dali_engine.specs.WriterState.{WriterState, start_by}
-use Rattle.dali_faults.specs.declared.fault.Fault.{Fault}
-use Rattle.dali_faults.specs.declared.fault.Fault.TheVariants.{Drive}
-use Rattle.dali_faults.specs.declared.fault.Status.{Status}
+use Rattle.dali_input.specs.declared.command_fault.Fault.{Fault}
+use Rattle.dali_input.specs.declared.command_fault.Fault.TheVariants.{Drive}
+use Rattle.dali_input.specs.declared.command_fault.Status.{Status}
 use Rattle.dali_link_commands.specs.DriveAnswers.{fault_unopened}
 use Rattle.dali_link_commands.specs.Bare.{TellsEnded}
 use Rattle.dali_job.specs.declared.link_command.Required.{Required}
 use Rattle.dali_link_commands.specs.FollowAnswers.{AreUnread, TellsFollowed}
-use Rattle.dali_faults.specs.JournalInput.{journal_limit, order_limit}
+use Rattle.dali_input.specs.JournalInput.{journal_limit, order_limit}
 use Rattle.dali_link_commands.specs.Older.{AreJoined, IsUnusable}
 use Rattle.dali_link_commands.specs.Benches.{IsUndriven, with_lines}
 use Rattle.dali_link_commands.specs.OrdersAnswers.{EndsUndriven, IsUnopened, IsUnread}

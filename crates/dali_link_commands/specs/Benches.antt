@@ -1,8 +1,8 @@
 -- The desk of a command, by how it looks before and after it.
 use Rattle.std.specs.Prelude.{◌≡◌, ◌↔◌, ℕ, Bool, true, List, Option}
 use Rattle.dali_drive.specs.Desks.{Look, LeavesNoMore}
-use Rattle.dali_faults.specs.declared.fault.Status.{Status}
-use Rattle.dali_faults.specs.declared.fault.Status.TheVariants.{Unwritten}
+use Rattle.dali_input.specs.declared.command_fault.Status.{Status}
+use Rattle.dali_input.specs.declared.command_fault.Status.TheVariants.{Unwritten}
 
 -- a desk where its lines hold these bytes, and have failed or not
 abbrev pub with_lines : Look → Option (List ℕ) → Bool → Look

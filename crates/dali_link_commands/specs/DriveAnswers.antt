@@ -4,8 +4,8 @@ use Rattle.dali_input.specs.declared.fault.InputFault.TheVariants.{Memory, File,
 use Rattle.dali_store.specs.declared.opening.OpenFault.{OpenFault}
 use Rattle.dali_store.specs.declared.opening.OpenFault.TheVariants as unopened
 use Rattle.dali_store.specs.declared.store.StoreFault.TheVariants as stores
-use Rattle.dali_faults.specs.declared.fault.Fault.{Fault}
-use Rattle.dali_faults.specs.declared.fault.Fault.TheVariants.{Input, Journal}
+use Rattle.dali_input.specs.declared.command_fault.Fault.{Fault}
+use Rattle.dali_input.specs.declared.command_fault.Fault.TheVariants.{Input, Journal}
 use Rattle.dali_link_commands.specs.Older.{fault_unjoined}
 
 -- the fault of a journal that isn't opened

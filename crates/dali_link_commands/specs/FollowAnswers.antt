@@ -5,9 +5,9 @@ use Rattle.dali_link_commands.specs.declared.stream.order_lines.OrderLines.{Orde
 use Rattle.dali_link_commands.specs.LinesGave.{state_of}
 use Rattle.dali_input.specs.declared.fault.InputFault.TheVariants.{File}
 use Rattle.dali_report.specs.declared.outcome.Outcome.{Outcome}
-use Rattle.dali_faults.specs.declared.fault.Fault.TheVariants.{Input}
-use Rattle.dali_faults.specs.declared.fault.Status.{Status}
-use Rattle.dali_faults.specs.declared.fault.Status.TheVariants.{Refused}
+use Rattle.dali_input.specs.declared.command_fault.Fault.TheVariants.{Input}
+use Rattle.dali_input.specs.declared.command_fault.Status.{Status}
+use Rattle.dali_input.specs.declared.command_fault.Status.TheVariants.{Refused}
 use Rattle.dali_job.specs.declared.link_command.Required.{Required}
 use Rattle.dali_link_commands.specs.Bare.{TellsEnded}
 use Rattle.dali_link_commands.specs.Told.{IsFaultTold}

@@ -8,8 +8,8 @@ use Rattle.dali_store.specs.declared.file_store.FileStore.{FileStore}
 use Rattle.dali_report.specs.declared.report.Report.{Report}
 use Rattle.dali_report.specs.Told.{has_failed, has_output}
 use Rattle.dali_report.specs.declared.progress.Watched.{Watched}
-use Rattle.dali_faults.specs.declared.fault.Status.{Status}
-use Rattle.dali_faults.specs.declared.fault.Status.TheVariants.{Failed, Unwritten}
+use Rattle.dali_input.specs.declared.command_fault.Status.{Status}
+use Rattle.dali_input.specs.declared.command_fault.Status.TheVariants.{Failed, Unwritten}
 use Rattle.dali_job.specs.declared.link_command.DriveTask.{DriveTask}
 use Rattle.dali_job.specs.declared.link_command.LinkCommand.{LinkCommand}
 use Rattle.dali_link_commands.specs.declared.report_output.ReportOutput.{ReportOutput}

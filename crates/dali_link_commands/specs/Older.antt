@@ -14,11 +14,11 @@ use Rattle.dali_journal.specs.Sentence.{standing_of}
 use Rattle.dali_input.specs.declared.fault.InputFault.{InputFault}
 use Rattle.dali_input.specs.declared.fault.InputFault.TheVariants.{Memory, File, TooBig}
 use Rattle.dali_store.specs.Stores.{IsLonger, Shows}
-use Rattle.dali_faults.specs.declared.fault.Fault.{Fault}
-use Rattle.dali_faults.specs.declared.fault.Fault.TheVariants as faults
+use Rattle.dali_input.specs.declared.command_fault.Fault.{Fault}
+use Rattle.dali_input.specs.declared.command_fault.Fault.TheVariants as faults
 use Rattle.dali_link_commands.specs.declared.older.OlderFault.{OlderFault}
 use Rattle.dali_link_commands.specs.declared.older.OlderFault.TheVariants.{Unloaded, Cut, AtWork, Join}
-use Rattle.dali_faults.specs.JournalInput.{IsJournalIn, IsUnloaded, journal_limit}
+use Rattle.dali_input.specs.JournalInput.{IsJournalIn, IsUnloaded, journal_limit}
 
 -- the fault that is reported
 abbrev pub fault_older : OlderFault → Fault

@@ -9,10 +9,10 @@ use Rattle.dali_input.specs.declared.item.ItemFault.{ItemFault}
 use Rattle.dali_input.specs.Input.{InputState, IsReadFailure, ReadsInput}
 use Rattle.dali_input.specs.Orders.{AreOrdersIn, AreRefusedIn, IsInputFault, orders_limit}
 use Rattle.dali_drive.specs.Desks.{Look}
-use Rattle.dali_faults.specs.declared.fault.Fault.{Fault}
-use Rattle.dali_faults.specs.declared.fault.Fault.TheVariants.{Input}
-use Rattle.dali_faults.specs.declared.fault.Status.{Status}
-use Rattle.dali_faults.specs.declared.fault.Status.TheVariants.{Refused, Unwritten}
+use Rattle.dali_input.specs.declared.command_fault.Fault.{Fault}
+use Rattle.dali_input.specs.declared.command_fault.Fault.TheVariants.{Input}
+use Rattle.dali_input.specs.declared.command_fault.Status.{Status}
+use Rattle.dali_input.specs.declared.command_fault.Status.TheVariants.{Refused, Unwritten}
 use Rattle.dali_link_commands.specs.Benches.{IsUndriven}
 use Rattle.dali_link_commands.specs.Told.{refused_lines, IsFaultTold}
 

@@ -17,9 +17,9 @@ use Rattle.dali_drive.specs.Desks.{Look, IsDurableAt, IsUnfailed, FailsOpen, Sho
 use Rattle.dali_drive.specs.UnitRead.{IsUnitRead, UnitReadBroke}
 use Rattle.dali_report.specs.declared.report.Report.{Report}
 use Rattle.dali_report.specs.Told.{IsToldFound}
-use Rattle.dali_faults.specs.declared.fault.Fault.TheVariants.{Drive, Input}
-use Rattle.dali_faults.specs.declared.fault.Status.{Status}
-use Rattle.dali_faults.specs.declared.fault.Status.TheVariants.{Good, Refused}
+use Rattle.dali_input.specs.declared.command_fault.Fault.TheVariants.{Drive, Input}
+use Rattle.dali_input.specs.declared.command_fault.Status.{Status}
+use Rattle.dali_input.specs.declared.command_fault.Status.TheVariants.{Good, Refused}
 use Rattle.dali_link_commands.specs.Benches.{with_lines}
 use Rattle.dali_link_commands.specs.Bare.{TellsBare, is_empty}
 use Rattle.dali_link_commands.specs.OrdersAnswers.{IsUnread}

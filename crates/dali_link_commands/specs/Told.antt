@@ -8,11 +8,11 @@ use Rattle.dali_input.specs.declared.item.ItemFault.{ItemFault}
 use Rattle.dali_trace.specs.declared.fault.DriveFault.{DriveFault}
 use Rattle.dali_trace.specs.declared.fault.DriveFault.TheVariants.{Journal, Link, Out}
 use Rattle.dali_drive.specs.Streams.{PutsFirst}
-use Rattle.dali_faults.specs.declared.fault.Fault.{Fault}
-use Rattle.dali_faults.specs.declared.fault.Fault.TheVariants.{Input, Drive, Older}
-use Rattle.dali_faults.specs.declared.fault.Status.{Status}
-use Rattle.dali_faults.specs.declared.fault.Status.TheVariants.{Unwritten}
-use Rattle.dali_faults.specs.Faults.{item_line, told_line, status_of}
+use Rattle.dali_input.specs.declared.command_fault.Fault.{Fault}
+use Rattle.dali_input.specs.declared.command_fault.Fault.TheVariants.{Input, Drive, Older}
+use Rattle.dali_input.specs.declared.command_fault.Status.{Status}
+use Rattle.dali_input.specs.declared.command_fault.Status.TheVariants.{Unwritten}
+use Rattle.dali_input.specs.CommandFaults.{item_line, told_line, status_of}
 
 -- the lines of the refused items
 abbrev pub refused_lines : List (ℕ × ItemFault) → List ℕ

@@ -20,7 +20,7 @@ use crate::read::tell_line;
 use dali_address::{CensusEnd, Summary, Task};
 use dali_address_link::{End, OPEN, address_units, count_text, count_units, end_text};
 use dali_drive::{Desk, DriveFault, Sink, Source, put_all};
-use dali_faults::Status;
+use dali_input::Status;
 use dali_job::{AddressCommand, Asked};
 use dali_report::Watched;
 use dali_store::Store;

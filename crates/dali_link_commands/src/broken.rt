@@ -8,7 +8,7 @@ use crate::drive_lines::{Causes, tell_fault};
 use crate::lines::Bench;
 use crate::problem::Problem;
 use dali_drive::{Desk, Sink, Source, StoredFault};
-use dali_faults::Status;
+use dali_input::Status;
 use dali_store::Store;
 use std::alloc::Global;
 use std::io::Write;

@@ -7,7 +7,7 @@ ghost use Rattle.dali_store.specs.Stores.{LeavesOnly};
 ghost use Rattle.dali_link_commands.specs.Benches.{TellsUnwritten};
 ghost use Rattle.dali_link_commands.specs.BehindAnswers.{IsAnswerBehind};
 ghost use Rattle.dali_link_commands.specs.OrdersAnswers.{IsReaderAnswer};
-ghost use Rattle.dali_faults.specs.JournalInput.{order_limit};
+ghost use Rattle.dali_input.specs.JournalInput.{order_limit};
 
 use crate::drive_lines::tell_refused;
 use crate::follow::follow_source;
@@ -15,8 +15,7 @@ use crate::lines::Bench;
 use crate::problem::{Problem, failure_of};
 use dali_bank::Order;
 use dali_drive::{Desk, ListedOrders, Sink, Source};
-use dali_faults::Status;
-use dali_input::{Input, ORDERS_LIMIT, read_input, read_orders};
+use dali_input::{ORDERS_LIMIT, Input, Status, read_input, read_orders};
 use dali_job::DriveTask;
 use dali_report::Report;
 use dali_store::Store;

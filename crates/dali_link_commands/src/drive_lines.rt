@@ -1,14 +1,13 @@
 // How a drive's end is reported.
 ghost use Rattle.std.specs.Prelude.{◌≡◌, ◌≢◌, ◌↔◌, IfErr, IfOk, OnOk, true};
 ghost use Rattle.dali_text.specs.Output.{TellsFailure, Takes, has_failed, held, is_flushed};
-ghost use Rattle.dali_faults.specs.Ends.{TellsEnd};
+ghost use Rattle.dali_input.specs.Ends.{TellsEnd};
 ghost use Rattle.dali_link_commands.specs.Told.{IsFaultTold, is_out, refused_lines};
 
 use crate::lines::Lines;
 use crate::problem::Problem;
 use dali_drive::{DriveFault, Sink, Source};
-use dali_faults::{Fault, Status, write_refused_item};
-use dali_input::ItemFault;
+use dali_input::{Fault, ItemFault, Status, write_refused_item};
 use dali_text::{Output, OutputFailed};
 use std::alloc::Global;
 use std::io::{ErrorKind, Write};

@@ -7,15 +7,14 @@ ghost use Rattle.dali_text.specs.Output.{has_failed, held};
 ghost use Rattle.dali_link_commands.specs.Benches.{TellsUnwritten};
 ghost use Rattle.dali_link_commands.specs.BehindAnswers.{IsSourceBehind};
 ghost use Rattle.dali_link_commands.specs.FollowAnswers.{TellsFollowed};
-ghost use Rattle.dali_faults.specs.JournalInput.{journal_limit, order_limit};
+ghost use Rattle.dali_input.specs.JournalInput.{journal_limit, order_limit};
 
 use crate::broken::tell_broken;
 use crate::lines::{Bench, Lines};
 use crate::problem::{Problem, failure_of};
 use crate::required::tell_ended;
 use dali_drive::{Desk, ListedOrders, Orders, Sink, Source, Terms, follow_stored};
-use dali_faults::{JOURNAL_LIMIT, Status};
-use dali_input::InputFault;
+use dali_input::{JOURNAL_LIMIT, InputFault, Status};
 use dali_job::DriveTask;
 use dali_journal::MOST_ORDERS;
 use dali_report::{Outcome, Report};

@@ -4,7 +4,7 @@ ghost use Rattle.dali_link_commands.specs.OrdersAnswers.{IsUnopened};
 
 use crate::older::OlderFault;
 use crate::problem::{Problem, refusal_of};
-use dali_faults::Fault;
+use dali_input::Fault;
 use dali_store::{ReadFile, Store};
 use std::fs::{File, TryLockError};
 use std::io::ErrorKind;

@@ -15,7 +15,7 @@ use crate::report_file::{Others, ReportFile};
 use crate::survey::scan;
 use crate::survey_files::verify_file;
 use dali_drive::Desk;
-use dali_faults::Status;
+use dali_input::Status;
 use dali_job::{DriveTask, LinkCommand};
 use dali_report::{Progress, Watched};
 use dali_store::FileStore;

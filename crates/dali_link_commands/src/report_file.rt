@@ -9,7 +9,7 @@ use crate::lines::Lines;
 use crate::report_lines::{Held, Onward, look_through};
 use crate::report_output::ReportOutput;
 use crate::words::plain_words;
-use dali_faults::Status;
+use dali_input::Status;
 use dali_report::{Progress, Report};
 use dali_text::{Output, OutputFailed};
 use std::alloc::Global;

@@ -8,7 +8,7 @@ ghost use Rattle.dali_link_commands.specs.Bare.{ended_status as status_at_end};
 
 use crate::lines::Lines;
 use dali_drive::{Sink, put_all};
-use dali_faults::Status;
+use dali_input::Status;
 use dali_job::Required;
 use dali_report::Outcome;
 use std::io::Write;

@@ -4,8 +4,7 @@ ghost use Rattle.dali_text.specs.Escaped.{shown_text};
 ghost use Rattle.dali_link_commands.specs.Told.{IsPlain};
 
 use crate::older::OlderFault;
-use dali_faults::Fault;
-use dali_input::InputFault;
+use dali_input::{Fault, InputFault};
 use dali_journal::JoinFault;
 use dali_text::Escaped;
 use std::alloc::{AllocError, Global};

@@ -1,13 +1,12 @@
 ghost use Rattle.std.specs.Prelude.{◌≡◌, ◌≢◌, IfOk, OnOk};
 ghost use Rattle.dali_text.specs.Output.{Takes};
 ghost use Rattle.dali_file_commands.specs.NoteLines.{Tells};
-ghost use Rattle.dali_faults.specs.Ends.{TellsEnd};
-ghost use Rattle.dali_faults.specs.Faults.{status_of, told_line};
+ghost use Rattle.dali_input.specs.Ends.{TellsEnd};
+ghost use Rattle.dali_input.specs.CommandFaults.{status_of, told_line};
 ghost use Rattle.dali_file_commands.specs.Notes.{IsFaultNote, IsInputNote};
 
 use crate::notes::note::Note;
-use dali_faults::{Fault, Status, write_failure};
-use dali_input::{InputFault, SetupFault};
+use dali_input::{Fault, InputFault, SetupFault, Status, write_failure};
 use dali_journal::JournalFault;
 use dali_text::{Output, OutputFailed};
 use dali_trace::{DriveFault, RunFault};

@@ -1,6 +1,6 @@
 use Rattle.dali_input.specs.Input.{state_of}
 use Rattle.dali_file_commands.proofs.FailureLemmas.{failure_told, or_failure}
-use Rattle.dali_faults.specs.declared.fault.Fault.TheVariants.{Input}
+use Rattle.dali_input.specs.declared.command_fault.Fault.TheVariants.{Input}
 use Rattle.dali_file_commands.proofs.NoteLemmas.{fault_noted}
 use Rattle.dali_file_commands.proofs.check.try_check.Goals as goal
 

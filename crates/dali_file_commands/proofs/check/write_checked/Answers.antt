@@ -1,4 +1,4 @@
-use Rattle.dali_faults.specs.declared.fault.Fault.TheVariants.{Input}
+use Rattle.dali_input.specs.declared.command_fault.Fault.TheVariants.{Input}
 use Rattle.dali_file_commands.proofs.NoteLemmas.{fault_noted}
 use Rattle.dali_file_commands.proofs.check.write_checked.Goals as goal
 

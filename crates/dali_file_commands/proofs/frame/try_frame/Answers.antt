@@ -1,5 +1,5 @@
 use Rattle.dali_input.specs.declared.fault.InputFault.TheVariants.{Hex}
-use Rattle.dali_faults.specs.declared.fault.Fault.TheVariants.{Input}
+use Rattle.dali_input.specs.declared.command_fault.Fault.TheVariants.{Input}
 use Rattle.dali_file_commands.proofs.FrameLemmas.{word_noted}
 use Rattle.dali_file_commands.proofs.NoteLemmas.{fault_noted}
 use Rattle.dali_file_commands.proofs.frame.try_frame.Goals as goal

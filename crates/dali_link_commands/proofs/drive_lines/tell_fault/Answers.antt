@@ -1,7 +1,7 @@
 use Rattle.std.proofs.Common.{refl}
 use Rattle.dali_trace.specs.declared.fault.DriveFault.TheVariants.{Out}
-use Rattle.dali_faults.specs.declared.fault.Fault.TheVariants.{Drive}
-use Rattle.dali_faults.specs.Faults.{told_line}
+use Rattle.dali_input.specs.declared.command_fault.Fault.TheVariants.{Drive}
+use Rattle.dali_input.specs.CommandFaults.{told_line}
 use Rattle.dali_link_commands.proofs.drive_lines.tell_fault.Goals as goal
 
 pub returns-in-Out : goal.returns-in-Out

@@ -1,5 +1,5 @@
 use Rattle.std.proofs.Common.{refl, inr}
-use Rattle.dali_faults.specs.declared.fault.Status.TheVariants.{Unwritten}
+use Rattle.dali_input.specs.declared.command_fault.Status.TheVariants.{Unwritten}
 use Rattle.dali_link_commands.proofs.DriveLemmas.{puts_all}
 use Rattle.dali_link_commands.proofs.ProblemLemmas.{drive_told}
 use Rattle.dali_link_commands.proofs.problem.tell_drive_line.Goals as goal

@@ -3,7 +3,7 @@ use Rattle.dali_input.specs.BankText.{rows_text}
 use Rattle.dali_drive.specs.SurveyLines.{bytes_line}
 use Rattle.dali_store.specs.Stores.{Becomes, LeavesOnly}
 use Rattle.dali_text.specs.Output.{has_failed, held}
-use Rattle.dali_faults.specs.declared.fault.Status.TheVariants.{Good, Refused}
+use Rattle.dali_input.specs.declared.command_fault.Status.TheVariants.{Good, Refused}
 use Rattle.dali_link_commands.proofs.DriveLemmas.{line_told}
 use Rattle.dali_link_commands.proofs.ReadLemmas.{left_alone, text_put, unfailed_on}
 use Rattle.dali_link_commands.proofs.read.read_bank.Goals as goal

@@ -1,8 +1,9 @@
 ghost use Rattle.std.specs.Prelude.{◌≡◌, ◌≢◌};
-ghost use Rattle.dali_faults.specs.Faults.{exit_code, drive_status as status_of_drive};
-ghost use Rattle.dali_faults.specs.Faults.{input_status as status_of_input, status_of};
+ghost use Rattle.dali_input.specs.CommandFaults.{exit_code, drive_status as status_of_drive};
+ghost use Rattle.dali_input.specs.CommandFaults.{input_status as status_of_input, status_of};
 
-use dali_input::{InputFault, SetupFault};
+use crate::fault::InputFault;
+use crate::setup::SetupFault;
 use dali_journal::JournalFault;
 use dali_trace::{DriveFault, RunFault};
 use thiserror::Error;
@@ -102,7 +103,7 @@ fn input_status(fault: InputFault) -> Status
 
 impl From<InputFault> for Fault {
     ghost use Rattle.std.specs.Prelude.{◌≡◌};
-    ghost use Rattle.dali_faults.specs.declared.fault.Fault.TheVariants.{Input};
+    ghost use Rattle.dali_input.specs.declared.command_fault.Fault.TheVariants.{Input};
 
     ghost from_gives = { λ cause fault. fault ≡ Input cause };
 
@@ -113,7 +114,7 @@ impl From<InputFault> for Fault {
 
 impl From<SetupFault> for Fault {
     ghost use Rattle.std.specs.Prelude.{◌≡◌};
-    ghost use Rattle.dali_faults.specs.declared.fault.Fault.TheVariants.{Setup};
+    ghost use Rattle.dali_input.specs.declared.command_fault.Fault.TheVariants.{Setup};
 
     ghost from_gives = { λ cause fault. fault ≡ Setup cause };
 
@@ -124,7 +125,7 @@ impl From<SetupFault> for Fault {
 
 impl From<RunFault> for Fault {
     ghost use Rattle.std.specs.Prelude.{◌≡◌};
-    ghost use Rattle.dali_faults.specs.declared.fault.Fault.TheVariants.{Run};
+    ghost use Rattle.dali_input.specs.declared.command_fault.Fault.TheVariants.{Run};
 
     ghost from_gives = { λ cause fault. fault ≡ Run cause };
 

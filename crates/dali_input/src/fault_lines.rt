@@ -1,12 +1,14 @@
 ghost use Rattle.std.specs.Prelude.{◌≡◌, ◌≢◌, IfOk, OnOk};
 ghost use Rattle.dali_text.specs.Output.{TellsFailure, Takes};
-ghost use Rattle.dali_faults.specs.Ends.{TellsEnd};
-ghost use Rattle.dali_faults.specs.Faults.{drive_line, input_line, item_line, journal_line, told_line, place_line};
-ghost use Rattle.dali_faults.specs.Faults.{setup_line, status_of, whole_line};
+ghost use Rattle.dali_input.specs.Ends.{TellsEnd};
+ghost use Rattle.dali_input.specs.CommandFaults.{drive_line, input_line, item_line, journal_line, told_line, place_line};
+ghost use Rattle.dali_input.specs.CommandFaults.{setup_line, status_of, whole_line};
 
-use crate::fault::{Fault, Status};
+use crate::command_fault::{Fault, Status};
+use crate::fault::InputFault;
+use crate::item::ItemFault;
+use crate::setup::SetupFault;
 use dali_gear::GearFault;
-use dali_input::{InputFault, ItemFault, SetupFault};
 use dali_journal::JournalFault;
 use dali_text::{
     Output, OutputFailed, write_counted_fault, write_placed_fault, write_single_fault,

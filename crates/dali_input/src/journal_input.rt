@@ -1,9 +1,9 @@
 // A journal as a command's input.
 ghost use Rattle.std.specs.Prelude.{IfErr, IfOk};
-ghost use Rattle.dali_faults.specs.JournalInput.{IsJournalIn, IsUnloaded};
+ghost use Rattle.dali_input.specs.JournalInput.{IsJournalIn, IsUnloaded};
 
-use crate::fault::Fault;
-use dali_input::InputFault;
+use crate::command_fault::Fault;
+use crate::fault::InputFault;
 use dali_journal::{Journal, MOST_ORDERS, Version};
 use std::alloc::Global;
 

@@ -12,11 +12,11 @@ use Rattle.dali_text.specs.Output.{has_failed, is_flushed}
 use Rattle.dali_input.specs.declared.fault.InputFault.{InputFault}
 use Rattle.dali_input.specs.declared.fault.InputFault.TheVariants.{Json, Document, TooBig, Hex, Memory, File}
 use Rattle.dali_input.specs.Input.{InputState, IsReadFailure}
-use Rattle.dali_faults.specs.declared.fault.Fault.TheVariants.{Input, Journal, Older}
-use Rattle.dali_faults.specs.declared.fault.Status.TheVariants.{Good, Refused, Failed, Unwritten}
-use Rattle.dali_faults.specs.Ends.{TellsEnd}
-use Rattle.dali_faults.specs.Faults.{IsRefusal, IsFailure, told_line}
-use Rattle.dali_faults.specs.JournalInput.{IsJournalIn, IsUnloaded}
+use Rattle.dali_input.specs.declared.command_fault.Fault.TheVariants.{Input, Journal, Older}
+use Rattle.dali_input.specs.declared.command_fault.Status.TheVariants.{Good, Refused, Failed, Unwritten}
+use Rattle.dali_input.specs.Ends.{TellsEnd}
+use Rattle.dali_input.specs.CommandFaults.{IsRefusal, IsFailure, told_line}
+use Rattle.dali_input.specs.JournalInput.{IsJournalIn, IsUnloaded}
 
 -- ---- a journal
 

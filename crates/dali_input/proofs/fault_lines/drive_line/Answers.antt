@@ -1,6 +1,6 @@
 use Rattle.std.proofs.Common.{refl, arith}
 use Rattle.std.proofs.lemmas.Fmt.{decimal_digit, decimal_step}
-use Rattle.dali_faults.proofs.fault_lines.drive_line.Goals as goal
+use Rattle.dali_input.proofs.fault_lines.drive_line.Goals as goal
 
 pub returns-in-Journal : goal.returns-in-Journal
 returns-in-Journal c = rw (c.in-Journal.is, decimal_digit 1 (omega arith)) refl

@@ -4,8 +4,8 @@ use Rattle.dali_journal.specs.declared.version.Version.{Version}
 use Rattle.dali_journal.specs.JournalState.{JournalState, HoldsOrders}
 use Rattle.dali_journal.specs.Loading.{IsLoaded, IsLoadFault}
 use Rattle.dali_input.specs.declared.fault.InputFault.TheVariants.{TooBig}
-use Rattle.dali_faults.specs.declared.fault.Fault.{Fault}
-use Rattle.dali_faults.specs.declared.fault.Fault.TheVariants.{Input, Journal}
+use Rattle.dali_input.specs.declared.command_fault.Fault.{Fault}
+use Rattle.dali_input.specs.declared.command_fault.Fault.TheVariants.{Input, Journal}
 
 -- the most bytes of a journal, and the most orders
 abbrev pub journal_limit : ℕ

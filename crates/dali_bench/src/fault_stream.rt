@@ -1,13 +1,9 @@
 // How a fault outside of any command is reported.
 use dali_input::{Fault, InputFault, Status, write_fault};
+use dali_store::advice;
 use dali_text::{Escaped, Output};
 use std::io;
 use std::io::ErrorKind;
-
-// The system's number if the program may open no more files, and the words after its own then.
-const TOO_MANY_FILES: i32 = 24;
-
-const MORE_FILES: &str = ": raise the limit, as by ulimit -n 1024";
 
 // The status, after telling why the output can't be written, if that is so. If nobody reads it any more, as in
 // `check FILE | head`, nothing is printed.
@@ -35,11 +31,7 @@ pub(crate) fn unopened(
     stream: FaultStream,
 ) -> Status {
     let name = Escaped::Whole(name);
-    let advice = if cause.raw_os_error() == Some(TOO_MANY_FILES) {
-        MORE_FILES
-    } else {
-        ""
-    };
+    let advice = advice(&cause);
     let _ = eprintln!(rt; "error: the input can't be opened or read: {name}: {cause}{advice}");
     print_fault(rt, Fault::Input(InputFault::File), stream)
 }

@@ -10,6 +10,7 @@ pub mod HandedLemmas
 pub mod FollowLemmas
 pub mod FollowLawLemmas
 pub mod WholeLemmas
+pub mod AloneLemmas
 pub mod ListedLemmas
 pub mod ListedDriveLemmas
 pub mod BehindLemmas

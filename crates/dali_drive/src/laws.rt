@@ -1,6 +1,6 @@
 //! Laws of drives, over their definitions alone. Each is the contract of a function that does nothing.
 
-ghost use Rattle.std.specs.Prelude.{◌≡◌, ◌≤◌, ◌+◌, ◌∷◌, ◌++◌, ◌⊎◌, ℕ, List, Option, Some, length, reverse};
+ghost use Rattle.std.specs.Prelude.{◌≡◌, ◌≤◌, ◌+◌, ◌∷◌, ◌++◌, ◌⊎◌, ℕ, List, None, Option, Some, length, reverse};
 ghost use Rattle.dali_bank.specs.Order.{Contents};
 ghost use Rattle.dali_bus.specs.World.{World};
 ghost use Rattle.dali_bus.specs.Carry.{WorldStep};
@@ -118,6 +118,34 @@ pub fn followed_orders_are_driven()
         → first.journal ≡ Some found → IsBetween follow.then.journal last.journal left
         → (past : List Happening)
         × HasSat limit most found (record { start = start_by pace begun.journal; past = past }) left }
+{}
+
+/// Orders that are followed with no older journal are followed from the store's own. So all that is true of drives over
+/// a store, one after another, killed and started again, is true of them, as it is after older journals: of the journal
+/// that they leave if they complete or break off, and that a stop leaves at some moment of them.
+pub fn what_is_followed_alone_is_of_the_store()
+    ensures ended { (limit most : ℕ) (pace : Pace) (given : List Given) (found left : List ℕ) (first : Streams)
+        (writer : WriterState) (last : Streams) (b : IsBegunBehind None limit most first)
+        (follow : IsFollowed (start_by pace b.journal) given (record first { journal = b.begun.middle }) writer last)
+        → first.journal ≡ Some found → last.journal ≡ Some left
+        → CameToItsEnd limit most found
+        (record { start = start_by pace b.journal; past = happenings follow.steps }) left }
+    ensures broken { (limit most : ℕ) (pace : Pace) (given : List Given) (fault : DriveFault) (found left : List ℕ)
+        (first last : Streams) (b : IsBegunBehind None limit most first)
+        (follow : IsBrokenFollow (start_by pace b.journal) given fault (record first { journal = b.begun.middle }) last)
+        → first.journal ≡ Some found → IsBetween follow.then.journal last.journal left
+        → (past : List Happening)
+        × HasSat limit most found (record { start = start_by pace b.journal; past = past }) left }
+    ensures stopped { (limit most : ℕ) (pace : Pace) (given : List Given) (found seen left : List ℕ) (first : Streams)
+        (writer : WriterState) (last : Streams) (b : IsBegunBehind None limit most first)
+        → IsFollowed (start_by pace b.journal) given (record first { journal = b.begun.middle }) writer last
+        → first.journal ≡ Some found → last.journal ≡ Some seen
+        → IsPartBehind limit (Some found) (Some seen) left → StoodOnce limit most found left (muted first) last }
+    ensures stopped_broken { (limit most : ℕ) (pace : Pace) (given : List Given) (fault : DriveFault)
+        (found seen left : List ℕ) (first last : Streams) (b : IsBegunBehind None limit most first)
+        → IsBrokenFollow (start_by pace b.journal) given fault (record first { journal = b.begun.middle }) last
+        → first.journal ≡ Some found → last.journal ≡ Some seen
+        → IsPartBehind limit (Some found) (Some seen) left → StoodOnce limit most found left (muted first) last }
 {}
 
 /// The result of a call of `read_unit`, by its contract, along every chain of worlds over any bus, with losses of power

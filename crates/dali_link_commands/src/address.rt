@@ -12,7 +12,7 @@ ghost use Rattle.dali_link_commands.specs.Benches.{TellsUnwritten};
 ghost use Rattle.dali_link_commands.specs.ReadAnswers.{on_link};
 ghost use Rattle.dali_link_commands.specs.Told.{TellsLine, is_out};
 
-use crate::drive_lines::{Causes, tell_fault};
+use crate::drive_lines::{break_words, tell_fault};
 use crate::journal_files::JournalFiles;
 use crate::lines::{Bench, Lines, StdBench};
 use crate::older::held_older;
@@ -116,8 +116,8 @@ fn run<I: Source, L: Sink, S: Store, W: Write>(
     match ended {
         Ok(end) => tell_end(&mut desk.out, counted, end),
         Err(fault) => {
-            let causes = Causes::of(&desk.link_in, &desk.link_out, None);
-            tell_break(alloc, &mut desk.out, task, fault, causes)
+            let words = break_words(alloc, desk, fault);
+            tell_break(alloc, &mut desk.out, task, fault, words)
         }
     }
 }
@@ -140,8 +140,8 @@ fn count<I: Source, L: Sink, S: Store, W: Write>(
             run(alloc, Task::Close, &[], Some(end), desk)
         }
         Err(fault) => {
-            let causes = Causes::of(&desk.link_in, &desk.link_out, None);
-            tell_break(alloc, &mut desk.out, Task::Close, fault, causes)
+            let words = break_words(alloc, desk, fault);
+            tell_break(alloc, &mut desk.out, Task::Close, fault, words)
         }
     }
 }
@@ -158,7 +158,7 @@ fn tell_break<W: Write>(
     lines: &mut Lines<W>,
     task: Task,
     fault: DriveFault,
-    causes: Causes<'_>,
+    words: Option<String>,
 ) -> Status
     requires { has_failed lines.old.output ≡ is_out fault }
     ensures told { TellsBreak (left_open task fault) fault result
@@ -166,9 +166,9 @@ fn tell_break<W: Write>(
         × (result ≡ Status.Unwritten ↔ has_failed lines.new.output ≡ true) }
 {
     if is_left_open(task, fault) {
-        tell_open(alloc, lines, fault, causes)
+        tell_open(alloc, lines, fault, words)
     } else {
-        tell_fault(alloc, lines, fault, causes)
+        tell_fault(alloc, lines, fault, words)
     }
 }
 
@@ -177,7 +177,7 @@ fn tell_open<W: Write>(
     alloc: Global,
     lines: &mut Lines<W>,
     fault: DriveFault,
-    causes: Causes<'_>,
+    words: Option<String>,
 ) -> Status
     requires unfailed { has_failed lines.old.output ≡ false }
     requires other { is_out fault ≡ false }
@@ -187,7 +187,7 @@ fn tell_open<W: Write>(
     if !put_all(lines, OPEN.as_bytes()) {
         return Status::Unwritten;
     }
-    tell_fault(alloc, lines, fault, causes)
+    tell_fault(alloc, lines, fault, words)
 }
 
 // Whether units may be in the initialisation state after a run broke off, and that can be reported.

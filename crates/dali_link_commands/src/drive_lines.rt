@@ -1,62 +1,47 @@
 // How a drive's end is reported.
 ghost use Rattle.std.specs.Prelude.{◌≡◌, ◌≢◌, ◌↔◌, IfErr, IfOk, OnOk, true};
+ghost use Rattle.dali_drive.specs.Stored.{StoredShows};
 ghost use Rattle.dali_text.specs.Output.{TellsFailure, Takes, has_failed, held, is_flushed};
 ghost use Rattle.dali_input.specs.Ends.{TellsEnd};
+ghost use Rattle.dali_link_commands.specs.Benches.{TellsUnwritten};
+ghost use Rattle.dali_link_commands.specs.BehindAnswers.{IsBreakTold};
 ghost use Rattle.dali_link_commands.specs.Told.{IsFaultTold, is_out, refused_lines};
 
-use crate::lines::Lines;
+use crate::lines::{Bench, Lines};
 use crate::problem::Problem;
-use dali_drive::{DriveFault, Sink, Source};
+use dali_drive::{Desk, DriveFault, Sink, Source, StoredFault};
 use dali_input::{Fault, ItemFault, Status, write_refused_item};
+use dali_store::Store;
 use dali_text::{Output, OutputFailed};
 use std::alloc::Global;
-use std::io::{ErrorKind, Write};
+use std::io::Write;
 
-/// Why a drive or a reading broke off: the kind of failure of the link's streams, and the words that the store of the
-/// journal has for its own.
-#[derive(Clone, Copy)]
-pub struct Causes<'a> {
-    pub link_in: Option<ErrorKind>,
-    pub link_out: Option<ErrorKind>,
-    pub store: Option<&'a str>,
-}
-
-impl<'a> Causes<'a> {
-    /// Of the streams of a link, and of the store of a journal with these words.
-    pub(crate) fn of<I: Source, L: Sink>(
-        link_in: &I,
-        link_out: &L,
-        store: Option<&'a str>,
-    ) -> Causes<'a> {
-        Causes {
-            link_in: link_in.cause(),
-            link_out: link_out.cause(),
-            store,
+/// Why a drive or a reading broke off at a desk, in words: the kind of failure of the link's streams, or what the store
+/// of the journal says of its own. None if there are none, or no memory for them.
+pub(crate) fn break_words<I: Source, L: Sink, S: Store, W: Write>(
+    alloc: Global,
+    desk: &Bench<I, L, S, W>,
+    fault: DriveFault,
+) -> Option<String> {
+    match (fault, desk.link_in.cause(), desk.link_out.cause()) {
+        (DriveFault::Journal, _, _) => String::from_str(alloc, desk.journal.cause()?).ok(),
+        (DriveFault::Link, _, Some(kind)) => {
+            format!(in alloc; "the frames can't be written to standard output: {kind}").ok()
         }
-    }
-
-    /// Words for a fault, if there are any, and memory for them.
-    pub(crate) fn words(&self, alloc: Global, fault: DriveFault) -> Option<String> {
-        match (fault, self.link_in, self.link_out) {
-            (DriveFault::Journal, _, _) => String::from_str(alloc, self.store?).ok(),
-            (DriveFault::Link, _, Some(kind)) => {
-                format!(in alloc; "the frames can't be written to standard output: {kind}").ok()
-            }
-            (DriveFault::Link, Some(kind), None) => {
-                format!(in alloc; "the answers can't be read from standard input: {kind}").ok()
-            }
-            _ => None,
+        (DriveFault::Link, Some(kind), None) => {
+            format!(in alloc; "the answers can't be read from standard input: {kind}").ok()
         }
+        _ => None,
     }
 }
 
 /// Writes the fault of a drive, if the lines could be written: its line, and before that of 1 Journal and 2 Link its
-/// cause in words.
+/// cause in these words.
 pub fn tell_fault<W: Write>(
     alloc: Global,
     lines: &mut Lines<W>,
     fault: DriveFault,
-    causes: Causes<'_>,
+    words: Option<String>,
 ) -> Status
     requires { has_failed lines.old.output ≡ is_out fault }
     ensures told { IsFaultTold (Fault.Drive fault) result
@@ -65,7 +50,32 @@ pub fn tell_fault<W: Write>(
 {
     match fault {
         DriveFault::Out => Status::Unwritten,
-        fault => Problem::broken(alloc, fault, causes).tell(lines),
+        fault => Problem::broken(alloc, fault, words).tell(lines),
+    }
+}
+
+// Reports why not all was followed, with the name of the journal, if the lines haven't failed, or that is the fault.
+pub(crate) fn tell_broken<I: Source, L: Sink, S: Store, W: Write>(
+    alloc: Global,
+    name: &str,
+    desk: &mut Bench<I, L, S, W>,
+    fault: StoredFault,
+) -> Status
+    requires shown { StoredShows fault (⟦<Bench<I, L, S, W> as Desk>⟧.look desk.old).failed }
+    ensures told { let look = ⟦<Bench<I, L, S, W> as Desk>⟧.look in
+        IsBreakTold fault result (look desk.old).streams.out (look desk.new).streams.out }
+    ensures only { desk.new ≡ record desk.old { out = desk.new.out } }
+    ensures unwritten { TellsUnwritten result (⟦<Bench<I, L, S, W> as Desk>⟧.look desk.new) }
+    ensures not_good { result ≢ Status.Good }
+{
+    match fault {
+        StoredFault::Open(fault) => {
+            Problem::unopened(alloc, name, fault, desk.journal.cause()).tell(&mut desk.out)
+        }
+        StoredFault::Drive(fault) => {
+            let words = break_words(alloc, desk, fault);
+            tell_fault(alloc, &mut desk.out, fault, words)
+        }
     }
 }
 

@@ -9,7 +9,7 @@ ghost use Rattle.dali_link_commands.specs.BehindAnswers.{IsSourceBehind};
 ghost use Rattle.dali_link_commands.specs.FollowAnswers.{TellsFollowed};
 ghost use Rattle.dali_input.specs.JournalInput.{journal_limit, order_limit};
 
-use crate::broken::tell_broken;
+use crate::drive_lines::tell_broken;
 use crate::lines::{Bench, Lines};
 use crate::problem::{Problem, failure_of};
 use crate::required::tell_ended;

@@ -4,6 +4,7 @@ ghost use Rattle.dali_link_commands.specs.OrdersAnswers.{IsUnopened};
 
 use crate::older::OlderFault;
 use crate::problem::{Problem, refusal_of};
+use crate::words::system_words;
 use dali_input::Fault;
 use dali_store::{ReadFile, Store};
 use std::fs::{File, TryLockError};
@@ -40,7 +41,7 @@ impl JournalFiles for HostRuntime {
             Ok(file) => Ok(ReadFile::new(self.alloc(), file)),
             Err(error) => {
                 let fault = OlderFault::Unloaded(Fault::Input(refusal_of(&error)));
-                let words = format!(in self.alloc(); "{error}").ok();
+                let words = system_words(self.alloc(), &error);
                 Err(Problem::older(self.alloc(), name, fault, words.as_deref()))
             }
         }
@@ -51,7 +52,7 @@ impl JournalFiles for HostRuntime {
             Ok(file) => Ok(ReadFile::new(self.alloc(), file)),
             Err(error) => {
                 let fault = Fault::Input(refusal_of(&error));
-                let words = format!(in self.alloc(); "{error}").ok();
+                let words = system_words(self.alloc(), &error);
                 Err(Problem::unasked(self.alloc(), name, fault, words.as_deref()))
             }
         }

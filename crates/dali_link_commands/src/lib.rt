@@ -6,7 +6,6 @@
 
 pub mod address;
 pub mod asked;
-mod broken;
 pub mod drive;
 pub mod drive_files;
 mod drive_lines;

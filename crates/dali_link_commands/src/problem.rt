@@ -12,10 +12,10 @@ ghost use Rattle.dali_link_commands.specs.Older.{fault_older};
 ghost use Rattle.dali_link_commands.specs.OrdersAnswers.{IsUnopened, IsUnread};
 ghost use Rattle.dali_link_commands.specs.Told.{IsFaultTold, IsPlain, TellsText, error_line, is_worded};
 
-use crate::drive_lines::{Causes, written_status};
+use crate::drive_lines::written_status;
 use crate::lines::Lines;
 use crate::older::OlderFault;
-use crate::words::{older_words, plain_words, shown, unread_words};
+use crate::words::{older_words, plain_words, unread_words};
 use dali_drive::{DriveFault, Sink, put_all};
 use dali_input::{Fault, InputFault, Status, drive_line, write_failure};
 use dali_journal::JournalFault;
@@ -142,20 +142,12 @@ impl Problem {
         Problem::new(alloc, fault, made)
     }
 
-    /// A drive or a reading broke off.
-    pub(crate) fn broken(alloc: Global, fault: DriveFault, causes: Causes<'_>) -> Problem
+    /// A drive or a reading broke off, for the cause in these words, if there are any.
+    pub(crate) fn broken(alloc: Global, fault: DriveFault, words: Option<String>) -> Problem
         requires { fault ≢ Out }
         ensures { result.fault ≡ Fault.Drive fault }
     {
-        let words = match causes.words(alloc, fault) {
-            Some(words) => shown(alloc, words.as_str()).ok(),
-            None => None,
-        };
-        Problem {
-            fault: Fault::Drive(fault),
-            words,
-            is_older: false,
-        }
+        Problem::new(alloc, Fault::Drive(fault), words)
     }
 
     // The words before the fault's line; none if it has none.

@@ -8,7 +8,7 @@ ghost use Rattle.dali_input.specs.declared.fault.InputFault.{InputFault};
 ghost use Rattle.dali_link_commands.specs.OrdersAnswers.{IsUnread};
 ghost use Rattle.dali_link_commands.specs.Told.{IsFaultTold, TellsLine};
 
-use crate::drive_lines::{Causes, tell_fault};
+use crate::drive_lines::{break_words, tell_fault};
 use crate::lines::{Bench, Lines};
 use crate::problem::Problem;
 use dali_drive::{Desk, Sink, Source, bytes_line, put_all, read_unit, silent_line};
@@ -47,8 +47,8 @@ pub fn read_bank<I: Source, L: Sink, S: Store, W: Write>(
         }
         Ok(None) => tell_line(&mut desk.out, &silent_line(unit), Status::Refused),
         Err(fault) => {
-            let causes = Causes::of(&desk.link_in, &desk.link_out, None);
-            tell_fault(alloc, &mut desk.out, fault, causes)
+            let words = break_words(alloc, desk, fault);
+            tell_fault(alloc, &mut desk.out, fault, words)
         }
     }
 }

@@ -8,7 +8,7 @@ ghost use Rattle.dali_link_commands.specs.Told.{IsPlain, error_line};
 use crate::lines::Lines;
 use crate::report_lines::{Held, Onward, look_through};
 use crate::report_output::ReportOutput;
-use crate::words::plain_words;
+use crate::words::{plain_words, system_words};
 use dali_input::Status;
 use dali_report::{Progress, Report};
 use dali_text::{Output, OutputFailed};
@@ -106,7 +106,7 @@ impl<'a> ReportFile<'a> {
     // Why it couldn't be opened or written, in words.
     fn cause(&self, alloc: Global) -> Option<String> {
         let words = match (&self.unopened, self.report.cause()) {
-            (Some(Unopened::Refused(error)), _) => return format!(in alloc; "{error}").ok(),
+            (Some(Unopened::Refused(error)), _) => return system_words(alloc, error),
             (None, Some(kind)) => return format!(in alloc; "{kind}").ok(),
             (Some(Unopened::Dash), _) => "it is standard output, where the frames go",
             (Some(Unopened::Link), _) => "it is a link: name the file itself",

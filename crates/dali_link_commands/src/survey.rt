@@ -9,7 +9,7 @@ ghost use Rattle.dali_link_commands.specs.Benches.{TellsUnwritten};
 ghost use Rattle.dali_link_commands.specs.OrdersAnswers.{IsReaderAnswer};
 ghost use Rattle.dali_link_commands.specs.ReadAnswers.{IsScanAnswer, IsVerifyAnswer, asked_addresses};
 
-use crate::drive_lines::{Causes, tell_fault, tell_refused};
+use crate::drive_lines::{break_words, tell_fault, tell_refused};
 use crate::lines::{Bench, Lines};
 use crate::problem::{Problem, failure_of};
 use crate::required::tell_bare;
@@ -87,8 +87,8 @@ pub fn verify_units<I: Source, L: Sink, S: Store, W: Write, N: Write + Drop>(
     match ended {
         Ok(all_same) => tell_verified(&mut desk.out, orders, all_same),
         Err(fault) => {
-            let causes = Causes::of(&desk.link_in, &desk.link_out, None);
-            tell_fault(alloc, &mut desk.out, fault, causes)
+            let words = break_words(alloc, desk, fault);
+            tell_fault(alloc, &mut desk.out, fault, words)
         }
     }
 }
@@ -135,8 +135,8 @@ pub fn scan<I: Source, L: Sink, S: Store, W: Write>(
     ) {
         Ok(_) => Status::Good,
         Err(fault) => {
-            let causes = Causes::of(&desk.link_in, &desk.link_out, None);
-            tell_fault(alloc, &mut desk.out, fault, causes)
+            let words = break_words(alloc, desk, fault);
+            tell_fault(alloc, &mut desk.out, fault, words)
         }
     }
 }

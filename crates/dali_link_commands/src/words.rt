@@ -6,24 +6,16 @@ ghost use Rattle.dali_link_commands.specs.Told.{IsPlain};
 use crate::older::OlderFault;
 use dali_input::{Fault, InputFault};
 use dali_journal::JoinFault;
+use dali_store::advice;
 use dali_text::Escaped;
 use std::alloc::{AllocError, Global};
 use std::io;
-
-// The end of the system's words if the command may open no more files, and what to do then.
-const TOO_MANY_FILES: &str = "(os error 24)";
-
-const MORE_FILES: &str = "raise the limit, as by ulimit -n 1024";
 
 /// Words as they are shown; none if there is no memory for that.
 pub(crate) fn plain_words(alloc: Global, made: Option<String>) -> Option<String>
     ensures { IfSome result (λ words. IsPlain (string_bytes words)) }
 {
     let made = made?;
-    if made.as_str().ends_with(TOO_MANY_FILES) {
-        let advised = format!(in alloc; "{made}: {MORE_FILES}").ok()?;
-        return shown(alloc, advised.as_str()).ok();
-    }
     shown(alloc, made.as_str()).ok()
 }
 
@@ -36,10 +28,17 @@ pub(crate) fn shown(alloc: Global, text: &str) -> Result<String, AllocError>
     format!(in alloc; "{shown}")
 }
 
+/// The system's words on a failure, and what to do about it, if there is memory for them.
+pub(crate) fn system_words(alloc: Global, error: &io::Error) -> Option<String> {
+    let advice = advice(error);
+    format!(in alloc; "{error}{advice}").ok()
+}
+
 /// Words for a file that can't be read, with the cause if there is one, and memory for it.
 pub(crate) fn unread_words(alloc: Global, name: &str, cause: Option<io::Error>) -> Option<String> {
     if let Some(cause) = cause {
-        if let Ok(words) = format!(in alloc; "the file can't be used: {name}: {cause}") {
+        let advice = advice(&cause);
+        if let Ok(words) = format!(in alloc; "the file can't be used: {name}: {cause}{advice}") {
             return Some(words);
         }
     }

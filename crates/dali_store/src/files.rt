@@ -10,6 +10,9 @@ use std::io::{ErrorKind, Read};
 // How many bytes are read at a time.
 const CHUNK: usize = 65536;
 
+// The system's number if the program may open no more files.
+const TOO_MANY_FILES: i32 = 24;
+
 // Why a call doesn't do what is asked: with the words for a person, if it fails.
 #[derive(Drop)]
 pub(crate) enum Hindrance {
@@ -23,7 +26,16 @@ pub(crate) fn unusable(alloc: Global, name: &str, cause: io::Error) -> Hindrance
     if cause.kind() == ErrorKind::OutOfMemory {
         return Hindrance::NoMemory;
     }
-    Hindrance::Failed(format!(in alloc; "the file can't be used: {name}: {cause}").ok())
+    let advice = advice(&cause);
+    Hindrance::Failed(format!(in alloc; "the file can't be used: {name}: {cause}{advice}").ok())
+}
+
+/// The advice on a failure of the system, after its words: none, unless too many files are open.
+pub fn advice(cause: &io::Error) -> &'static str {
+    match cause.raw_os_error() {
+        Some(TOO_MANY_FILES) => ": raise the limit, as by ulimit -n 1024",
+        _ => "",
+    }
 }
 
 pub(crate) fn refused(alloc: Global, why: &str, name: &str) -> Hindrance {

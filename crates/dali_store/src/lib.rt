@@ -15,6 +15,7 @@ mod store;
 mod text_file;
 
 pub use file_store::FileStore;
+pub use files::advice;
 pub use memory::MemoryStore;
 pub use opening::{OpenFault, open};
 pub use read_file::{ReadFile, settle_read};

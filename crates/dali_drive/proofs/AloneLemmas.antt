@@ -40,12 +40,14 @@ module _ (pace : Pace) {limit most : ℕ} {found : List ℕ} {first : Streams} (
       (as_drive (start_by pace b.journal) given (from b) writer last follow)
 
   pub followed_broke_stood : (fault : DriveFault)
-      → IsBrokenFollow (start_by pace b.journal) given fault (from b) last → StoodOnce limit most found left (muted first) last
+      → IsBrokenFollow (start_by pace b.journal) given fault (from b) last
+      → StoodOnce limit most found left (muted first) last
   followed_broke_stood fault follow = by (fell (λ then. ⊤) follow tt) where
     by : Fell (start_by pace b.journal) (reverse (submitted given)) fault (muted (from b)) last (λ then. ⊤)
         → StoodOnce limit most found left (muted first) last
     by (inl (d, so)) =
-        stood_before pace {first = muted first} last is held (begun_so pace is b) (reverse (submitted given)) part fault d
+        stood_before pace {first = muted first} last is held (begun_so pace is b) (reverse (submitted given)) part
+        fault d
     by (inr (writer, then, d, keeps, so, still)) =
         stood_in pace {first = muted first} last is held (begun_so pace is b) (reverse (submitted given)) part writer
         still

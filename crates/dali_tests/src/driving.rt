@@ -1,7 +1,7 @@
 // An order for a unit that isn't there, over streams of std and over a store in memory. The contract of a drive says
 // what it does over others.
 use dali_bank::Order;
-use dali_journal::Journal;
+use dali_journal::{Journal, Standing};
 use dali_shared_tests::{GTIN, expect_that};
 use dali_writer::{
     MemoryStore, Pace, StdSink, StdSource, StoreDesk, Terms, Writer, drive, drive_stored,
@@ -120,4 +120,41 @@ fn is_stored(alloc: Global) -> Result<bool, Fail> {
 #[test]
 fn a_store_in_memory(rt: HostRuntime) -> Result<(), Fail> {
     expect_that(is_stored(rt.alloc())?, "a drive over a store in memory")
+}
+
+// Whether the order is answered by an older journal that has ended it: no frame is sent, and the store has no record.
+fn is_answered_by_older(alloc: Global) -> Result<bool, Fail> {
+    let (older, _, _) = Journal::load(alloc, 10, &FILE)?;
+    let Standing::Idle = older.standing() else {
+        return Ok(false);
+    };
+    let orders = [order()?];
+    let mut link = Vec::new(alloc);
+    let mut told = Unflushed {
+        held: Vec::new(alloc),
+    };
+    let mut desk = StoreDesk {
+        link_in: StdSource::new(SILENCE.as_bytes()),
+        link_out: StdSink::new(&mut link),
+        journal: MemoryStore::new(alloc, Vec::new(alloc)),
+        older: Some(older),
+        out: StdSink::new(&mut told),
+    };
+    let driven = drive_stored(alloc, TERMS, &orders, 0, &mut desk);
+    let is_bare = desk.journal.bytes() == &FILE[..4];
+    drop(desk);
+    Ok(
+        driven.is_ok()
+            && is_bare
+            && link.is_empty()
+            && told.held.as_slice() == b"reply 1 kept 3 Silent\n",
+    )
+}
+
+#[test]
+fn a_store_after_an_older_journal(rt: HostRuntime) -> Result<(), Fail> {
+    expect_that(
+        is_answered_by_older(rt.alloc())?,
+        "a drive after an older journal",
+    )
 }

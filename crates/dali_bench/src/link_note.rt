@@ -1,8 +1,8 @@
 // The words after the lines of a command over a link, for a person who watches it, if it was refused: what its files
 // are instead, in the words of `check`, and that there is no adapter. No answer depends on it.
-use dali_input::{Input, Status};
 use dali_file_commands::FileCommand;
 use dali_file_commands::notes::{FirstLines, Kind};
+use dali_input::{Input, Status};
 use dali_job::LinkCommand;
 use dali_text::{Escaped, Output};
 use std::io::{LineWriter, Read, Write};

@@ -2,9 +2,9 @@
 //! what the commands answer if nothing fails.
 
 use crate::streams::{Behind, TestReader, TestWriter};
-use dali_input::{Input, Status};
 use dali_file_commands::FileCommand;
 use dali_file_commands::frame::frame;
+use dali_input::{Input, Status};
 use dali_shared_tests::{expect_at, expect_that};
 use dali_text::Output;
 use std::alloc::Global;

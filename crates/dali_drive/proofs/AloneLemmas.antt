@@ -1,5 +1,6 @@
 -- Orders that are followed with no older journal are followed from the store's own.
-use Rattle.std.proofs.Common.{◌≡◌, sym, subst, ℕ, List, Option, Some, None, reverse, inl, inr, tt, ⊤}
+use Rattle.std.proofs.Common.{◌≡◌, sym, subst, ℕ, List, Some, None, reverse, inl, inr}
+use Rattle.std.specs.Prelude.{⊤}
 use Rattle.dali_journal.specs.declared.version.Version.TheVariants.{Two}
 use Rattle.dali_journal.specs.JournalState.{JournalState}
 use Rattle.dali_journal.specs.Spelling.{journal_spelling}

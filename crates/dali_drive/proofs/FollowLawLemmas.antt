@@ -147,7 +147,7 @@ module _ (pace : Pace) {limit most : ℕ} {found : List ℕ} {first : Streams} (
 module _ (pace : Pace) {limit most : ℕ} {found : List ℕ} {first : Streams} (is : first.journal ≡ Some found)
     (b : IsBegun limit most first) where
   -- a journal is opened whatever the replies' stream is
-  abbrev begun_so : IsBegun limit most (muted first)
+  abbrev pub begun_so : IsBegun limit most (muted first)
   begun_so = record { journal = b.journal; opened = b.opened; middle = b.middle; written = b.written }
 
   pub followed_ended : (given : List Given) (writer : WriterState) (last : Streams) (left : List ℕ)

@@ -18,7 +18,9 @@ use crate::notes::{
     Note, Repeats, note_of_accepted, note_of_item, note_of_orders, write_noted_failure,
 };
 use dali_bank::Order;
-use dali_input::{ORDERS_LIMIT, Fault, Input, Item, ItemFault, Items, Status, read_input, write_refused_item};
+use dali_input::{
+    Fault, Input, Item, ItemFault, Items, ORDERS_LIMIT, Status, read_input, write_refused_item,
+};
 use dali_journal::Journal;
 use dali_text::{Output, OutputFailed, write_order, write_tally};
 use json::Scratch;

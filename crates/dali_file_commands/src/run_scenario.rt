@@ -14,8 +14,11 @@ ghost use Rattle.dali_file_commands.specs.RunAnswers.{IsRan, IsRunAnswer, IsUnru
 
 use crate::notes::{Note, note_of_json, note_of_scenario, note_of_setup, write_noted_failure};
 use dali_engine::{Outcome, RunFault, run_sim_with_pace};
-use dali_input::{Fault, Input, InputFault, Scenario, Setup, SetupFault, Status, json_of, read_input, scenario_of, setup_of};
 use dali_gear::SimBus;
+use dali_input::{
+    Fault, Input, InputFault, Scenario, Setup, SetupFault, Status, json_of, read_input,
+    scenario_of, setup_of,
+};
 use dali_journal::MOST_ORDERS;
 use dali_text::{Output, OutputFailed, write_run};
 use serde_json::Value;

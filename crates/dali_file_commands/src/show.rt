@@ -9,7 +9,7 @@ ghost use Rattle.dali_input.specs.Ends.{TellsEnd};
 ghost use Rattle.dali_file_commands.specs.Notes.{IsNotedAnswer};
 
 use crate::notes::{Note, note_of_bank, write_noted_failure};
-use dali_input::{TEXT_LIMIT, Fault, Input, Status, bank_of, read_input};
+use dali_input::{Fault, Input, Status, TEXT_LIMIT, bank_of, read_input};
 use dali_text::{Output, OutputFailed, write_bank};
 use std::alloc::Global;
 use std::io::{Read, Write};

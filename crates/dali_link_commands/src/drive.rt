@@ -15,7 +15,7 @@ use crate::lines::Bench;
 use crate::problem::{Problem, failure_of};
 use dali_bank::Order;
 use dali_drive::{Desk, ListedOrders, Sink, Source};
-use dali_input::{ORDERS_LIMIT, Input, Status, read_input, read_orders};
+use dali_input::{Input, ORDERS_LIMIT, Status, read_input, read_orders};
 use dali_job::DriveTask;
 use dali_report::Report;
 use dali_store::Store;

@@ -14,7 +14,7 @@ use crate::lines::{Bench, Lines};
 use crate::problem::{Problem, failure_of};
 use crate::required::tell_ended;
 use dali_drive::{Desk, ListedOrders, Orders, Sink, Source, Terms, follow_stored};
-use dali_input::{JOURNAL_LIMIT, InputFault, Status};
+use dali_input::{InputFault, JOURNAL_LIMIT, Status};
 use dali_job::DriveTask;
 use dali_journal::MOST_ORDERS;
 use dali_report::{Outcome, Report};

@@ -12,7 +12,7 @@ ghost use Rattle.dali_link_commands.specs.OrdersAnswers.{IsUnopened};
 use crate::journal_files::JournalFiles;
 use crate::problem::Problem;
 use dali_drive::DriveFault;
-use dali_input::{JOURNAL_LIMIT, Fault, InputFault, journal_in};
+use dali_input::{Fault, InputFault, JOURNAL_LIMIT, journal_in};
 use dali_journal::{JoinFault, Journal, JournalFault, Standing};
 use dali_store::{Store, StoreFault};
 use std::alloc::Global;

@@ -15,7 +15,7 @@ use crate::problem::{Problem, failure_of};
 use crate::required::tell_bare;
 use dali_bank::Order;
 use dali_drive::{Desk, Sink, Sought, Source, scan_units, verify_orders};
-use dali_input::{ORDERS_LIMIT, Input, Status, read_input, read_orders};
+use dali_input::{Input, ORDERS_LIMIT, Status, read_input, read_orders};
 use dali_report::Report;
 use dali_store::Store;
 use std::alloc::Global;

@@ -147,7 +147,7 @@ fn is_answered_by_older(alloc: Global) -> Result<bool, Fail> {
         driven.is_ok()
             && is_bare
             && link.is_empty()
-            && told.held.as_slice() == b"reply 1 kept 3 Silent\n",
+            && told.held.as_slice() == b"reply 1 kept 3 Silent\n".as_slice(),
     )
 }
 

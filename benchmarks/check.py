@@ -81,10 +81,10 @@ def measure_check(bench):
 
 def draw(found):
     """Draw the time and the memory of each program over the size."""
-    for name, title, of in (("check_time", "seconds", lambda best: best.seconds),
-                            ("check_memory", "MiB", lambda best: best.peak_memory / MEBIBYTE)):
+    for name, title, unit, of in (("check_time", "Time", "seconds", lambda best: best.seconds),
+                                  ("check_memory", "Peak memory", "MiB", lambda best: best.peak_memory / MEBIBYTE)):
         lines = {program: [(size, of(found[size][program])) for size in SIZES] for program in found[SIZES[0]]}
-        pictures.save(name, "Reading of orders", "MiB of orders", title, lines)
+        pictures.save(name, f"{title} of reading orders", "MiB of orders", unit, lines)
 
 
 def measure_inputs(bench):

@@ -11,23 +11,15 @@ The status is the highest of the scripts': 0 if each aim is held.
 
 import argparse
 import pathlib
-import resource
 import subprocess
 import sys
 
 sys.dont_write_bytecode = True
 
 from measuring import PROGRAM, REPOSITORY, print_machine  # noqa: E402
+from proving import yardstick  # noqa: E402
 
 SCRIPTS = ("check", "journal", "drive", "plans", "address", "line_computer")
-
-
-def yardstick():
-    """Give the seconds of the processor that `rt selftest` takes."""
-    before = resource.getrusage(resource.RUSAGE_CHILDREN)
-    subprocess.run(["rt", "selftest"], stdout=subprocess.DEVNULL, stderr=subprocess.DEVNULL, check=True)
-    after = resource.getrusage(resource.RUSAGE_CHILDREN)
-    return after.ru_utime + after.ru_stime - before.ru_utime - before.ru_stime
 
 
 def taken(name, folder, program):
@@ -48,7 +40,7 @@ def main():
     options = parser.parse_args()
     options.folder.mkdir(parents=True, exist_ok=True)
     print_machine()
-    print(f"rt selftest: {yardstick():.0f} s of the processor", flush=True)
+    yardstick()
     return max(taken(name, options.folder, options.program.resolve()) for name in SCRIPTS)
 
 

@@ -96,6 +96,12 @@ def has_memory():
     return free is None or free >= ONE_CHECK
 
 
+def jobs_of(processors):
+    """Give on how many of the processors a check is done that is alone at work, as memory allows it."""
+    free = free_memory()
+    return processors if free is None else max(min(free // ONE_CHECK, processors), 1)
+
+
 def wait_for_memory():
     """Wait until there is memory for one more check, or ten minutes."""
     for _ in range(600):

@@ -1,7 +1,7 @@
 """How far a build is, and how long the rest takes.
 
-That is by the processor time that each library took where it was measured, and by how fast this machine was on those
-that are done.
+That is by the time that each library took where it was measured, and by how fast this machine was on those that are
+done.
 """
 
 import heapq
@@ -12,7 +12,7 @@ import time
 
 from crates import ONE_CHECK, free_memory
 
-# The seconds of a processor that each library and the program take, as `build --measure` writes them.
+# The seconds by the clock that each library and the program take on four processors, as `build --measure` writes them.
 TABLE = pathlib.Path(__file__).with_name("build_seconds.json")
 PROGRAM = "dali_bench"
 # The processors of the machine for which an estimate is printed before a build begins.
@@ -30,6 +30,14 @@ def write_measured(seconds):
     """Write the seconds of each library and of the program."""
     text = json.dumps({name: round(took, 1) for name, took in sorted(seconds.items())}, indent=4)
     TABLE.write_text(f"{text}\n", encoding="utf-8")
+
+
+def shares(clock, processor):
+    """Give a table of the seconds that each library and the program took, those with the most of the processors first."""
+    together = sum(processor.values())
+    rows = [f"{clock[name]:9.1f} {took:9.1f} {100 * took / together:5.1f} %  {name}"
+            for name, took in processor.most_common()]
+    return "\n".join(["seconds by the clock, of the processors, and their share:", *rows])
 
 
 def time_of(seconds, used, processors, running=()):

@@ -4,6 +4,7 @@
 The last line is `N passed, M failed`, and the status is 0 only where none failed.
 """
 
+import collections
 import fcntl
 import json
 import os
@@ -86,6 +87,21 @@ def test_time_of_what_was_proved_before(folder):
 
 def test_no_time_where_nobody_knows_what_is_proved(folder):
     want(told(None, (0, "begin", "low"), (5, "done", "low")), ["1 of 4 libraries"])
+
+
+def test_processors_of_a_check_that_is_alone(folder):
+    # A check may take 4 GiB, and one has begun in any case.
+    for gigabytes, processors, jobs in ((24, 4, 4), (12, 4, 3), (3, 4, 1), (None, 4, 4), (24, 2, 2)):
+        free = gigabytes and gigabytes << 30
+        with mock.patch.object(crates, "free_memory", lambda free=free: free):
+            want(crates.jobs_of(processors), jobs)
+
+
+def test_shares_of_the_processors(folder):
+    want(progress.shares({"low": 60, "top": 20.04}, collections.Counter({"low": 90, "top": 30})).splitlines(), [
+        "seconds by the clock, of the processors, and their share:",
+        "     60.0      90.0  75.0 %  low",
+        "     20.0      30.0  25.0 %  top"])
 
 
 def repository(folder):

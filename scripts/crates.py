@@ -13,6 +13,8 @@ CRATES = ROOT / "crates"
 PARTS = ("src", "specs", "proofs")
 # The memory that a check may take, in bytes, of the largest crate and some more.
 ONE_CHECK = 4 << 30
+# More processors than these seldom help a check.
+MOST_JOBS = 8
 
 
 def text_of(path):
@@ -99,7 +101,7 @@ def has_memory():
 def jobs_of(processors):
     """Give on how many of the processors a check is done that is alone at work, as memory allows it."""
     free = free_memory()
-    return processors if free is None else max(min(free // ONE_CHECK, processors), 1)
+    return min(processors, MOST_JOBS if free is None else max(free // ONE_CHECK, 1), MOST_JOBS)
 
 
 def wait_for_memory():

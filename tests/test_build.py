@@ -91,7 +91,8 @@ def test_no_time_where_nobody_knows_what_is_proved(folder):
 
 def test_processors_of_a_check_that_is_alone(folder):
     # A check may take 4 GiB, and one has begun in any case.
-    for gigabytes, processors, jobs in ((24, 4, 4), (12, 4, 3), (3, 4, 1), (None, 4, 4), (24, 2, 2)):
+    for gigabytes, processors, jobs in ((24, 4, 4), (12, 4, 3), (3, 4, 1), (None, 4, 4), (24, 2, 2), (256, 64, 8),
+                                        (None, 64, 8)):
         free = gigabytes and gigabytes << 30
         with mock.patch.object(crates, "free_memory", lambda free=free: free):
             want(crates.jobs_of(processors), jobs)

@@ -3,8 +3,8 @@
 
     proving.py [--gate]
 
-The first command is measured as `scripts/build --measure`, and the gate, which prints its own parts, as `./test`: it is
-from nothing where this machine has proved no crate yet. The yardstick is taken before and after. How many times as long
+The first command is measured as `scripts/build --measure`, and the gate, which prints its own parts, as `./test`. Run
+it in a fresh clone, the gate where this machine has proved no crate yet: else it isn't from nothing. The yardstick is taken before and after. How many times as long
 as its mean a thing takes can be compared between machines. Run it with nothing else at work.
 
 The status is 0 if it ended well, and 1 if it didn't.
@@ -91,7 +91,7 @@ def main():
     words = ["./test"] if options.gate else ["scripts/build", "--measure"]
     print_machine()
     before = yardstick()
-    use = use_of(*words, stderr=subprocess.DEVNULL)
+    use = use_of(*words)
     after = yardstick()
     print(f"{' '.join(words)}: {use.told()}")
     print(f"times as long as rt selftest: {use.beside([before, after])}")

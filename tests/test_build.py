@@ -28,7 +28,7 @@ RT = '#!/bin/sh\ncase $1 in doc) echo {kit}/START-HERE.md ;; version) echo kit 1
 OUT_OF = 'while [ $# -gt 0 ]; do [ "$1" = -o ] && out=$2; shift; done\n'
 RATTLE = f'#!/bin/sh\n{OUT_OF}echo >"$out"\n'
 LINK = f'#!/bin/sh\n{OUT_OF}printf \'#!/bin/sh\\necho ran\\n\' >"$out"; chmod +x "$out"\n'
-NEEDS = (r"dali_bench: {} and the program take {} on four cores, up to 2.1 GB of disk \(\d+\.\d GB are"
+NEEDS = (r"dali_bench: {} and the program take {} on four cores, up to 2.8 GB of disk \(\d+\.\d GB are"
          r" free\) and at least 4.3 GB of memory \(\d+\.\d GB are free\)")
 NAMES = json.loads((ROOT / "scripts/build_seconds.json").read_text())
 # All of them but the program.

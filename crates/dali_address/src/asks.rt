@@ -2,7 +2,7 @@
 const MOST_ASKS: u8 = 8;
 
 /// Whether a query was answered often enough.
-#[derive(Clone, Copy, Debug, PartialEq, Eq)]
+#[derive(Clone, Copy)]
 pub(crate) enum Verdict {
     /// It isn't known yet.
     Open,
@@ -11,7 +11,7 @@ pub(crate) enum Verdict {
 }
 
 /// A query that only YES answers, asked several times in a row: so often it was asked, and so often something came.
-#[derive(Clone, Copy, Debug, PartialEq, Eq)]
+#[derive(Clone, Copy)]
 pub(crate) struct Asks {
     asked: u8,
     answered: u8,

@@ -4,7 +4,7 @@ ghost use Rattle.dali_address.specs.Calls.{IsCall, call_word, short_byte};
 
 /// A frame that gives or asks addresses (IEC 62386-102: special commands, queries). A short address
 /// is 0 to 63.
-#[derive(Clone, Copy, Debug, PartialEq, Eq)]
+#[derive(Clone, Copy, PartialEq, Eq)]
 pub enum Call {
     /// TERMINATE: the initialisation state ends.
     Terminate,

@@ -16,7 +16,7 @@ use crate::walk::{Walk, opened};
 const MOST_FRAMES: u16 = 16_000;
 
 /// How a census ended.
-#[derive(Clone, Copy, Debug, PartialEq, Eq)]
+#[derive(Clone, Copy, PartialEq, Eq)]
 pub enum CensusEnd {
     /// So many units were counted, each told a short address, and no two the same; then none was left.
     Apart(u8),
@@ -29,7 +29,7 @@ pub enum CensusEnd {
 }
 
 /// The want of a census.
-#[derive(Clone, Copy, Debug, PartialEq, Eq)]
+#[derive(Clone, Copy)]
 pub enum CensusWant {
     /// This frame is to be sent.
     Send(Call),

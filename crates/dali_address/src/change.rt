@@ -9,7 +9,7 @@ use crate::call::Call;
 use crate::evidence::{Evidence, byte_of};
 
 /// The change that a round makes.
-#[derive(Clone, Copy, Debug, PartialEq, Eq)]
+#[derive(Clone, Copy)]
 pub(crate) enum Change {
     /// A unit without a short address gets this one.
     Give(u8),

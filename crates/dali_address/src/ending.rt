@@ -6,7 +6,7 @@ ghost use Rattle.dali_address.specs.declared.call.Call.{Call};
 use crate::call::Call;
 
 /// How far the initialisation state was ended, and that was checked.
-#[derive(Clone, Copy, Debug, PartialEq, Eq)]
+#[derive(Clone, Copy)]
 pub(crate) enum Ending {
     Nothing,
     /// TERMINATE went last.

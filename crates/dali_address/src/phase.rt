@@ -17,7 +17,7 @@ use crate::task::Line;
 pub(crate) const MOST_MISSES: u8 = 16;
 
 /// The next step once no unit is left in the initialisation state.
-#[derive(Clone, Copy, Debug, PartialEq, Eq)]
+#[derive(Clone, Copy)]
 pub(crate) enum Then {
     /// The task of the run.
     Begin,
@@ -28,7 +28,7 @@ pub(crate) enum Then {
 }
 
 /// The next step of a run.
-#[derive(Clone, Copy, Debug, PartialEq, Eq)]
+#[derive(Clone, Copy)]
 pub(crate) enum Phase {
     /// Ask whether a short address is taken that was asked for.
     Check(Asks, u8),

@@ -9,14 +9,14 @@ use crate::call::Call;
 use crate::task::Random;
 
 /// A short address, and the random address that was read there.
-#[derive(Clone, Copy, Debug, PartialEq, Eq)]
+#[derive(Clone, Copy, PartialEq, Eq)]
 pub(crate) struct Named {
     pub(crate) short: u8,
     pub(crate) random: Random,
 }
 
 /// Which bytes of a random address were read at a short address, one right after the other.
-#[derive(Clone, Copy, Debug, PartialEq, Eq)]
+#[derive(Clone, Copy)]
 pub(crate) enum Reading {
     Nothing,
     /// At this short address the high byte.

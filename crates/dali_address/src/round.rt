@@ -16,7 +16,7 @@ use crate::stage::{Digit, Found, between};
 const MOST_CARE: u8 = 4;
 
 /// How a round ended.
-#[derive(Clone, Copy, Debug, PartialEq, Eq)]
+#[derive(Clone, Copy)]
 pub(crate) enum Outcome {
     /// The unit told that it is changed.
     Done,
@@ -28,7 +28,7 @@ pub(crate) enum Outcome {
 }
 
 /// The next step of a round. The last number of a step is how often it was done already.
-#[derive(Clone, Copy, Debug, PartialEq, Eq)]
+#[derive(Clone, Copy)]
 pub(crate) enum Stage {
     /// Send the frame of this number of the opening.
     Open(u8),
@@ -52,7 +52,7 @@ pub(crate) enum Stage {
 /// It brings the units that it may concern into the initialisation state and lets them draw random addresses, searches
 /// for the lowest, byte by byte, asks the unit there for its short address, programs it, and ends the initialisation
 /// state.
-#[derive(Clone, Copy, Debug, PartialEq, Eq)]
+#[derive(Clone, Copy)]
 pub(crate) struct Round {
     change: Change,
     // how often each frame is sent, and how many silent answers of a search are believed

@@ -8,7 +8,7 @@ use crate::call::Call;
 use crate::stage::Found;
 
 /// Which bytes of a search address were put, one right after the other.
-#[derive(Clone, Copy, Debug, PartialEq, Eq)]
+#[derive(Clone, Copy)]
 pub(crate) enum Search {
     Nothing,
     /// The high byte.

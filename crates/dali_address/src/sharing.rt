@@ -6,7 +6,7 @@ ghost use Rattle.dali_address.specs.Marking.{MarksByte, IsSaidBy};
 use crate::census::CensusEnd;
 
 /// The result of a census if the units aren't apart.
-#[derive(Clone, Copy, Debug, PartialEq, Eq)]
+#[derive(Clone, Copy, PartialEq, Eq)]
 pub struct Sharing {
     /// Whether the short address was answered twice, for each of 0 to 63.
     pub addresses: [bool; 64],

@@ -3,7 +3,7 @@ ghost use Rattle.dali_address.specs.Census.{highest};
 ghost use Rattle.dali_address.specs.Places.{three_of};
 
 /// The byte of the search address at hand.
-#[derive(Clone, Copy, Debug, PartialEq, Eq)]
+#[derive(Clone, Copy)]
 pub(crate) enum Digit {
     High,
     Middle,
@@ -11,7 +11,7 @@ pub(crate) enum Digit {
 }
 
 /// The part found so far of a random address: its high, middle and low byte.
-#[derive(Clone, Copy, Debug, PartialEq, Eq)]
+#[derive(Clone, Copy)]
 pub(crate) struct Found {
     pub(crate) high: u8,
     pub(crate) middle: u8,

@@ -1,7 +1,7 @@
 use crate::call::Call;
 
 /// The task of a run.
-#[derive(Clone, Copy, Debug, PartialEq, Eq)]
+#[derive(Clone, Copy, PartialEq, Eq)]
 pub enum Task {
     /// Each unit without a short address gets one.
     Give,
@@ -14,7 +14,7 @@ pub enum Task {
 }
 
 /// A random address: its high, middle and low byte.
-#[derive(Clone, Copy, Debug, PartialEq, Eq)]
+#[derive(Clone, Copy, PartialEq, Eq)]
 pub struct Random {
     pub high: u8,
     pub middle: u8,
@@ -22,7 +22,7 @@ pub struct Random {
 }
 
 /// The lines that a run reports, in order.
-#[derive(Clone, Copy, Debug, PartialEq, Eq)]
+#[derive(Clone, Copy, PartialEq, Eq)]
 pub enum Line {
     /// A unit at this short address told this random address, twice.
     Unit { short: u8, random: Random },
@@ -31,7 +31,7 @@ pub enum Line {
 }
 
 /// How a run ended.
-#[derive(Clone, Copy, Debug, PartialEq, Eq)]
+#[derive(Clone, Copy, PartialEq, Eq)]
 pub struct Summary {
     /// How many units told the short address that they were given.
     pub given: u8,
@@ -44,7 +44,7 @@ pub struct Summary {
 }
 
 /// The want of a run.
-#[derive(Clone, Copy, Debug, PartialEq, Eq)]
+#[derive(Clone, Copy, PartialEq, Eq)]
 pub enum Want {
     /// This frame is to be sent.
     Send(Call),

@@ -11,7 +11,7 @@ use crate::call::Call;
 pub(crate) const SILENT_ASKS: u8 = 8;
 
 /// The knowledge of a free short address.
-#[derive(Clone, Copy, Debug, PartialEq, Eq)]
+#[derive(Clone, Copy)]
 pub(crate) enum Vacancy {
     Unknown,
     /// At this address it stayed silent so often, in a row, just before.

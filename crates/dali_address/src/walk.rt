@@ -17,7 +17,7 @@ const MOST_UNANSWERED: u8 = 16;
 const OPENING: u8 = 13;
 
 /// The next step of a census. The last number of a search is how often no unit answered.
-#[derive(Clone, Copy, Debug, PartialEq, Eq)]
+#[derive(Clone, Copy)]
 pub(crate) enum Walk {
     /// Send the frame of this number of the opening.
     Open(u8),

@@ -12,6 +12,7 @@ use Rattle.dali_input.specs.Input.{InputState}
 use Rattle.dali_input.specs.Scenario.{Planned}
 use Rattle.dali_input.specs.Setup.{IsSetUp}
 use Rattle.dali_input.specs.declared.command_fault.Fault.TheVariants.{Run}
+use Rattle.dali_input.specs.declared.command_fault.Fault.TheVariants as faults
 use Rattle.dali_input.specs.declared.command_fault.Fault.{Fault}
 use Rattle.dali_input.specs.declared.command_fault.Status.{Status}
 use Rattle.dali_input.specs.declared.command_fault.Status.TheVariants.{Good}
@@ -20,7 +21,7 @@ use Rattle.dali_text.specs.declared.output.Output.{Output}
 use Rattle.dali_text.specs.Output.{held}
 use Rattle.dali_file_commands.specs.NoteLines.{Tells}
 use Rattle.dali_file_commands.specs.Notes.{IsNotedAnswer}
-use Rattle.dali_file_commands.specs.RunAnswers.{IsRan, IsRunAnswer, IsUnderstood, IsUnrun}
+use Rattle.dali_file_commands.specs.RunAnswers.{IsNotSetUp, IsRan, IsRunAnswer, IsUnderstood, IsUnrun}
 use Rattle.std.proofs.KnownBytes.{Appends-nil}
 
 -- a fault of the run, which tells Limit only if the limit is none
@@ -30,6 +31,18 @@ pub not_run : (before after : InputState) (planned : Planned) (bus : SimState) (
 not_run before after planned bus all Limit understood ready limit =
     (planned, understood, (bus.units, bus.fates, all, ready), limit refl)
 not_run before after planned bus all NoMemory understood ready limit = tt
+
+-- one that can't be set up is none
+pub not_set_up : (before after : InputState) (fault : Fault) → IsNotSetUp before after fault
+    → IsUnrun before after fault
+not_set_up before after (faults.Input fault) is = inr is
+not_set_up before after (faults.Unit number fault) is = is
+not_set_up before after faults.SameAddress is = is
+not_set_up before after (faults.Order number fault) is = is
+not_set_up before after (Run fault) (planned, understood, never) = absurd never
+not_set_up before after (faults.Journal fault) (planned, understood, never) = absurd never
+not_set_up before after (faults.Drive fault) (planned, understood, never) = absurd never
+not_set_up before after faults.Older (planned, understood, never) = absurd never
 
 -- a run that wasn't made is reported by the line of its fault
 pub unrun_told : {E : Type 0} (single_frames : Bool) (before after : InputState) (old new : Option (List ℕ))

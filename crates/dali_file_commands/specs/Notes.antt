@@ -4,14 +4,13 @@ use Rattle.std.specs.Prelude.{◌≡◌, ◌⊎◌, ℕ, List, [], Option, Ok, E
 use Rattle.dali_file_commands.specs.NoteLines.{SomeAbout, SomeLines}
 use Rattle.dali_input.specs.declared.fault.InputFault.{InputFault}
 use Rattle.dali_input.specs.declared.fault.InputFault.TheVariants.{Json, Document, TooBig, Hex, Memory, File}
-use Rattle.dali_input.specs.declared.setup.SetupFault.TheVariants as setup
 use Rattle.dali_input.specs.Orders.{Outcome}
 use Rattle.dali_journal.specs.JournalState.{JournalState}
 use Rattle.dali_journal.specs.declared.fault.JournalFault.{JournalFault}
 use Rattle.dali_journal.specs.declared.fault.JournalFault.TheVariants as journals
 use Rattle.dali_trace.specs.declared.fault.RunFault.TheVariants.{Limit, NoMemory}
 use Rattle.dali_input.specs.declared.command_fault.Fault.{Fault}
-use Rattle.dali_input.specs.declared.command_fault.Fault.TheVariants.{Input, Setup, Run, Journal, Drive, Older}
+use Rattle.dali_input.specs.declared.command_fault.Fault.TheVariants.{Input, Unit, SameAddress, Order, Run, Journal, Drive, Older}
 use Rattle.dali_input.specs.declared.command_fault.Status.{Status}
 use Rattle.dali_input.specs.declared.command_fault.Status.TheVariants.{Good}
 use Rattle.dali_file_commands.specs.declared.file_command.FileCommand.{FileCommand}
@@ -52,10 +51,9 @@ IsJournalNote journals.Header note = SomeLines [] note
 -- number that its line has too; of two units at one address and of the limit, lines
 abbrev pub IsFaultNote : Fault → List ℕ → Type 0
 IsFaultNote (Input fault) note = IsInputNote fault note
-IsFaultNote (Setup (setup.Input fault)) note = IsInputNote fault note
-IsFaultNote (Setup (setup.Unit number fault)) note = SomeAbout (codes "unit") number note
-IsFaultNote (Setup (setup.Order number fault)) note = SomeAbout (codes "event") number note
-IsFaultNote (Setup setup.SameAddress) note = SomeLines [] note
+IsFaultNote (Unit number fault) note = SomeAbout (codes "unit") number note
+IsFaultNote (Order number fault) note = SomeAbout (codes "event") number note
+IsFaultNote SameAddress note = SomeLines [] note
 IsFaultNote (Run Limit) note = SomeLines [] note
 IsFaultNote (Run NoMemory) note = note ≡ []
 IsFaultNote (Journal fault) note = IsJournalNote fault note

@@ -17,7 +17,7 @@ use Rattle.dali_input.specs.Scenario.{IsScenario, Planned}
 use Rattle.dali_input.specs.Setup.{IsSetUp, IsSetupRefused}
 use Rattle.dali_input.specs.Values.{IsNoReading}
 use Rattle.dali_input.specs.declared.command_fault.Fault.{Fault}
-use Rattle.dali_input.specs.declared.command_fault.Fault.TheVariants.{Input, Setup, Run, Journal, Drive, Older}
+use Rattle.dali_input.specs.declared.command_fault.Fault.TheVariants.{Input, Unit, SameAddress, Order, Run, Journal, Drive, Older}
 use Rattle.dali_input.specs.declared.command_fault.Status.{Status}
 use Rattle.dali_input.specs.declared.command_fault.Status.TheVariants.{Good}
 use Rattle.dali_input.specs.CommandFaults.{IsRefusal}
@@ -56,11 +56,17 @@ IsMisread before after fault =
     × (IsNoJson scenario_limit input fault
     ⊎ ((json : Data) × IsJson scenario_limit input json × IsNoReading (IsScenario json) fault)))
 
+-- one was understood, and can't be set up
+abbrev pub IsNotSetUp : InputState → InputState → Fault → Type 0
+IsNotSetUp before after fault =
+    (planned : Planned) × IsUnderstood before after planned × IsSetupRefused planned fault
+
 -- why none was run, by the station at which its way ended; want of memory may come at any
 abbrev pub IsUnrun : InputState → InputState → Fault → Type 0
-IsUnrun before after (Input fault) = IsMisread before after fault
-IsUnrun before after (Setup fault) =
-    (planned : Planned) × IsUnderstood before after planned × IsSetupRefused planned fault
+IsUnrun before after (Input fault) = IsMisread before after fault ⊎ IsNotSetUp before after (Input fault)
+IsUnrun before after (Unit number fault) = IsNotSetUp before after (Unit number fault)
+IsUnrun before after SameAddress = IsNotSetUp before after SameAddress
+IsUnrun before after (Order number fault) = IsNotSetUp before after (Order number fault)
 IsUnrun before after (Run Limit) = (planned : Planned) × IsUnderstood before after planned
     × ((units : List UnitState) × (fates : List Fate) × (all : List Event) × IsSetUp planned units fates all)
     × ¬ IsLimit planned.limit

@@ -16,8 +16,7 @@ use crate::notes::{Note, note_of_json, note_of_scenario, note_of_setup, write_no
 use dali_engine::{Outcome, RunFault, run_sim_with_pace};
 use dali_gear::SimBus;
 use dali_input::{
-    Fault, Input, InputFault, Scenario, Setup, SetupFault, Status, json_of, read_input,
-    scenario_of, setup_of,
+    Fault, Input, InputFault, Scenario, Setup, Status, json_of, read_input, scenario_of, setup_of,
 };
 use dali_journal::MOST_ORDERS;
 use dali_text::{Output, OutputFailed, write_run};
@@ -151,11 +150,7 @@ fn scenario_noting<'a>(
 }
 
 // The parts that a scenario sets up. If it can't be set up, the note is why.
-fn setup_noting(
-    alloc: Global,
-    scenario: &Scenario<'_>,
-    note: &mut Note,
-) -> Result<Setup, SetupFault>
+fn setup_noting(alloc: Global, scenario: &Scenario<'_>, note: &mut Note) -> Result<Setup, Fault>
     ensures ok { IfOk result
         (λ setup. IsSetUp (planned_of scenario.now) setup.bus.units setup.bus.fates setup.events.items) }
     ensures err { IfErr result (IsSetupRefused (planned_of scenario.now)) }

@@ -5,7 +5,7 @@ use Rattle.dali_gear.specs.SimState.{AreApart}
 use Rattle.dali_gear.specs.UnitState.{UnitState}
 use Rattle.dali_gear.specs.declared.fault.GearFault.TheVariants.{Address}
 use Rattle.dali_input.specs.declared.item.ItemFault.{ItemFault}
-use Rattle.dali_input.specs.declared.setup.SetupFault.TheVariants as faults
+use Rattle.dali_input.specs.declared.command_fault.Fault.TheVariants as faults
 use Rattle.dali_input.specs.Scenario.{PlannedUnit, PlannedEvent, Planned}
 use Rattle.dali_input.specs.Setup.{AreTogether, IsFirstUnitFault, HasBus, IsSetupRefused}
 

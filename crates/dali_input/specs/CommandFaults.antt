@@ -13,12 +13,11 @@ use Rattle.dali_text.specs.FaultLines as lines
 use Rattle.dali_input.specs.declared.fault.InputFault.{InputFault}
 use Rattle.dali_input.specs.declared.fault.InputFault.TheVariants.{Json, Document, TooBig, Hex, Memory, File}
 use Rattle.dali_input.specs.declared.item.ItemFault.{ItemFault}
-use Rattle.dali_input.specs.declared.setup.SetupFault.{SetupFault}
-use Rattle.dali_input.specs.declared.setup.SetupFault.TheVariants as setup
 use Rattle.dali_input.specs.Faults.{number_of, name_of, item_number_of, item_name_of}
 use Rattle.dali_input.specs.Input.{InputState, IsReadFailure}
 use Rattle.dali_input.specs.declared.command_fault.Fault.{Fault}
-use Rattle.dali_input.specs.declared.command_fault.Fault.TheVariants.{Input, Setup, Run, Journal, Drive, Older}
+use Rattle.dali_input.specs.declared.command_fault.Fault.TheVariants.{Input, Unit, Order, Run, Journal, Drive, Older}
+use Rattle.dali_input.specs.declared.command_fault.Fault.TheVariants as faults
 use Rattle.dali_input.specs.declared.command_fault.Status.{Status}
 use Rattle.dali_input.specs.declared.command_fault.Status.TheVariants.{Good, Refused, Failed, Unwritten}
 
@@ -51,8 +50,9 @@ drive_status drives.Out = Unwritten
 
 abbrev pub status_of : Fault → Status
 status_of (Input fault) = input_status fault
-status_of (Setup (setup.Input fault)) = input_status fault
-status_of (Setup other) = Refused
+status_of (Unit number fault) = Refused
+status_of faults.SameAddress = Refused
+status_of (Order number fault) = Refused
 status_of (Run runs.Limit) = Refused
 status_of (Run runs.NoMemory) = Failed
 status_of (Journal journals.NoMemory) = Failed
@@ -68,14 +68,6 @@ input_line fault = lines.fault_line (number_of fault) (name_of fault)
 -- a refused item of a list of orders, counted from 1
 abbrev pub item_line : ℕ → ItemFault → List ℕ
 item_line number fault = lines.counted_line (codes "item") number (item_number_of fault) (item_name_of fault)
-
-abbrev pub setup_line : SetupFault → List ℕ
-setup_line (setup.Input fault) = input_line fault
-setup_line (setup.Unit number fault) =
-    lines.counted_line (codes "unit") number (gear.number_of fault) (gear.name_of fault)
-setup_line setup.SameAddress = lines.single_line (codes "gear") (gear.number_of SameAddress) (gear.name_of SameAddress)
-setup_line (setup.Order number fault) =
-    lines.counted_line (codes "event") number (item_number_of fault) (item_name_of fault)
 
 -- a fault of a journal as a whole
 abbrev pub whole_line : JournalFault → List ℕ
@@ -100,7 +92,10 @@ drive_line fault = lines.single_line (codes "drive") (drive_number fault) (drive
 
 abbrev pub told_line : Fault → List ℕ
 told_line (Input fault) = input_line fault
-told_line (Setup fault) = setup_line fault
+told_line (Unit number fault) = lines.counted_line (codes "unit") number (gear.number_of fault) (gear.name_of fault)
+told_line faults.SameAddress = lines.single_line (codes "gear") (gear.number_of SameAddress) (gear.name_of SameAddress)
+told_line (Order number fault) =
+    lines.counted_line (codes "event") number (item_number_of fault) (item_name_of fault)
 told_line (Run runs.Limit) = lines.single_line (codes "run") (run_number runs.Limit) (run_name runs.Limit)
 told_line (Run runs.NoMemory) = input_line Memory
 told_line (Journal fault) = journal_line fault

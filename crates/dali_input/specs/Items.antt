@@ -17,7 +17,7 @@ use Rattle.dali_bank.specs.Order.{Contents}
 use Rattle.dali_bank.specs.Draft.{Drafted, VoltagesCross, empty_draft, found_of, order_of, updates_of}
 use Rattle.dali_bank.specs.Keys.{key_of}
 use Rattle.dali_input.specs.declared.item.ItemFault.{ItemFault}
-use Rattle.dali_input.specs.declared.item.ItemFault.TheVariants.{Bank, Shape, Key}
+use Rattle.dali_input.specs.declared.item.ItemFault.TheVariants.{Input, Bank, Shape, Key}
 
 -- ---- keys
 
@@ -113,8 +113,9 @@ IsOrderOf source order =
     (draft : Drafted) × IsDraftOf source draft × (¬ VoltagesCross draft) × (updates_of draft ≢ [])
     × (order ≡ order_of draft)
 
--- why an object spells none: the first fault that applies
+-- why an object spells none: the first fault that applies, and none of a line's JSON, which is read already
 abbrev pub IsFaultOf : Data → ItemFault → Type 0
+IsFaultOf source (Input fault) = ⊥
 IsFaultOf source Shape = (whole_at (codes "order") source ≡ None) ⊎ (whole_at (codes "unit") source ≡ None)
 IsFaultOf source Key = (id : ℕ) × (unit : ℕ) × HasNumbers source id unit × KnowsKeys source false
 IsFaultOf source (Bank bank.Unit) =

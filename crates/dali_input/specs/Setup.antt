@@ -14,8 +14,8 @@ use Rattle.serde_json.specs.Data.{Data}
 use Rattle.dali_input.specs.declared.fault.InputFault.TheVariants.{TooBig, Memory}
 use Rattle.dali_input.specs.declared.item.ItemFault.{ItemFault}
 use Rattle.dali_input.specs.declared.scenario.FatePlan.{FatePlan}
-use Rattle.dali_input.specs.declared.setup.SetupFault.{SetupFault}
-use Rattle.dali_input.specs.declared.setup.SetupFault.TheVariants as faults
+use Rattle.dali_input.specs.declared.command_fault.Fault.{Fault}
+use Rattle.dali_input.specs.declared.command_fault.Fault.TheVariants as faults
 use Rattle.dali_input.specs.Items.{IsOrderOf, IsFaultOf}
 use Rattle.dali_input.specs.Scenario.{PlannedUnit, PlannedEvent, submit, steps, stop, power, Planned, IsSmall}
 
@@ -55,7 +55,7 @@ pub record AreTogether (planned : List PlannedUnit) : Type 0 where
   pub together : ¬ AreApart units
 
 -- why the units aren't made; want of memory may come at any
-abbrev pub IsUnitRefusal : List PlannedUnit → SetupFault → Type 0
+abbrev pub IsUnitRefusal : List PlannedUnit → Fault → Type 0
 IsUnitRefusal planned (faults.Input Memory) = ⊤
 IsUnitRefusal planned (faults.Unit number fault) = IsFirstUnitFault planned number fault
 IsUnitRefusal planned faults.SameAddress = AreTogether planned
@@ -93,7 +93,7 @@ pub record IsFirstOrderFault (planned : List PlannedEvent) (number : ℕ) (fault
   pub refused : IsFaultOf source fault
 
 -- why the events aren't made; want of memory may come at any
-abbrev pub IsOrderRefusal : List PlannedEvent → SetupFault → Type 0
+abbrev pub IsOrderRefusal : List PlannedEvent → Fault → Type 0
 IsOrderRefusal planned (faults.Input Memory) = ⊤
 IsOrderRefusal planned (faults.Order number fault) = IsFirstOrderFault planned number fault
 IsOrderRefusal planned other = ⊥
@@ -118,10 +118,11 @@ pub record HasBus (planned : Planned) : Type 0 where
   pub bus : IsBus planned units
 
 -- why a scenario can't be set up: the first of these that applies, in this order; want of memory may come at any
-abbrev pub IsSetupRefused : Planned → SetupFault → Type 0
+abbrev pub IsSetupRefused : Planned → Fault → Type 0
 IsSetupRefused planned (faults.Input TooBig) = ¬ IsSmall planned
 IsSetupRefused planned (faults.Input Memory) = ⊤
 IsSetupRefused planned (faults.Input fault) = ⊥
 IsSetupRefused planned (faults.Unit number fault) = IsSmall planned × IsFirstUnitFault planned.units number fault
 IsSetupRefused planned faults.SameAddress = IsSmall planned × AreTogether planned.units
 IsSetupRefused planned (faults.Order number fault) = HasBus planned × IsFirstOrderFault planned.events number fault
+IsSetupRefused planned other = ⊥

@@ -3,9 +3,11 @@ ghost use Rattle.dali_input.specs.CommandFaults.{exit_code, drive_status as stat
 ghost use Rattle.dali_input.specs.CommandFaults.{input_status as status_of_input, status_of};
 
 use crate::fault::InputFault;
-use crate::setup::SetupFault;
+use crate::item::ItemFault;
+use dali_gear::GearFault;
 use dali_journal::JournalFault;
 use dali_trace::{DriveFault, RunFault};
+use std::alloc::{AllocError, AllocFailed};
 use thiserror::Error;
 
 /// How a command ended.
@@ -40,9 +42,15 @@ pub enum Fault {
     /// The input as a whole: 11 Json, 12 Document, 13 TooBig, 14 Hex, 20 Memory, 21 File.
     #[error("{0}")]
     Input(InputFault),
-    /// The setup of a scenario: its units and its orders.
-    #[error("the scenario can't be set up")]
-    Setup(SetupFault),
+    /// The unit of this number of a scenario, counted from 1, can't be made: 1 Address, 2 Size, 3 Fixed.
+    #[error("{1}")]
+    Unit(u64, GearFault),
+    /// 5: two units of a scenario are at one short address.
+    #[error("SameAddress")]
+    SameAddress,
+    /// The order of the event of this number of a scenario, counted from 1, is refused, as an item of orders is.
+    #[error("{1}")]
+    Order(u64, ItemFault),
     /// The run of a scenario: 1 Limit, 2 NoMemory.
     #[error("{0}")]
     Run(RunFault),
@@ -64,13 +72,16 @@ impl Fault {
         ensures unwritten { result ≡ Status.Unwritten → self.now ≡ Fault.Drive DriveFault.Out }
     {
         match self {
-            Fault::Input(fault) | Fault::Setup(SetupFault::Input(fault)) => input_status(*fault),
+            Fault::Input(fault) => input_status(*fault),
             Fault::Run(RunFault::NoMemory) | Fault::Journal(JournalFault::NoMemory) => {
                 Status::Failed
             }
-            Fault::Setup(_) | Fault::Run(RunFault::Limit) | Fault::Journal(_) | Fault::Older => {
-                Status::Refused
-            }
+            Fault::Unit(_, _)
+            | Fault::SameAddress
+            | Fault::Order(_, _)
+            | Fault::Run(RunFault::Limit)
+            | Fault::Journal(_)
+            | Fault::Older => Status::Refused,
             Fault::Drive(fault) => drive_status(*fault),
         }
     }
@@ -112,14 +123,27 @@ impl From<InputFault> for Fault {
     }
 }
 
-impl From<SetupFault> for Fault {
+impl From<AllocError> for Fault {
     ghost use Rattle.std.specs.Prelude.{◌≡◌};
-    ghost use Rattle.dali_input.specs.declared.command_fault.Fault.TheVariants.{Setup};
+    ghost use Rattle.dali_input.specs.declared.fault.InputFault.TheVariants.{Memory};
+    ghost use Rattle.dali_input.specs.declared.command_fault.Fault.TheVariants.{Input};
 
-    ghost from_gives = { λ cause fault. fault ≡ Setup cause };
+    ghost from_gives = { λ _ fault. fault ≡ Input Memory };
 
-    fn from(cause: SetupFault) -> Fault {
-        Fault::Setup(cause)
+    fn from(_error: AllocError) -> Fault {
+        Fault::Input(InputFault::Memory)
+    }
+}
+
+impl<T: Drop> From<AllocFailed<T>> for Fault {
+    ghost use Rattle.std.specs.Prelude.{◌≡◌};
+    ghost use Rattle.dali_input.specs.declared.fault.InputFault.TheVariants.{Memory};
+    ghost use Rattle.dali_input.specs.declared.command_fault.Fault.TheVariants.{Input};
+
+    ghost from_gives = { λ _ fault. fault ≡ Input Memory };
+
+    fn from(_failed: AllocFailed<T>) -> Fault {
+        Fault::Input(InputFault::Memory)
     }
 }
 

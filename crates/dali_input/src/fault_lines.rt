@@ -2,12 +2,11 @@ ghost use Rattle.std.specs.Prelude.{◌≡◌, ◌≢◌, IfOk, OnOk};
 ghost use Rattle.dali_text.specs.Output.{TellsFailure, Takes};
 ghost use Rattle.dali_input.specs.Ends.{TellsEnd};
 ghost use Rattle.dali_input.specs.CommandFaults.{drive_line, input_line, item_line, journal_line, told_line, place_line};
-ghost use Rattle.dali_input.specs.CommandFaults.{setup_line, status_of, whole_line};
+ghost use Rattle.dali_input.specs.CommandFaults.{status_of, whole_line};
 
 use crate::command_fault::{Fault, Status};
 use crate::fault::InputFault;
 use crate::item::ItemFault;
-use crate::setup::SetupFault;
 use dali_gear::GearFault;
 use dali_journal::JournalFault;
 use dali_text::{
@@ -35,7 +34,16 @@ pub fn write_fault<W: Write>(output: &mut Output<W>, fault: Fault) -> Result<(),
 {
     match fault {
         Fault::Input(fault) => write_input_fault(output, fault),
-        Fault::Setup(fault) => write_setup_fault(output, fault),
+        Fault::Unit(number, fault) => {
+            write_counted_fault(output, "unit", number, fault.number(), &fault)
+        }
+        Fault::SameAddress => {
+            let fault = GearFault::SameAddress;
+            write_single_fault(output, "gear", fault.number(), &fault)
+        }
+        Fault::Order(number, fault) => {
+            write_counted_fault(output, "event", number, fault.number(), &fault)
+        }
         Fault::Run(RunFault::Limit) => {
             let fault = RunFault::Limit;
             write_single_fault(output, "run", fault.number(), &fault)
@@ -56,29 +64,6 @@ fn write_input_fault<W: Write>(
     ensures failed { TellsFailure result output.old output.new }
 {
     dali_text::write_fault(output, fault.number(), &fault)
-}
-
-// Writes why a scenario can't be set up.
-fn write_setup_fault<W: Write>(
-    output: &mut Output<W>,
-    fault: SetupFault,
-) -> Result<(), OutputFailed>
-    ensures line { OnOk result (Takes W.contents output.old output.new (setup_line fault)) }
-    ensures failed { TellsFailure result output.old output.new }
-{
-    match fault {
-        SetupFault::Input(fault) => write_input_fault(output, fault),
-        SetupFault::Unit(unit, fault) => {
-            write_counted_fault(output, "unit", unit, fault.number(), &fault)
-        }
-        SetupFault::SameAddress => {
-            let fault = GearFault::SameAddress;
-            write_single_fault(output, "gear", fault.number(), &fault)
-        }
-        SetupFault::Order(event, fault) => {
-            write_counted_fault(output, "event", event, fault.number(), &fault)
-        }
-    }
 }
 
 // Writes why an input is no journal.

@@ -11,6 +11,7 @@ ghost use Rattle.dali_input.specs.ItemsLeft.{IsItem};
 ghost use Rattle.dali_input.specs.Members.{AreMembersOf, IsGivenBy, IsRefusedAs, held};
 ghost use Rattle.dali_input.specs.Shallow.{data_of};
 
+use crate::fault::InputFault;
 use crate::members::{Members, members_of};
 use crate::shallow::Shallow;
 use dali_bank::{BankFault, Draft, Field, Order, Value};
@@ -18,9 +19,11 @@ use serde_json::Value as Json;
 use std::error::Error;
 use std::fmt;
 
-/// Why an item of a list of orders was refused.
+/// Why an item of a list of orders, or a line of a stream of them, was refused.
 #[derive(Clone, Copy, Debug, PartialEq, Eq)]
 pub enum ItemFault {
+    /// The line is too long, no JSON, or no submission, or memory ran out. An item of a list never has it.
+    Input(InputFault),
     /// A fault of a draft.
     Bank(BankFault),
     /// The item is no object with a whole number as order and one as unit.
@@ -37,6 +40,7 @@ impl ItemFault {
         ensures { result ≡ item_number_of self.now }
     {
         match self {
+            ItemFault::Input(fault) => fault.number(),
             ItemFault::Bank(fault) => fault.number(),
             ItemFault::Shape => 9,
             ItemFault::Key => 10,
@@ -49,6 +53,7 @@ impl ItemFault {
         ensures short { length result.now ≤ 8 }
     {
         match self {
+            ItemFault::Input(fault) => fault.name(),
             ItemFault::Bank(fault) => fault.name(),
             ItemFault::Shape => "Shape",
             ItemFault::Key => "Key",

@@ -41,6 +41,6 @@ pub use orders::{ORDERS_LIMIT, read_orders};
 pub use scenario::{
     EventPlan, FatePlan, MOST_EVENTS, Scenario, UnitPlan, scenario_of, submission_of,
 };
-pub use setup::{Setup, SetupFault, setup_of};
+pub use setup::{Setup, setup_of};
 pub use shallow::Shallow;
 pub use value::value_of_text;

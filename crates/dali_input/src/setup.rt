@@ -7,49 +7,13 @@ ghost use Rattle.dali_input.specs.Setup.{AreEvents, AreUnits, IsFirstUnitFault, 
 ghost use Rattle.dali_input.specs.Setup.{IsSetupRefused, IsSetUp, IsUnitRefusal, fates_of as expanded};
 ghost use Rattle.dali_input.specs.Setup.{made_unit as made};
 
+use crate::command_fault::Fault;
 use crate::fault::InputFault;
-use crate::item::{ItemFault, order_of};
+use crate::item::order_of;
 use crate::scenario::{EventPlan, FatePlan, Scenario, UnitPlan};
 use dali_gear::{Fate, GearFault, SimBus, Unit, is_free};
 use dali_trace::Event;
-use std::alloc::{AllocError, AllocFailed, Global};
-
-/// Why a scenario can't be set up (profile).
-#[derive(Clone, Copy, Debug, PartialEq, Eq)]
-pub enum SetupFault {
-    /// The file as a whole.
-    Input(InputFault),
-    /// The unit of this number, counted from 1, can't be made.
-    Unit(u64, GearFault),
-    /// Two units are at one short address.
-    SameAddress,
-    /// The order of the event of this number, counted from 1, is refused.
-    Order(u64, ItemFault),
-}
-
-impl From<AllocError> for SetupFault {
-    ghost use Rattle.std.specs.Prelude.{◌≡◌};
-    ghost use Rattle.dali_input.specs.declared.fault.InputFault.TheVariants.{Memory};
-    ghost use Rattle.dali_input.specs.declared.setup.SetupFault.TheVariants.{Input};
-
-    ghost from_gives = { λ _ fault. fault ≡ Input Memory };
-
-    fn from(_error: AllocError) -> SetupFault {
-        SetupFault::Input(InputFault::Memory)
-    }
-}
-
-impl<T: Drop> From<AllocFailed<T>> for SetupFault {
-    ghost use Rattle.std.specs.Prelude.{◌≡◌};
-    ghost use Rattle.dali_input.specs.declared.fault.InputFault.TheVariants.{Memory};
-    ghost use Rattle.dali_input.specs.declared.setup.SetupFault.TheVariants.{Input};
-
-    ghost from_gives = { λ _ fault. fault ≡ Input Memory };
-
-    fn from(_failed: AllocFailed<T>) -> SetupFault {
-        SetupFault::Input(InputFault::Memory)
-    }
-}
+use std::alloc::{AllocError, Global};
 
 /// The parts that a scenario sets up (profile).
 #[derive(Drop)]
@@ -65,18 +29,18 @@ pub struct Setup {
 /// The first fault that applies: fault 13 TooBig if there are over 20000 events or fates; the fault of the first unit
 /// that can't be made, 1 Address, 2 Size or 3 Fixed; 5 SameAddress if two units are at one address; the fault of the
 /// first order that is refused. 20 Memory if there is no memory.
-pub fn setup_of(alloc: Global, scenario: &Scenario<'_>) -> Result<Setup, SetupFault>
+pub fn setup_of(alloc: Global, scenario: &Scenario<'_>) -> Result<Setup, Fault>
     ensures ok { IfOk result
         (λ setup. IsSetUp (planned_of scenario.now) setup.bus.units setup.bus.fates setup.events.items) }
     ensures err { IfErr result (IsSetupRefused (planned_of scenario.now)) }
 {
     if !scenario.is_small() {
-        return Err(SetupFault::Input(InputFault::TooBig));
+        return Err(Fault::Input(InputFault::TooBig));
     }
     let units = units_of(alloc, scenario.units.as_slice())?;
     let fates = fates_of(alloc, scenario.fates.as_slice())?;
     let Ok(bus) = SimBus::new(units, fates) else {
-        return Err(SetupFault::SameAddress);
+        return Err(Fault::SameAddress);
     };
     let events = events_of(alloc, scenario.events.as_slice())?;
     Ok(Setup { bus, events })
@@ -84,7 +48,7 @@ pub fn setup_of(alloc: Global, scenario: &Scenario<'_>) -> Result<Setup, SetupFa
 
 // The units, in their order. Once two are at one address each further one is made to test it, and let go, so that no
 // more are held than a bus has addresses.
-fn units_of(alloc: Global, plans: &[UnitPlan]) -> Result<Vec<Unit>, SetupFault>
+fn units_of(alloc: Global, plans: &[UnitPlan]) -> Result<Vec<Unit>, Fault>
     ensures ok { IfOk result (λ units. AreUnits (map unit_planned plans.now) units.items) }
     ensures err { IfErr result (IsUnitRefusal (map unit_planned plans.now)) }
 {
@@ -99,7 +63,7 @@ fn units_of(alloc: Global, plans: &[UnitPlan]) -> Result<Vec<Unit>, SetupFault>
         }
     }
     if !are_apart {
-        return Err(SetupFault::SameAddress);
+        return Err(Fault::SameAddress);
     }
     Ok(units)
 }
@@ -119,14 +83,14 @@ fn hold_apart(units: &mut Vec<Unit>, are_apart: bool, unit: Unit) -> Result<bool
 }
 
 // Why no scenario is set up at the fault of a unit.
-fn unit_fault(number: u64, fault: GearFault) -> SetupFault
+fn unit_fault(number: u64, fault: GearFault) -> Fault
     ensures { (planned : List PlannedUnit) → (fault ≢ GearFault.NoMemory → IsFirstUnitFault planned number fault)
         → IsUnitRefusal planned result }
 {
     match fault {
-        GearFault::NoMemory => SetupFault::Input(InputFault::Memory),
+        GearFault::NoMemory => Fault::Input(InputFault::Memory),
         GearFault::Address | GearFault::Size | GearFault::Fixed | GearFault::SameAddress => {
-            SetupFault::Unit(number, fault)
+            Fault::Unit(number, fault)
         }
     }
 }
@@ -169,7 +133,7 @@ fn push_fates(fates: &mut Vec<Fate>, fate: Fate, times: u32) -> Result<(), Alloc
 }
 
 // The events.
-fn events_of(alloc: Global, plans: &[EventPlan<'_>]) -> Result<Vec<Event>, SetupFault>
+fn events_of(alloc: Global, plans: &[EventPlan<'_>]) -> Result<Vec<Event>, Fault>
     ensures ok { IfOk result (λ events. AreEvents (map event_of plans.now) events.items) }
     ensures err { IfErr result (IsOrderRefusal (map event_of plans.now)) }
 {
@@ -180,7 +144,7 @@ fn events_of(alloc: Global, plans: &[EventPlan<'_>]) -> Result<Vec<Event>, Setup
         match plan {
             EventPlan::Submit(source, moment) => match order_of(source) {
                 Ok(order) => events.push(Event::Submit(order, *moment))?,
-                Err(fault) => return Err(SetupFault::Order(number, fault)),
+                Err(fault) => return Err(Fault::Order(number, fault)),
             },
             EventPlan::Steps(count) => push_steps(&mut events, *count)?,
             EventPlan::Stop(bytes) => events.push(Event::Stop(*bytes))?,

@@ -16,9 +16,9 @@ use Rattle.clap.specs.declared.builder.arg.Arg.{Arg}
 use Rattle.clap.specs.declared.builder.command.Command.{Command}
 use Rattle.clap.specs.declared.parser.matches.ArgMatches.{ArgMatches}
 use Rattle.clap.proofs.OnLiterals.{clap_on_literals}
-use Rattle.dali_job.specs.Jobs.{HasAsked, HasFlag, HasNumber, HasOption, HasValue, IsApp, IsCommand, IsEntered, IsErrorIn, IsJob, IsLeftOut}
-use Rattle.dali_job.specs.Jobs.{AreUnits, IsJobError, IsNoCheck, IsNoLink, IsNothing, IsNumber, IsRefused, IsRule}
-use Rattle.dali_job.specs.Jobs.{IsJobOf, IsShortJob, IsTaskOf, IsWantOfMemory, bench_app}
+use Rattle.dali_job.specs.Jobs.{HasAsked, HasFlag, HasNumber, HasOption, HasValue, IsApp, IsCommand, IsEntered, IsJob, IsLeftOut}
+use Rattle.dali_job.specs.Jobs.{AreUnits, IsNoCheck, IsNoLink, IsNothing, IsNumber, IsRefused, IsRule}
+use Rattle.dali_job.specs.Jobs.{IsJobOf, IsShortJob, bench_app}
 use Rattle.dali_job.specs.LinkOptions.{IsShort, asked_of}
 use Rattle.dali_job.specs.declared.job.Job.{Job}
 use Rattle.dali_job.specs.declared.job.Job.TheVariants.{Check, Run, Frame, Show, Journal, Fields, Link}
@@ -26,8 +26,6 @@ use Rattle.dali_job.specs.declared.job.Job.TheVariants as jobs
 use Rattle.dali_job.specs.declared.link_command.Asked.{Asked}
 use Rattle.dali_job.specs.declared.link_command.LinkCommand.{LinkCommand}
 use Rattle.dali_job.specs.declared.link_command.LinkCommand.TheVariants.{Drive, Read, Verify, Scan, Address}
-use Rattle.dali_job.specs.declared.refusal.JobError.{JobError}
-use Rattle.dali_job.specs.declared.refusal.JobError.TheVariants.{Clap, Refused}
 use Rattle.dali_job.specs.declared.refusal.Refusal.{Refusal}
 use Rattle.dali_job.specs.declared.refusal.Refusal.TheVariants.{OlderAlone, SeveralAsked, UnitsUnasked, NamedTwice}
 
@@ -256,12 +254,6 @@ nothing_named entered no_fields no_run no_frame no_show no_journal no_check no_l
     let none = no_job entered no_fields no_run no_frame no_show no_journal no_check no_link in
     (none, none_refused entered no_check no_link)
 
--- an error of the command that the words enter is one of the words
-pub error_of_words : (words : List Text) (error : JobError) → IsErrorIn (subcommand_of bench_app words) error
-    → IsJobError words error
-error_of_words words (Clap error) is = inl (inl is)
-error_of_words words (Refused refusal) is = is
-
 -- a command over a link names only short addresses of units
 command_is_short : (entered : Option (Text × List Row)) (command : LinkCommand) → IsCommand entered command
     → IsShort command
@@ -271,7 +263,7 @@ command_is_short entered (Verify orders report) is = tt
 command_is_short entered (Scan addresses sought) is = is.0.2.1
 command_is_short entered (Address command) is = tt
 
-pub job_is_short : (words : List Text) (job : Job) → IsTaskOf words job → IsShortJob job
+pub job_is_short : (words : List Text) (job : Job) → IsJobOf words job → IsShortJob job
 job_is_short words (Link command progress) is = command_is_short _ command is.0
 job_is_short words (Check orders journal older) is = tt
 job_is_short words (Run scenario single_frames) is = tt
@@ -280,17 +272,6 @@ job_is_short words (Show dump) is = tt
 job_is_short words (Journal records with_updates) is = tt
 job_is_short words Fields is = tt
 job_is_short words (jobs.Refused refusal) is = tt
-
--- the command that the words name is a job of theirs
-pub job_of_task : (words : List Text) (job : Job) → IsTaskOf words job → IsJobOf words job
-job_of_task words (Link command progress) is = is
-job_of_task words (Check orders journal older) is = is
-job_of_task words (Run scenario single_frames) is = is
-job_of_task words (Frame digits) is = is
-job_of_task words (Show dump) is = is
-job_of_task words (Journal records with_updates) is = is
-job_of_task words Fields is = is
-job_of_task words (jobs.Refused refusal) is = absurd is
 
 -- what `get_one` reads of a text as a `bool` is true exactly when the text is `true`
 read_as_true : (E : Type 0) (text : Option Text) (o : Option Bool) → (text ≡ None → o ≡ None)

@@ -5,16 +5,14 @@ use Rattle.std.specs.Bool.{Decides}
 use Rattle.std.specs.List.{AllByRecursion, AllZip}
 use Rattle.std.specs.Borrow.{Bor}
 use Rattle.std.specs.Str.Parse.{IsNumeral, digits_value, without_leading_plus}
-use Rattle.clap.specs.Words.{App, HasKind, Row, Rule, Text, all_of, app_of, fault_of, first_of, new_app, new_rule, one_of}
+use Rattle.clap.specs.Words.{App, Row, Rule, Text, all_of, app_of, first_of, new_app, new_rule, one_of}
 use Rattle.clap.specs.Words.{rule_of, subcommand_of, with_rule, with_subcommand}
-use Rattle.clap.specs.Values.{kind_of}
 use Rattle.clap.specs.declared.builder.arg.Arg.{Arg}
 use Rattle.clap.specs.declared.builder.command.Command.{Command}
 use Rattle.clap.specs.declared.builder.command.Command.TheViews.{out-Command as fields_of}
 use Rattle.clap.specs.declared.builder.ArgAction.{ArgAction}
 use Rattle.clap.specs.declared.builder.ArgAction.TheVariants.{Append, Set, SetTrue}
 use Rattle.clap.specs.declared.builder.ValueParser.TheVariants.{Unsigned}
-use Rattle.clap.specs.declared.error.kind.ErrorKind.TheVariants.{OutOfMemory}
 use Rattle.dali_drive.specs.declared.sought.Sought.{Sought}
 use Rattle.dali_write.specs.declared.pace.Pace.{Pace}
 use Rattle.dali_job.specs.declared.job.Job.{Job}
@@ -26,8 +24,6 @@ use Rattle.dali_job.specs.declared.link_command.DriveTask.{DriveTask}
 use Rattle.dali_job.specs.declared.link_command.LinkCommand.{LinkCommand}
 use Rattle.dali_job.specs.declared.link_command.LinkCommand.TheVariants.{Drive, Read, Verify, Scan, Address}
 use Rattle.dali_job.specs.declared.link_command.Required.{Required}
-use Rattle.dali_job.specs.declared.refusal.JobError.{JobError}
-use Rattle.dali_job.specs.declared.refusal.JobError.TheVariants.{Clap, Refused}
 use Rattle.dali_job.specs.declared.refusal.Refusal.{Refusal}
 use Rattle.dali_job.specs.declared.refusal.Refusal.TheVariants.{OlderAlone, SeveralAsked, UnitsUnasked, NamedTwice}
 use Rattle.dali_job.specs.LinkOptions.{IsShort, asked_of, command_name, gives_none, named_twice, pace_by, required_by, sought_by}
@@ -310,15 +306,10 @@ IsRefused entered (NamedTwice unit) =
     × (gives_none asked ≡ false) × HasUnits entered (codes "address") (codes "UNIT") units
     × (named_twice units ≡ Some unit))
 
--- memory ran out
-abbrev pub IsWantOfMemory : JobError → Type 0
-IsWantOfMemory (Clap error) = kind_of error ≡ OutOfMemory
-IsWantOfMemory (Refused refusal) = ⊥
-
--- the error is of the command that a parse entered: it is refused, or memory ran out
-abbrev pub IsErrorIn : Option (Text × List Row) → JobError → Type 0
-IsErrorIn entered (Clap error) = kind_of error ≡ OutOfMemory
-IsErrorIn entered (Refused refusal) = IsRefused entered refusal
+-- the job is the command that a parse entered, or why that is refused
+abbrev pub IsNamed : Option (Text × List Row) → Job → Type 0
+IsNamed entered (jobs.Refused refusal) = IsRefused entered refusal
+IsNamed entered job = IsJob entered job
 
 -- ---- no jobs
 
@@ -353,20 +344,10 @@ IsNothing entered = ((job : Job) → ¬ IsJob entered job) × ((refusal : Refusa
 
 -- ---- command lines
 
--- the job that the words name
-abbrev pub IsTaskOf : List Text → Job → Type 0
-IsTaskOf words job = IsJob (subcommand_of bench_app words) job
-
 -- the words name no job, and none that is refused
 abbrev pub NamesNothing : List Text → Type 0
 NamesNothing words = IsNothing (subcommand_of bench_app words)
 
--- the words have this error: one of `clap`, or there is no job and none that is refused, or it is refused
-abbrev pub IsJobError : List Text → JobError → Type 0
-IsJobError words (Clap error) = HasKind (fault_of bench_app words) error ⊎ NamesNothing words
-IsJobError words (Refused refusal) = IsRefused (subcommand_of bench_app words) refusal
-
 -- the job that the words name: their command, or why they are refused
 abbrev pub IsJobOf : List Text → Job → Type 0
-IsJobOf words (jobs.Refused refusal) = IsRefused (subcommand_of bench_app words) refusal
-IsJobOf words job = IsTaskOf words job
+IsJobOf words job = IsNamed (subcommand_of bench_app words) job

@@ -1,16 +1,16 @@
 ghost use Rattle.std.specs.Prelude.{◌≡◌, ◌⊎◌, IfOk, IfErr, IfSome, IfNone, map};
 ghost use Rattle.clap.specs.Words.{HasKind, app_of, fault_of, subcommand_rows_of};
-ghost use Rattle.dali_job.specs.Jobs.{IsErrorIn, IsJob, IsJobError, IsJobOf, IsNoCheck, IsNoLink, IsNothing};
-ghost use Rattle.dali_job.specs.Jobs.{IsShortJob, IsTaskOf, NamesNothing, bench_app};
+ghost use Rattle.dali_job.specs.Jobs.{IsJobOf, IsNamed, IsNoCheck, IsNoLink, IsNothing, IsShortJob, NamesNothing};
+ghost use Rattle.dali_job.specs.Jobs.{bench_app};
 
 use crate::commands::bench_command;
 use crate::link_command::LinkCommand;
-use crate::link_in::command_in;
-use crate::refusal::{JobError, Refusal};
+use crate::link_in::link_job_in;
+use crate::refusal::Refusal;
 use crate::values::{has_flag, is_entered, value_of, values_of};
 use clap::error::ErrorKind;
 use clap::{ArgMatches, Command, Error};
-use std::alloc::Global;
+use std::alloc::{AllocError, Global};
 
 /// The task that the command line gives.
 #[derive(Drop)]
@@ -59,22 +59,8 @@ pub fn job_of<'a>(alloc: Global, words: &'a [&'a str]) -> Result<Job<'a>, Error>
     ensures refused { IfErr result (λ error. HasKind (fault_of bench_app (map (λ word. word.now) words.entry.now)) error
         ⊎ NamesNothing (map (λ word. word.now) words.entry.now)) }
 {
-    match named_job(alloc, words) {
-        Ok(job) => Ok(job),
-        Err(JobError::Refused(refusal)) => Ok(Job::Refused(refusal)),
-        Err(JobError::Clap(error)) => Err(error),
-    }
-}
-
-// The job that the words name, or why they name none.
-fn named_job<'a>(alloc: Global, words: &'a [&'a str]) -> Result<Job<'a>, JobError>
-    ensures named { IfOk result (IsTaskOf (map (λ word. word.now) words.entry.now)) }
-    ensures refused { IfErr result (IsJobError (map (λ word. word.now) words.entry.now)) }
-{
-    match bench_command(alloc) {
-        Ok(mut command) => job_by(alloc, &mut command, words),
-        Err(error) => Err(JobError::from(error)),
-    }
+    let mut command = bench_command(alloc)?;
+    job_by(alloc, &mut command, words)
 }
 
 // The job that the words name, by the program's commands.
@@ -82,14 +68,16 @@ fn job_by<'a>(
     alloc: Global,
     command: &mut Command<'a>,
     words: &'a [&'a str],
-) -> Result<Job<'a>, JobError>
+) -> Result<Job<'a>, Error>
     requires { app_of command.old ≡ bench_app }
-    ensures named { IfOk result (IsTaskOf (map (λ word. word.now) words.entry.now)) }
-    ensures refused { IfErr result (IsJobError (map (λ word. word.now) words.entry.now)) }
+    ensures named { IfOk result (IsJobOf (map (λ word. word.now) words.entry.now)) }
+    ensures refused { IfErr result (λ error. HasKind (fault_of bench_app (map (λ word. word.now) words.entry.now)) error
+        ⊎ NamesNothing (map (λ word. word.now) words.entry.now)) }
 {
-    match entered_job(alloc, command, words)? {
-        Some(job) => Ok(job),
-        None => Err(JobError::Clap(missing(command))),
+    match entered_job(alloc, command, words) {
+        Ok(Some(job)) => Ok(job),
+        Ok(None) => Err(missing(command)),
+        Err(error) => Err(error),
     }
 }
 
@@ -98,23 +86,26 @@ fn entered_job<'a>(
     alloc: Global,
     command: &mut Command<'a>,
     words: &'a [&'a str],
-) -> Result<Option<Job<'a>>, JobError>
+) -> Result<Option<Job<'a>>, Error>
     requires { app_of command.old ≡ bench_app }
-    ensures named { IfOk result (λ found. IfSome found (IsTaskOf (map (λ word. word.now) words.entry.now))) }
+    ensures named { IfOk result (λ found. IfSome found (IsJobOf (map (λ word. word.now) words.entry.now))) }
     ensures none { IfOk result (λ found. IfNone found (NamesNothing (map (λ word. word.now) words.entry.now))) }
-    ensures refused { IfErr result (IsJobError (map (λ word. word.now) words.entry.now)) }
+    ensures refused { IfErr result (HasKind (fault_of bench_app (map (λ word. word.now) words.entry.now))) }
 {
-    match command.try_get_matches_from_mut(words) {
-        Ok(matches) => job_in(alloc, &matches),
-        Err(error) => Err(JobError::Clap(error)),
+    let matches = match command.try_get_matches_from_mut(words) {
+        Ok(matches) => matches,
+        Err(error) => return Err(error),
+    };
+    match job_in(alloc, &matches) {
+        Ok(found) => Ok(found),
+        Err(error) => Err(Error::from(error)),
     }
 }
 
 // The job of the command that a parse entered.
-fn job_in<'a>(alloc: Global, matches: &ArgMatches<'a>) -> Result<Option<Job<'a>>, JobError>
-    ensures named { IfOk result (λ found. IfSome found (IsJob (subcommand_rows_of matches.now))) }
+fn job_in<'a>(alloc: Global, matches: &ArgMatches<'a>) -> Result<Option<Job<'a>>, AllocError>
+    ensures named { IfOk result (λ found. IfSome found (IsNamed (subcommand_rows_of matches.now))) }
     ensures none { IfOk result (λ found. IfNone found (IsNothing (subcommand_rows_of matches.now))) }
-    ensures refused { IfErr result (IsErrorIn (subcommand_rows_of matches.now)) }
 {
     if let Some(job) = file_job_in(matches) {
         return Ok(Some(job));
@@ -127,7 +118,7 @@ fn job_in<'a>(alloc: Global, matches: &ArgMatches<'a>) -> Result<Option<Job<'a>>
 
 // The job of the command that a parse entered, if that is one over a file or a word, and not `check`.
 fn file_job_in<'a>(matches: &ArgMatches<'a>) -> Option<Job<'a>>
-    ensures named { IfSome result (IsJob (subcommand_rows_of matches.now)) }
+    ensures named { IfSome result (IsNamed (subcommand_rows_of matches.now)) }
     ensures none { IfNone result
         (IsNoCheck (subcommand_rows_of matches.now) → IsNoLink (subcommand_rows_of matches.now)
         → IsNothing (subcommand_rows_of matches.now)) }
@@ -156,11 +147,10 @@ fn file_job_in<'a>(matches: &ArgMatches<'a>) -> Option<Job<'a>>
     })
 }
 
-// The job of the command that checks, if a parse entered it.
-fn check_in<'a>(alloc: Global, matches: &ArgMatches<'a>) -> Result<Option<Job<'a>>, JobError>
-    ensures named { IfOk result (λ found. IfSome found (IsJob (subcommand_rows_of matches.now))) }
+// The job of the command that checks, or why it is refused, if a parse entered it.
+fn check_in<'a>(alloc: Global, matches: &ArgMatches<'a>) -> Result<Option<Job<'a>>, AllocError>
+    ensures named { IfOk result (λ found. IfSome found (IsNamed (subcommand_rows_of matches.now))) }
     ensures none { IfOk result (λ found. IfNone found (IsNoCheck (subcommand_rows_of matches.now))) }
-    ensures refused { IfErr result (IsErrorIn (subcommand_rows_of matches.now)) }
 {
     let Some(orders) = value_of(matches, "check", "ORDERS") else {
         return Ok(None);
@@ -170,7 +160,7 @@ fn check_in<'a>(alloc: Global, matches: &ArgMatches<'a>) -> Result<Option<Job<'a
     };
     let journal = value_of(matches, "check", "journal");
     if journal.is_none() && !older.is_empty() {
-        return Err(JobError::Refused(Refusal::OlderAlone));
+        return Ok(Some(Job::Refused(Refusal::OlderAlone)));
     }
     let job = Job::Check {
         orders,
@@ -178,19 +168,6 @@ fn check_in<'a>(alloc: Global, matches: &ArgMatches<'a>) -> Result<Option<Job<'a
         older,
     };
     Ok(Some(job))
-}
-
-// The job of the command over a link that a parse entered, if it is one.
-fn link_job_in<'a>(alloc: Global, matches: &ArgMatches<'a>) -> Result<Option<Job<'a>>, JobError>
-    ensures named { IfOk result (λ found. IfSome found (IsJob (subcommand_rows_of matches.now))) }
-    ensures none { IfOk result (λ found. IfNone found (IsNoLink (subcommand_rows_of matches.now))) }
-    ensures refused { IfErr result (IsErrorIn (subcommand_rows_of matches.now)) }
-{
-    let Some(command) = command_in(alloc, matches)? else {
-        return Ok(None);
-    };
-    let progress = has_flag(matches, command.name(), "progress");
-    Ok(Some(Job::Link { command, progress }))
 }
 
 // The error of a command line that names no job.

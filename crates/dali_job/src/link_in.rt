@@ -1,39 +1,48 @@
-// The command over a link that a parse entered.
-ghost use Rattle.std.specs.Prelude.{◌≡◌, IfOk, IfErr, IfSome, IfNone};
+// The job of the command over a link that a parse entered.
+ghost use Rattle.std.specs.Prelude.{IfOk, IfSome, IfNone};
 ghost use Rattle.clap.specs.Words.{subcommand_rows_of};
-ghost use Rattle.dali_job.specs.Jobs.{AsksSeveral, HasAsked, IsAddress, IsCommand, IsDrive, IsErrorIn, IsNoAddress, IsNoDrive};
+ghost use Rattle.dali_job.specs.Jobs.{AsksSeveral, HasAsked, IsCommand, IsDrive, IsNamed, IsNoAddress, IsNoDrive};
 ghost use Rattle.dali_job.specs.Jobs.{IsNoLink, IsNoReading, IsNoScan};
 
+use crate::job::Job;
 use crate::link_command::{
     AddressCommand, Asked, DriveTask, LinkCommand, Required, pace_of, sought_of,
 };
-use crate::refusal::{JobError, Refusal, named_twice};
+use crate::refusal::{Refusal, named_twice};
 use crate::values::{has_flag, number_of, short_addresses_of, unit_of, value_of, values_of};
 use clap::ArgMatches;
 use std::alloc::{AllocError, Global};
 
-// The command over a link that a parse entered, if it is one.
-pub(crate) fn command_in<'a>(
+// The job of the command over a link that a parse entered, or why it is refused, if it is one.
+pub(crate) fn link_job_in<'a>(
     alloc: Global,
     matches: &ArgMatches<'a>,
-) -> Result<Option<LinkCommand<'a>>, JobError>
-    ensures named { IfOk result (λ found. IfSome found (IsCommand (subcommand_rows_of matches.now))) }
+) -> Result<Option<Job<'a>>, AllocError>
+    ensures named { IfOk result (λ found. IfSome found (IsNamed (subcommand_rows_of matches.now))) }
     ensures none { IfOk result (λ found. IfNone found (IsNoLink (subcommand_rows_of matches.now))) }
-    ensures refused { IfErr result (IsErrorIn (subcommand_rows_of matches.now)) }
 {
     if let Some(command) = reading_in(matches) {
-        return Ok(Some(command));
+        return Ok(Some(linked(matches, command)));
     }
-    if let Some(command) = scan_in(alloc, matches)? {
-        return Ok(Some(command));
+    if let Some(job) = scan_in(alloc, matches)? {
+        return Ok(Some(job));
     }
-    if let Some(command) = address_in(alloc, matches)? {
-        return Ok(Some(LinkCommand::Address(command)));
+    if let Some(job) = address_in(alloc, matches)? {
+        return Ok(Some(job));
     }
     match drive_in(alloc, matches)? {
-        Some(task) => Ok(Some(LinkCommand::Drive(task))),
+        Some(task) => Ok(Some(linked(matches, LinkCommand::Drive(task)))),
         None => Ok(None),
     }
+}
+
+// The job of a command over a link that a parse entered.
+fn linked<'a>(matches: &ArgMatches<'a>, command: LinkCommand<'a>) -> Job<'a>
+    requires { IsCommand (subcommand_rows_of matches.now) command }
+    ensures { IsNamed (subcommand_rows_of matches.now) result }
+{
+    let progress = has_flag(matches, command.name(), "progress");
+    Job::Link { command, progress }
 }
 
 // The command that compares units with orders, or the one that reads a bank, if a parse entered it.
@@ -50,42 +59,37 @@ fn reading_in<'a>(matches: &ArgMatches<'a>) -> Option<LinkCommand<'a>>
     Some(LinkCommand::Read { unit, bank })
 }
 
-// The command that looks which units answer, if a parse entered it.
-fn scan_in<'a>(alloc: Global, matches: &ArgMatches<'a>) -> Result<Option<LinkCommand<'a>>, JobError>
-    ensures named { IfOk result (λ found. IfSome found (IsCommand (subcommand_rows_of matches.now))) }
+// The job of the command that looks which units answer, or why it is refused, if a parse entered it.
+fn scan_in<'a>(alloc: Global, matches: &ArgMatches<'a>) -> Result<Option<Job<'a>>, AllocError>
+    ensures named { IfOk result (λ found. IfSome found (IsNamed (subcommand_rows_of matches.now))) }
     ensures none { IfOk result (λ found. IfNone found (IsNoScan (subcommand_rows_of matches.now))) }
-    ensures refused { IfErr result (IsErrorIn (subcommand_rows_of matches.now)) }
 {
     let Some(addresses) = short_addresses_of(alloc, matches, "scan")? else {
         return Ok(None);
     };
     if let Some(unit) = named_twice(addresses.as_slice()) {
-        return Err(JobError::Refused(Refusal::NamedTwice(unit)));
+        return Ok(Some(Job::Refused(Refusal::NamedTwice(unit))));
     }
     let sought = sought_of(has_flag(matches, "scan", "gtin"));
-    Ok(Some(LinkCommand::Scan { addresses, sought }))
+    Ok(Some(linked(matches, LinkCommand::Scan { addresses, sought })))
 }
 
-// The command that gives short addresses, if a parse entered it.
-fn address_in<'a>(
-    alloc: Global,
-    matches: &ArgMatches<'a>,
-) -> Result<Option<AddressCommand<'a>>, JobError>
-    ensures named { IfOk result (λ found. IfSome found (IsAddress (subcommand_rows_of matches.now))) }
+// The job of the command that gives short addresses, or why it is refused, if a parse entered it.
+fn address_in<'a>(alloc: Global, matches: &ArgMatches<'a>) -> Result<Option<Job<'a>>, AllocError>
+    ensures named { IfOk result (λ found. IfSome found (IsNamed (subcommand_rows_of matches.now))) }
     ensures none { IfOk result (λ found. IfNone found (IsNoAddress (subcommand_rows_of matches.now))) }
-    ensures refused { IfErr result (IsErrorIn (subcommand_rows_of matches.now)) }
 {
     let Some(units) = short_addresses_of(alloc, matches, "address")? else {
         return Ok(None);
     };
     let Some(asked) = asked_in(matches) else {
-        return Err(JobError::Refused(Refusal::SeveralAsked));
+        return Ok(Some(Job::Refused(Refusal::SeveralAsked)));
     };
     if asked.gives_none() && !units.is_empty() {
-        return Err(JobError::Refused(Refusal::UnitsUnasked));
+        return Ok(Some(Job::Refused(Refusal::UnitsUnasked)));
     }
     if let Some(unit) = named_twice(units.as_slice()) {
-        return Err(JobError::Refused(Refusal::NamedTwice(unit)));
+        return Ok(Some(Job::Refused(Refusal::NamedTwice(unit))));
     }
     let journal = value_of(matches, "address", "journal");
     let command = AddressCommand {
@@ -93,7 +97,7 @@ fn address_in<'a>(
         units,
         journal,
     };
-    Ok(Some(command))
+    Ok(Some(linked(matches, LinkCommand::Address(command))))
 }
 
 // The task of `address` by its flags: none if several are given.

@@ -1,18 +1,6 @@
 ghost use Rattle.std.specs.Prelude.{◌≡◌};
 ghost use Rattle.dali_job.specs.LinkOptions.{named_twice as first_repeated};
 
-use clap::Error;
-use std::alloc::AllocError;
-
-// Why a command line names no command.
-#[derive(Drop)]
-pub(crate) enum JobError {
-    // One of `clap`, as want of memory.
-    Clap(Error),
-    // `clap` takes it, and the program doesn't.
-    Refused(Refusal),
-}
-
 /// Why a command line is refused that `clap` takes (profile).
 #[derive(Clone, Copy)]
 pub enum Refusal {
@@ -24,16 +12,6 @@ pub enum Refusal {
     UnitsUnasked,
     /// `scan` or `address` names this unit twice: it is the first that was named before.
     NamedTwice(u8),
-}
-
-impl From<AllocError> for JobError {
-    ghost use Rattle.dali_job.specs.Jobs.{IsWantOfMemory};
-
-    ghost from_gives = { λ _ error. IsWantOfMemory error };
-
-    fn from(error: AllocError) -> JobError {
-        JobError::Clap(Error::from(error))
-    }
 }
 
 /// The first of the units that was named before.

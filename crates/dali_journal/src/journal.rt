@@ -254,15 +254,6 @@ impl Journal {
         };
         let Journal {
             limit: _,
-            orders: own_orders,
-            standing,
-            bytes: own_bytes,
-            front: own_front,
-            settled: own_settled,
-            index: own_index,
-        } = self;
-        let Journal {
-            limit: _,
             orders,
             standing: _,
             mut bytes,
@@ -271,9 +262,19 @@ impl Journal {
             index,
         } = older;
         let len = bytes.len();
-        let settled = settled_both(settled, &index, front, &own_settled, len)?;
-        bytes.extend_from_slice(&own_bytes)?;
-        bytes.reserve(standing.bytes_due())?;
+        let settled = settled_both(settled, &index, front, &self.settled, len)?;
+        drop(index);
+        bytes.extend_from_slice(&self.bytes)?;
+        bytes.reserve(self.standing.bytes_due())?;
+        let Journal {
+            limit: _,
+            orders: own_orders,
+            standing,
+            bytes: _,
+            front: own_front,
+            settled: _,
+            index: own_index,
+        } = self;
         Ok(Journal {
             limit,
             orders: orders + own_orders,

@@ -6,8 +6,8 @@ use Rattle.std.specs.Io.KnownBytes.{Appends}
 use Rattle.dali_address.specs.declared.census.CensusEnd.{CensusEnd}
 use Rattle.dali_address.specs.declared.task.Task.{Task}
 use Rattle.dali_address.specs.declared.task.Task.TheVariants.{Close}
-use Rattle.dali_address_link.specs.AddressLines.{count_text}
-use Rattle.dali_address_link.specs.Counted.{IsCounted}
+use Rattle.dali_link_commands.specs.AddressLines.{count_text}
+use Rattle.dali_link_commands.specs.Counted.{IsCounted}
 use Rattle.dali_drive.specs.Desks.{Look}
 use Rattle.dali_drive.specs.Surveys.{link_of}
 use Rattle.dali_drive.specs.Transcript.{Streams}

@@ -16,6 +16,9 @@ mod WorkedBreakLemmas
 mod WorkedReadLemmas
 mod WorkedReportLemmas
 pub mod ReadLemmas
+pub mod MoveLemmas
+pub mod CountLemmas
+pub mod ShareLemmas
 pub mod AddressLemmas
 mod WorkedOlderLemmas
 mod WorkedUnreadLemmas

@@ -7,7 +7,7 @@ use Rattle.dali_input.specs.declared.fault.InputFault.{InputFault}
 use Rattle.dali_input.specs.declared.fault.InputFault.TheVariants.{Document}
 use Rattle.dali_input.specs.Scenario.{IsEvent, submit}
 use Rattle.dali_input.specs.Values.{IsNoReading}
-use Rattle.dali_link_commands.specs.declared.stream.fault.OrderLineFault.TheVariants.{Input}
+use Rattle.dali_input.specs.declared.item.ItemFault.TheVariants.{Input}
 use Rattle.dali_link_commands.specs.LinesJudged.{Outcome, IsSubmitted, IsNoSubmission, no_submission_on}
 
 -- a value without the key of a submission is submitted itself

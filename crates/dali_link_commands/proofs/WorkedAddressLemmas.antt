@@ -5,7 +5,7 @@ use Rattle.dali_address.specs.declared.task.Summary.{Summary}
 use Rattle.dali_address.specs.declared.task.Task.{Task}
 use Rattle.dali_address.specs.declared.task.Task.TheVariants.{Give}
 use Rattle.dali_address.specs.declared.task.Task.TheVariants as tasks
-use Rattle.dali_address_link.specs.declared.run.End.TheVariants.{Done, Taken}
+use Rattle.dali_link_commands.specs.declared.address.addressing.End.TheVariants.{Done, Taken}
 use Rattle.dali_address.specs.declared.census.CensusEnd.TheVariants.{Apart, Unclear}
 use Rattle.dali_drive.specs.Desks.{Look}
 use Rattle.dali_drive.specs.Transcript.{Streams}

@@ -5,9 +5,8 @@ use Rattle.serde_json.specs.Data.{Data, null, number, unsigned, string, object, 
 use Rattle.dali_bank.specs.Order.{Contents}
 use Rattle.dali_input.specs.declared.fault.InputFault.{InputFault}
 use Rattle.dali_input.specs.declared.fault.InputFault.TheVariants.{Json, Document, TooBig}
-use Rattle.dali_input.specs.declared.item.ItemFault.TheVariants.{Shape, Key}
+use Rattle.dali_input.specs.declared.item.ItemFault.TheVariants.{Input, Shape, Key}
 use Rattle.dali_input.specs.Input.{IsJson}
-use Rattle.dali_link_commands.specs.declared.stream.fault.OrderLineFault.TheVariants.{Input, Item}
 use Rattle.dali_link_commands.specs.declared.stream.fault.RefusedLine.{RefusedLine}
 use Rattle.dali_link_commands.specs.declared.stream.order_lines.OrderLines.{OrderLines}
 use Rattle.dali_link_commands.specs.declared.stream.reading.LineEnd.TheVariants.{LineFeed, Stream, Broken}
@@ -27,12 +26,12 @@ pub no_input_fault_of_an_item : (moment : ℕ) (item : Data) (order : Option ℕ
 no_input_fault_of_an_item moment item order fault = λ judged. judged.0
 
 abbrev shape_of : Option ℕ → RefusedLine
-shape_of order = record { order = order; fault = Item Shape }
+shape_of order = record { order = order; fault = Shape }
 
 pub no_number_is_a_shape : JudgesAt 5 null (Err (shape_of None))
 no_number_is_a_shape = (inl refl, refl)
 
-pub no_number_is_no_key : ¬ JudgesAt 5 null (Err (record { order = None; fault = Item Key }))
+pub no_number_is_no_key : ¬ JudgesAt 5 null (Err (record { order = None; fault = Key }))
 no_number_is_no_key = λ ((id, unit, numbers, known), none). let some = numbers.order_is in cc
 
 -- an item without a unit has its order's number, and one whose number is a text has none

@@ -12,7 +12,6 @@ use Rattle.dali_input.specs.declared.item.ItemFault.TheVariants.{Bank}
 use Rattle.dali_input.specs.Input.{IsJson, IsNoJson}
 use Rattle.dali_drive.specs.declared.following.Given.{Given}
 use Rattle.dali_drive.specs.declared.following.Given.TheVariants as gives
-use Rattle.dali_link_commands.specs.declared.stream.fault.OrderLineFault.TheVariants.{Item}
 use Rattle.dali_link_commands.specs.declared.stream.order_lines.OrderLines.{OrderLines}
 use Rattle.dali_link_commands.specs.LineFaults.{item_line}
 use Rattle.dali_link_commands.specs.LinesJudged.{IsSubmitted, IsNoSubmission, JudgesLine, no_json_on}
@@ -120,11 +119,11 @@ decimal_11 =
 pub too_long_line_told : item_line 7 (no_json_on TooBig) ≡ codes "item 7 fault 13 TooBig\n"
 too_long_line_told = rw (decimal_digit 7 (omega arith), decimal_13) refl
 
-pub item_told : item_line 2 (record { order = None; fault = Item (Bank Gtin) }) ≡ codes "item 2 fault 4 Gtin\n"
+pub item_told : item_line 2 (record { order = None; fault = Bank Gtin }) ≡ codes "item 2 fault 4 Gtin\n"
 item_told = rw (decimal_digit 2 (omega arith), decimal_digit 4 (omega arith)) refl
 
 pub item_of_an_order_told :
-    item_line 2 (record { order = Some 7; fault = Item (Bank Gtin) }) ≡ codes "item 2 order 7 fault 4 Gtin\n"
+    item_line 2 (record { order = Some 7; fault = Bank Gtin }) ≡ codes "item 2 order 7 fault 4 Gtin\n"
 item_of_an_order_told = rw (decimal_digit 2 (omega arith), decimal_digit 7 (omega arith), decimal_digit 4 (omega arith))
     refl
 

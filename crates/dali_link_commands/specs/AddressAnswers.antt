@@ -7,11 +7,11 @@ use Rattle.dali_address.specs.declared.census.CensusEnd.TheVariants.{Apart, Shar
 use Rattle.dali_address.specs.declared.task.Summary.{Summary}
 use Rattle.dali_address.specs.declared.task.Task.{Task}
 use Rattle.dali_address.specs.declared.task.Task.TheVariants as tasks
-use Rattle.dali_address_link.specs.declared.run.End.{End}
-use Rattle.dali_address_link.specs.declared.run.End.TheVariants.{Done, Taken}
-use Rattle.dali_address_link.specs.Addressed.{AddressingBroke, IsAddressed}
-use Rattle.dali_address_link.specs.AddressLines.{count_text, end_text, open_line}
-use Rattle.dali_address_link.specs.Counted.{CountingBroke, IsCounted}
+use Rattle.dali_link_commands.specs.declared.address.addressing.End.{End}
+use Rattle.dali_link_commands.specs.declared.address.addressing.End.TheVariants.{Done, Taken}
+use Rattle.dali_link_commands.specs.Addressed.{AddressingBroke, IsAddressed}
+use Rattle.dali_link_commands.specs.AddressLines.{count_text, end_text, open_line}
+use Rattle.dali_link_commands.specs.Counted.{CountingBroke, IsCounted}
 use Rattle.dali_drive.specs.Surveys.{link_of}
 use Rattle.dali_drive.specs.Transcript.{Streams}
 use Rattle.dali_drive.specs.Desks.{IsUnfailed, Look, ShowsFault}

@@ -8,6 +8,9 @@ pub mod Older
 pub mod Asked
 pub mod BehindAnswers
 pub mod ReadAnswers
+pub mod AddressLines
+pub mod Addressed
+pub mod Counted
 pub mod AddressAnswers
 pub mod LinkCommands
 pub mod LineBuffers

@@ -9,8 +9,7 @@ use Rattle.dali_input.specs.declared.fault.InputFault.TheVariants.{Document}
 use Rattle.dali_input.specs.Input.{IsJson, IsNoJson}
 use Rattle.dali_input.specs.Items.{IsOrderOf, IsFaultOf, whole_at}
 use Rattle.dali_input.specs.Scenario.{IsEvent, submit}
-use Rattle.dali_link_commands.specs.declared.stream.fault.OrderLineFault.{OrderLineFault}
-use Rattle.dali_link_commands.specs.declared.stream.fault.OrderLineFault.TheVariants.{Input, Item}
+use Rattle.dali_input.specs.declared.item.ItemFault.TheVariants.{Input}
 use Rattle.dali_link_commands.specs.declared.stream.fault.RefusedLine.{RefusedLine}
 use Rattle.dali_link_commands.specs.StreamLines.{line_limit}
 
@@ -33,15 +32,10 @@ IsNoSubmission json =
 abbrev pub order_number : Data → Option ℕ
 order_number item = whole_at (codes "order") item
 
--- why an item is refused: the fault of an order, and none of a line's JSON, which is read already
-abbrev pub IsItemFault : Data → OrderLineFault → Type 0
-IsItemFault item (Item fault) = IsFaultOf item fault
-IsItemFault item (Input fault) = ⊥
-
 -- what becomes of what is submitted at a moment
 abbrev pub JudgesAt : ℕ → Data → Outcome → Type 0
 JudgesAt moment item (Ok judged) = IsOrderOf item judged.0 × (judged.1 ≡ moment)
-JudgesAt moment item (Err refused) = IsItemFault item refused.fault × (refused.order ≡ order_number item)
+JudgesAt moment item (Err refused) = IsFaultOf item refused.fault × (refused.order ≡ order_number item)
 
 -- a line without a submission that can be read, though it has the key of one
 abbrev pub no_submission_on : Data → RefusedLine

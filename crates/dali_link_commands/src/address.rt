@@ -2,7 +2,7 @@
 ghost use Rattle.std.specs.Prelude.{◌≡◌, ◌≢◌, ◌↔◌, ◌+◌, ◌<◌, ◌≤◌, false, length, true, if◌then◌else◌};
 ghost use Rattle.dali_drive.specs.Desks.{IsUnfailed};
 ghost use Rattle.dali_text.specs.Output.{has_failed, held};
-ghost use Rattle.dali_address_link.specs.AddressLines.{end_text as text_at_end};
+ghost use Rattle.dali_link_commands.specs.AddressLines.{end_text as text_at_end};
 ghost use Rattle.dali_link_commands.specs.AddressAnswers.{IsAddressAnswer, IsAskedAnswer, IsCountAnswer, IsRunAnswer};
 ghost use Rattle.dali_link_commands.specs.AddressAnswers.{TellsBreak, end_after as ended_after, is_apart as apart};
 ghost use Rattle.dali_link_commands.specs.AddressAnswers.{marked_in as marked, may_be_good as good, shared_in as shared};
@@ -12,13 +12,19 @@ ghost use Rattle.dali_link_commands.specs.Benches.{TellsUnwritten};
 ghost use Rattle.dali_link_commands.specs.ReadAnswers.{on_link};
 ghost use Rattle.dali_link_commands.specs.Told.{TellsLine, is_out};
 
+pub mod addressing;
+pub mod counting;
+pub mod lines;
+
+use crate::address::addressing::{End, address_units};
+use crate::address::counting::count_units;
+use crate::address::lines::{OPEN, count_text, end_text};
 use crate::drive_lines::{break_words, tell_fault};
 use crate::journal_files::JournalFiles;
 use crate::lines::{Bench, Lines, StdBench};
 use crate::older::held_older;
 use crate::read::tell_line;
 use dali_address::{CensusEnd, Summary, Task};
-use dali_address_link::{End, OPEN, address_units, count_text, count_units, end_text};
 use dali_drive::{Desk, DriveFault, Sink, Source, put_all};
 use dali_input::Status;
 use dali_job::{AddressCommand, Asked};

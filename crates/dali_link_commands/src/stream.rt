@@ -7,6 +7,5 @@ mod line_buffer;
 mod order_lines;
 mod reading;
 
-pub use fault::OrderLineFault;
 pub use line_buffer::LINE_LIMIT;
 pub use order_lines::OrderLines;

@@ -1,5 +1,5 @@
 // Words for a person on a stream that others read too: plain characters on one line.
-ghost use Rattle.std.specs.Prelude.{◌≡◌, ◌++◌, IfOk, OnOk, IfSome, string_bytes};
+ghost use Rattle.std.specs.Prelude.{◌≡◌, IfOk, IfSome, string_bytes};
 ghost use Rattle.dali_text.specs.Escaped.{shown_text};
 ghost use Rattle.dali_link_commands.specs.Told.{IsPlain};
 
@@ -55,27 +55,29 @@ pub(crate) fn older_words(
     if let Some(words) = words {
         return format!(in alloc; "the older journal can't be used: {name}: {words}").ok();
     }
-    match fault {
-        OlderFault::Cut => {
-            format!(in alloc; "the older journal's end is cut: {name}: drive it once more").ok()
-        }
-        OlderFault::AtWork => {
-            format!(in alloc;
-                "the older journal isn't at rest: {name}: an order isn't ended, or a unit is left"
-            ).ok()
-        }
+    let (what, rest) = match fault {
         OlderFault::Join(JoinFault::Repeated(id)) => {
-            format!(in alloc; "order {id} stands in two journals: {name}, and an older one").ok()
+            return format!(in alloc;
+                "order {id} stands in two journals: {name}, and an older one"
+            ).ok();
         }
         OlderFault::Unloaded(Fault::Journal(fault)) => {
             let number = fault.number();
-            format!(in alloc;
+            return format!(in alloc;
                 "the older journal is none: {name}: journal fault {number} {fault}"
-            ).ok()
+            ).ok();
+        }
+        OlderFault::Cut => ("the older journal's end is cut", ": drive it once more"),
+        OlderFault::AtWork => {
+            (
+                "the older journal isn't at rest",
+                ": an order isn't ended, or a unit is left",
+            )
         }
         OlderFault::Unloaded(Fault::Input(InputFault::TooBig)) => {
-            format!(in alloc; "the older journal is too big: {name}").ok()
+            ("the older journal is too big", "")
         }
-        _ => format!(in alloc; "the older journal can't be used: {name}").ok(),
-    }
+        _ => ("the older journal can't be used", ""),
+    };
+    format!(in alloc; "{what}: {name}{rest}").ok()
 }

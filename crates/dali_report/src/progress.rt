@@ -290,10 +290,15 @@ fn unit_in([address, _]: [u8; 2]) -> Option<u8> {
 fn drawn(alloc: Global, line: Now, columns: usize) -> Result<Vec<u8>, AllocError> {
     let line = format!(in alloc; "{line}")?;
     let mut text = Vec::new(alloc);
-    text.extend_from_slice(CLEARED.as_bytes())?;
-    text.extend_from_slice(UNWRAPPED.as_bytes())?;
-    text.extend_from_slice(cut(line.as_bytes(), Some(columns)))?;
-    text.extend_from_slice(WRAPPED.as_bytes())?;
+    let shown = cut(line.as_bytes(), Some(columns));
+    for piece in [
+        CLEARED.as_bytes(),
+        UNWRAPPED.as_bytes(),
+        shown,
+        WRAPPED.as_bytes(),
+    ] {
+        text.extend_from_slice(piece)?;
+    }
     Ok(text)
 }
 

@@ -1,5 +1,5 @@
 // The shared parts of the calls on the files of a store: why one fails, a lock, all bytes of a file.
-ghost use Rattle.std.specs.Prelude.{◌≤◌, IfOk, length};
+ghost use Rattle.std.specs.Prelude.{◌≡◌, ◌≤◌, IfOk, IfSome, Ok, length};
 
 use crate::new_file::Writer;
 use std::alloc::Global;
@@ -47,7 +47,9 @@ pub(crate) fn given<T: Drop>(
     alloc: Global,
     name: &str,
     ended: io::Result<T>,
-) -> Result<T, Hindrance> {
+) -> Result<T, Hindrance>
+    ensures { IfOk result (λ value. ended ≡ Ok value) }
+{
     match ended {
         Ok(value) => Ok(value),
         Err(cause) => Err(unusable(alloc, name, cause)),
@@ -71,37 +73,26 @@ pub(crate) fn lock(
     }
 }
 
-// Why the bytes of a file aren't read.
-#[derive(Drop)]
-pub(crate) enum Unread {
-    TooBig,
-    NoMemory,
-    Failed(io::Error),
-}
-
-// All the bytes that a file gives from here on, if there are no more than the limit.
-pub(crate) fn bytes_up_to(alloc: Global, file: &mut File, limit: usize) -> Result<Vec<u8>, Unread>
-    ensures { IfOk result (λ bytes. length bytes.items ≤ limit) }
+// All the bytes that a file gives from here on, or none if there are more than the limit.
+pub(crate) fn bytes_up_to(
+    alloc: Global,
+    file: &mut File,
+    limit: usize,
+) -> io::Result<Option<Vec<u8>>>
+    ensures { IfOk result (λ found. IfSome found (λ bytes. length bytes.items ≤ limit)) }
 {
     let mut bytes = Vec::new(alloc);
     let mut piece = [0u8; CHUNK];
     for _ in 0..u64::MAX {
         match file.read(&mut piece) {
             Ok(0) => break,
-            Ok(count) if count > limit - bytes.len() => return Err(Unread::TooBig),
-            Ok(count) => {
-                if bytes.extend_from_slice(&piece[..count]).is_err() {
-                    return Err(Unread::NoMemory);
-                }
-            }
-            Err(error) => match error.kind() {
-                ErrorKind::Interrupted => {}
-                ErrorKind::OutOfMemory => return Err(Unread::NoMemory),
-                _ => return Err(Unread::Failed(error)),
-            },
+            Ok(count) if count > limit - bytes.len() => return Ok(None),
+            Ok(count) => bytes.extend_from_slice(&piece[..count])?,
+            Err(error) if error.kind() == ErrorKind::Interrupted => {}
+            Err(error) => return Err(error),
         }
     }
-    Ok(bytes)
+    Ok(Some(bytes))
 }
 
 // The same of the file of this name, with the words for a person if that fails.
@@ -113,10 +104,8 @@ pub(crate) fn read_up_to(
 ) -> Result<Vec<u8>, Hindrance>
     ensures { IfOk result (λ bytes. length bytes.items ≤ limit) }
 {
-    match bytes_up_to(alloc, file, limit) {
-        Ok(bytes) => Ok(bytes),
-        Err(Unread::TooBig) => Err(Hindrance::TooBig),
-        Err(Unread::NoMemory) => Err(Hindrance::NoMemory),
-        Err(Unread::Failed(cause)) => Err(unusable(alloc, name, cause)),
+    match given(alloc, name, bytes_up_to(alloc, file, limit))? {
+        Some(bytes) => Ok(bytes),
+        None => Err(Hindrance::TooBig),
     }
 }

@@ -12,7 +12,6 @@ use std::os::unix::fs::FileTypeExt;
 
 // The file of a journal: `read` opens it, made if there is none or not, and locks it for as long as this lasts. Any
 // other call fails before that.
-#[derive(Drop)]
 pub(crate) struct JournalFile {
     // The file of the orders, if one is known: the journal can't be that one.
     orders: Option<FileId>,
@@ -21,12 +20,33 @@ pub(crate) struct JournalFile {
     opened: Option<Opened>,
 }
 
-#[derive(Drop)]
+// Called wherever one goes: what is derived would be written out at each such place.
+impl Drop for JournalFile {
+    fn drop(self) {
+        let JournalFile {
+            orders: _,
+            is_made: _,
+            opened: _,
+        } = self;
+    }
+}
+
 struct Opened {
     file: File,
     place: Place,
     // Whether its length and its name are on the disk, so that of what is appended only the data has to be synced.
     is_settled: bool,
+}
+
+// Called wherever one goes: what is derived would be written out at each such place.
+impl Drop for Opened {
+    fn drop(self) {
+        let Opened {
+            file: _,
+            place: _,
+            is_settled: _,
+        } = self;
+    }
 }
 
 impl JournalFile {

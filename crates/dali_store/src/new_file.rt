@@ -46,10 +46,10 @@ pub(crate) fn successor<R: Files<File = File> + AllocGlobal>(
     bytes: &[u8],
     writer: Writer,
 ) -> Result<File, Hindrance> {
-    let mut file = new_file(rt, place.new_name.as_str(), bytes, writer)?;
+    let mut file = new_file(rt, place.names.new_name.as_str(), bytes, writer)?;
     given(
         rt.alloc(),
-        place.new_name.as_str(),
+        place.names.new_name.as_str(),
         fill(rt, place, &mut file, bytes),
     )?;
     Ok(file)
@@ -67,7 +67,7 @@ fn fill<R: Files<File = File>>(
     }
     file.write_all(bytes)?;
     file.sync_all()?;
-    fs::rename(rt, place.new_name.as_str(), place.name.as_str())
+    fs::rename(rt, place.names.new_name.as_str(), place.names.name.as_str())
 }
 
 // The new file, locked, made if there is none.

@@ -1,7 +1,7 @@
 // The place of a file that another may replace. No contract tells of a real file: this is trusted.
 use crate::files::{Hindrance, given, refused, unusable};
 use crate::new_file::Writer;
-use std::alloc::Global;
+use std::alloc::{AllocError, Global};
 use std::fs::{File, Files, Metadata, OpenOptions};
 use std::io::ErrorKind;
 use std::os::unix::fs::MetadataExt;
@@ -16,13 +16,39 @@ pub(crate) struct FileId {
 }
 
 // The place of a regular file, by its canonical name, its folder, and how it was found there, or if there is none yet.
-#[derive(Drop)]
 pub(crate) struct Place {
     pub(crate) found: Option<Metadata>,
+    pub(crate) names: Names,
+    folder: File,
+}
+
+// Called wherever one goes: what is derived would be written out at each such place.
+impl Drop for Place {
+    fn drop(self) {
+        let Place {
+            found: _,
+            names: _,
+            folder: _,
+        } = self;
+    }
+}
+
+// The canonical name of a file, that of the file which may take its place, and that of its folder.
+pub(crate) struct Names {
     pub(crate) name: String,
     pub(crate) new_name: String,
-    folder_name: String,
-    folder: File,
+    folder: String,
+}
+
+// Called wherever one goes: what is derived would be written out at each such place.
+impl Drop for Names {
+    fn drop(self) {
+        let Names {
+            name: _,
+            new_name: _,
+            folder: _,
+        } = self;
+    }
 }
 
 pub(crate) fn id_of(found: &Metadata) -> FileId {
@@ -40,7 +66,7 @@ pub(crate) fn place_of<R: Files<File = File>>(
     found: Metadata,
 ) -> Result<Place, Hindrance> {
     let names = given(alloc, name, names_of(rt, alloc, name))?;
-    let named = given(alloc, name, fs::metadata(rt, names.0.as_str()))?;
+    let named = given(alloc, name, fs::metadata(rt, names.name.as_str()))?;
     if id_of(&named) != id_of(&found) {
         return Err(refused(alloc, Writer::Drive.in_use(), name));
     }
@@ -51,44 +77,47 @@ pub(crate) fn place_of<R: Files<File = File>>(
 pub(crate) fn place_at<R: Files<File = File>>(
     rt: &R,
     alloc: Global,
-    names: (String, String, String),
+    names: Names,
     found: Option<Metadata>,
 ) -> Result<Place, Hindrance> {
-    let (name, new_name, folder_name) = names;
-    let folder = fs::open(rt, folder_name.as_str());
-    let folder = given(alloc, folder_name.as_str(), folder)?;
+    let folder = fs::open(rt, names.folder.as_str());
+    let folder = given(alloc, names.folder.as_str(), folder)?;
     Ok(Place {
         found,
-        name,
-        new_name,
-        folder_name,
+        names,
         folder,
     })
 }
 
-// The canonical name of a file, that of the file which may take its place, and that of its folder.
+// The names of the place of a file.
 pub(crate) fn names_of<R: Files<File = File>>(
     rt: &R,
     alloc: Global,
     name: &str,
-) -> io::Result<(String, String, String)> {
+) -> io::Result<Names> {
     let path = rt.canonicalize(alloc, name)?;
     names_at(alloc, path.as_path())
 }
 
 // The same of a path as given, if no file needs to be there.
-pub(crate) fn names_at(alloc: Global, path: Path<'_>) -> io::Result<(String, String, String)> {
+pub(crate) fn names_at(alloc: Global, path: Path<'_>) -> io::Result<Names> {
     let shown = path.display();
-    let folder = match path.parent() {
-        Some(folder) if folder.as_str().is_empty() => format!(in alloc; ".")?,
-        Some(folder) => format!(in alloc; "{}", folder.display())?,
-        None => format!(in alloc; "/")?,
-    };
-    Ok((
-        format!(in alloc; "{shown}")?,
-        format!(in alloc; "{shown}.new")?,
+    let folder = folder_of(alloc, path)?;
+    let name = format!(in alloc; "{shown}")?;
+    Ok(Names {
+        name,
+        new_name: format!(in alloc; "{shown}.new")?,
         folder,
-    ))
+    })
+}
+
+// The name of the folder of a path.
+fn folder_of(alloc: Global, path: Path<'_>) -> Result<String, AllocError> {
+    match path.parent() {
+        Some(folder) if folder.as_str().is_empty() => format!(in alloc; "."),
+        Some(folder) => format!(in alloc; "{}", folder.display()),
+        None => format!(in alloc; "/"),
+    }
 }
 
 // Opens a file so that it is made if there is none. If the folder lets none be made, that is reported.
@@ -116,8 +145,8 @@ fn is_absent<R: Files<File = File>>(rt: &R, name: &str) -> bool {
 
 // Why the folder of a name lets no file be made.
 fn unmade(alloc: Global, name: &str, cause: io::Error) -> Hindrance {
-    match names_at(alloc, Path::new(name)) {
-        Ok((_, _, folder)) => Hindrance::Failed(format!(in alloc;
+    match folder_of(alloc, Path::new(name)) {
+        Ok(folder) => Hindrance::Failed(format!(in alloc;
             "no file can be made in the folder: {folder}: {cause}"
         ).ok()),
         Err(_) => Hindrance::NoMemory,
@@ -125,5 +154,5 @@ fn unmade(alloc: Global, name: &str, cause: io::Error) -> Hindrance {
 }
 
 pub(crate) fn sync_folder(alloc: Global, place: &Place) -> Result<(), Hindrance> {
-    given(alloc, place.folder_name.as_str(), place.folder.sync_all())
+    given(alloc, place.names.folder.as_str(), place.folder.sync_all())
 }

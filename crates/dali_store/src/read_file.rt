@@ -1,8 +1,8 @@
 // The file of a journal that is only read, as a store. No contract tells of a real file: its bytes aren't known, and
 // that these calls do what a store's do is trusted.
-ghost use Rattle.std.specs.Prelude.{◌≡◌, ◌≤◌, IfOk, length, true};
+ghost use Rattle.std.specs.Prelude.{◌≡◌, ◌≤◌, IfOk, IfSome, length, true};
 
-use crate::files::{Unread, bytes_up_to};
+use crate::files::bytes_up_to;
 use crate::store::{Store, StoreFault};
 use std::alloc::Global;
 use std::fs::File;
@@ -48,15 +48,13 @@ impl ReadFile {
         self.note(&io::Error::from(ErrorKind::PermissionDenied));
     }
 
-    // All the bytes of the file, if they are no more than the limit.
-    fn bytes(&mut self, alloc: Global, limit: usize) -> Result<Vec<u8>, Unread>
-        ensures within { IfOk result (λ bytes. length bytes.items ≤ limit) }
+    // All the bytes of the file, or none if they are more than the limit.
+    fn bytes(&mut self, alloc: Global, limit: usize) -> io::Result<Option<Vec<u8>>>
+        ensures within { IfOk result (λ found. IfSome found (λ bytes. length bytes.items ≤ limit)) }
         ensures failed { self.new.failed ≡ self.old.failed }
     {
-        match self.file.seek(SeekFrom::Start(0)) {
-            Ok(_) => bytes_up_to(alloc, &mut self.file, limit),
-            Err(cause) => Err(Unread::Failed(cause)),
-        }
+        self.file.seek(SeekFrom::Start(0))?;
+        bytes_up_to(alloc, &mut self.file, limit)
     }
 }
 
@@ -81,10 +79,10 @@ impl Store for ReadFile {
 
     fn read(&mut self, alloc: Global, limit: usize) -> Result<Vec<u8>, StoreFault> {
         match self.bytes(alloc, limit) {
-            Ok(bytes) => Ok(bytes),
-            Err(Unread::TooBig) => Err(StoreFault::TooBig),
-            Err(Unread::NoMemory) => Err(StoreFault::NoMemory),
-            Err(Unread::Failed(cause)) => {
+            Ok(Some(bytes)) => Ok(bytes),
+            Ok(None) => Err(StoreFault::TooBig),
+            Err(cause) if cause.kind() == ErrorKind::OutOfMemory => Err(StoreFault::NoMemory),
+            Err(cause) => {
                 self.note(&cause);
                 Err(StoreFault::Failed)
             }

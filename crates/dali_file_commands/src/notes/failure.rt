@@ -6,7 +6,7 @@ ghost use Rattle.dali_input.specs.CommandFaults.{status_of, told_line};
 ghost use Rattle.dali_file_commands.specs.Notes.{IsFaultNote, IsInputNote};
 
 use crate::notes::note::Note;
-use dali_input::{Fault, InputFault, SetupFault, Status, write_failure};
+use dali_input::{Fault, InputFault, Status, write_failure};
 use dali_journal::JournalFault;
 use dali_text::{Output, OutputFailed};
 use dali_trace::{DriveFault, RunFault};
@@ -33,12 +33,10 @@ fn note_fault<N: Write>(notes: &mut Output<N>, fault: Fault, note: &Note)
     ensures { Tells N.contents notes.old notes.new (IsFaultNote fault) }
 {
     match fault {
-        Fault::Input(fault) | Fault::Setup(SetupFault::Input(fault)) => {
-            note_input_fault(notes, fault, note)
-        }
-        Fault::Setup(SetupFault::Unit(number, _)) => note.tell_about(notes, "unit", number),
-        Fault::Setup(SetupFault::Order(number, _)) => note.tell_about(notes, "event", number),
-        Fault::Setup(SetupFault::SameAddress)
+        Fault::Input(fault) => note_input_fault(notes, fault, note),
+        Fault::Unit(number, _) => note.tell_about(notes, "unit", number),
+        Fault::Order(number, _) => note.tell_about(notes, "event", number),
+        Fault::SameAddress
         | Fault::Run(RunFault::Limit)
         | Fault::Journal(
             JournalFault::Limit

@@ -2,31 +2,31 @@ use crate::notes::item_note::note_of_item;
 use crate::notes::note::Note;
 use dali_bank::Field;
 use dali_gear::{GearFault, LEAST_BANK, MOST_ADDRESS, MOST_BANK};
-use dali_input::{EventPlan, InputFault, Item, MOST_EVENTS, Scenario, SetupFault, UnitPlan};
+use dali_input::{EventPlan, Fault, InputFault, Item, MOST_EVENTS, Scenario, UnitPlan};
 use serde_json::Value as Json;
 use std::alloc::Global;
 
 /// Why a scenario can't be set up: what is wrong with the unit or the order that the fault names.
-pub fn note_of_setup(alloc: Global, scenario: &Scenario<'_>, fault: SetupFault) -> Note {
+pub fn note_of_setup(alloc: Global, scenario: &Scenario<'_>, fault: Fault) -> Note {
     let mut note = Note::new(alloc);
     match fault {
-        SetupFault::Unit(number, fault) => {
+        Fault::Unit(number, fault) => {
             if let Some(unit) = nth(&scenario.units, number) {
                 note_unit(&mut note, unit, fault);
             }
         }
-        SetupFault::Order(number, fault) => {
+        Fault::Order(number, fault) => {
             if let Some(EventPlan::Submit(order, _)) = nth(&scenario.events, number) {
                 let keys = keys_of(alloc, order);
                 return note_of_item(alloc, &Item::of(order), keys.as_slice(), fault);
             }
         }
-        SetupFault::SameAddress => note_same_address(&mut note, &scenario.units),
-        SetupFault::Input(InputFault::TooBig) => note.add(format_args!(
+        Fault::SameAddress => note_same_address(&mut note, &scenario.units),
+        Fault::Input(InputFault::TooBig) => note.add(format_args!(
             "the scenario is over {MOST_EVENTS} events or fates, each `steps` and each fate counted as often as it \
             stands for"
         )),
-        SetupFault::Input(_) => {}
+        _ => {}
     }
     note
 }

@@ -5,10 +5,10 @@ ghost use Rattle.dali_link_commands.specs.LineBuffers.{Holds};
 ghost use Rattle.dali_link_commands.specs.LinesJudged.{JudgesAt, JudgesValue, JudgesLine, no_json_on, no_submission_on};
 ghost use Rattle.dali_link_commands.specs.LinesJudged.{order_number as number_of_order};
 
-use crate::stream::fault::{OrderLineFault, RefusedLine};
+use crate::stream::fault::RefusedLine;
 use crate::stream::line_buffer::{LINE_LIMIT, LineBuffer};
 use dali_bank::Order;
-use dali_input::{InputFault, json_of, order_of, submission_of};
+use dali_input::{InputFault, ItemFault, json_of, order_of, submission_of};
 use serde_json::Value;
 use std::alloc::Global;
 
@@ -40,7 +40,7 @@ fn judge_value(json: &Value, moment: u64) -> Result<(Order, u64), RefusedLine>
         Some(Ok((order, at))) => judge_at(order, at),
         Some(Err(fault)) => Err(RefusedLine {
             order: submitted_number(json),
-            fault: OrderLineFault::Input(fault),
+            fault: ItemFault::Input(fault),
         }),
     }
 }
@@ -53,7 +53,7 @@ fn judge_at(item: &Value, moment: u64) -> Result<(Order, u64), RefusedLine>
         Ok(order) => Ok((order, moment)),
         Err(fault) => Err(RefusedLine {
             order: order_number(item),
-            fault: OrderLineFault::Item(fault),
+            fault,
         }),
     }
 }
@@ -78,6 +78,6 @@ fn no_json(fault: InputFault) -> RefusedLine
 {
     RefusedLine {
         order: None,
-        fault: OrderLineFault::Input(fault),
+        fault: ItemFault::Input(fault),
     }
 }

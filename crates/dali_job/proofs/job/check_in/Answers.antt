@@ -11,8 +11,8 @@ pub returns-in_default-2-clause-none : goal.returns-in_default-2-clause-none
 returns-in_default-2-clause-none c =
     let none = rw c.in_default-2.is at c.in_ok-older.ensures.none in λ orders older named given. none older given
 
-pub returns-then-not-is_empty-clause-refused : goal.returns-then-not-is_empty-clause-refused
-returns-then-not-is_empty-clause-refused c =
+pub returns-then-not-is_empty-clause-named : goal.returns-then-not-is_empty-clause-named
+returns-then-not-is_empty-clause-named c =
     let orders = c.in-Some.ensures.found in
     let journal =
     option_named _ _ _ _ (orders.0, orders.1) c.value_of-journal.ensures.found c.value_of-journal.ensures.none in (

@@ -5,8 +5,8 @@ use Rattle.dali_job.proofs.link_in.address_in.Goals as goal
 use Rattle.dali_job.proofs.link_in.address_in.Goals.{else-gives_none-via-then-gives_none+else-not-is_empty}
 use Rattle.dali_job.proofs.link_in.address_in.Goals.{else-gives_none-via-else-gives_none}
 
-pub returns-in-Some-named_twice-clause-refused : goal.returns-in-Some-named_twice-clause-refused
-returns-in-Some-named_twice-clause-refused c =
+pub returns-in-Some-named_twice-clause-named : goal.returns-in-Some-named_twice-clause-named
+returns-in-Some-named_twice-clause-named c =
     let twice : named_twice c.in-Some.units.items ≡ Some c.in-Some-named_twice.unit =
     ap named_twice (sym c.as_slice.ensures.value) ∙ sym c.named_twice.ensures ∙ c.in-Some-named_twice.is in
     inr (
@@ -24,8 +24,8 @@ returns-in-Some-named_twice-clause-refused c =
       twice,
     )
 
-pub returns-clause-named : goal.returns-clause-named
-returns-clause-named c =
+pub linked-requires : goal.linked-requires
+linked-requires c =
     let units = rw c.in-Some.is at c.in_ok-units.ensures.found in record {
       asked_is = c.in-Some-asked_in.ensures.one;
       units_are = units;

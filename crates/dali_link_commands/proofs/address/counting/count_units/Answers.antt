@@ -1,6 +1,6 @@
 use Rattle.std.proofs.Common.{refl}
-use Rattle.dali_address_link.proofs.CountLemmas.{counted, none_asked, one_asked}
-use Rattle.dali_address_link.proofs.count.count_units.Goals as goal
+use Rattle.dali_link_commands.proofs.CountLemmas.{counted, none_asked, one_asked}
+use Rattle.dali_link_commands.proofs.address.counting.count_units.Goals as goal
 
 pub loop-call-init : goal.loop-call-init
 loop-call-init g c = record {

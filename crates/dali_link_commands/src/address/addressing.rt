@@ -1,15 +1,15 @@
 ghost use Rattle.std.specs.Prelude.{IfOk, IfErr, None, false};
 ghost use Rattle.dali_drive.specs.Transcript.{shown};
 ghost use Rattle.dali_drive.specs.Driven.{LinkEnds, NoneFailed};
-ghost use Rattle.dali_address_link.specs.Addressed.{AddressingBroke, IsAddressed};
+ghost use Rattle.dali_link_commands.specs.Addressed.{AddressingBroke, IsAddressed};
 
-use crate::address_lines::address_line;
+use crate::address::lines::address_line;
 use dali_address::{Addressing, Summary, Task, Want, word_of_call};
 use dali_drive::{DriveFault, Sink, Source, exchange, put_all};
 use dali_frame::Frame;
 
 /// How a run ended.
-#[derive(Clone, Copy, Debug, PartialEq, Eq)]
+#[derive(Clone, Copy)]
 pub enum End {
     /// It completed.
     Done(Summary),

@@ -3,7 +3,7 @@ use Rattle.std.proofs.Common.{◌≡◌, ◌∙◌, ◌+◌, ◌<◌, ◌++◌, 
 use Rattle.std.proofs.Common.{append-nil, append_assoc, get_or, length, take}
 use Rattle.std.specs.Prelude.{if◌then◌else◌}
 use Rattle.dali_address.specs.declared.task.Line.TheVariants.{Shared}
-use Rattle.dali_address_link.specs.AddressLines.{address_line, shared_lines}
+use Rattle.dali_link_commands.specs.AddressLines.{address_line, shared_lines}
 
 abbrev pub marked : Bool → ℕ → List ℕ
 marked is_shared short = if is_shared then address_line (Shared short) else []

@@ -14,7 +14,7 @@ use Rattle.dali_address.specs.Steps.{Exchange}
 use Rattle.dali_address.specs.Units.{Units}
 use Rattle.dali_address.specs.declared.call.Call.{Call}
 use Rattle.dali_address.specs.declared.census.CensusEnd.{CensusEnd}
-use Rattle.dali_address_link.specs.Addressed.{frames_of}
+use Rattle.dali_link_commands.specs.Addressed.{frames_of}
 
 -- from first to last exactly these frames went, none of which gives or takes a short address, and exactly their answers
 -- came

@@ -1,7 +1,7 @@
 use Rattle.std.proofs.Common.{refl, sym, ◌∙◌}
 use Rattle.dali_drive.proofs.DriveLemmas.{part_of_it}
-use Rattle.dali_address_link.proofs.MoveLemmas.{nothing_yet, carried, said, line_broke}
-use Rattle.dali_address_link.proofs.run.address_units.Goals as goal
+use Rattle.dali_link_commands.proofs.MoveLemmas.{nothing_yet, carried, said, line_broke}
+use Rattle.dali_link_commands.proofs.address.addressing.address_units.Goals as goal
 
 pub loop-call-init : goal.loop-call-init
 loop-call-init g c = record {

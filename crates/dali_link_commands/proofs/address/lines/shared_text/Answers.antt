@@ -1,6 +1,6 @@
 use Rattle.std.proofs.Common.{◌∙◌, ◌++◌, List, ap, arith, false, get_or, sym, ℕ}
-use Rattle.dali_address_link.proofs.ShareLemmas.{marked, next_line}
-use Rattle.dali_address_link.proofs.address_lines.shared_text.Goals as goal
+use Rattle.dali_link_commands.proofs.ShareLemmas.{marked, next_line}
+use Rattle.dali_link_commands.proofs.address.lines.shared_text.Goals as goal
 
 pub loop-short-preserved : goal.loop-short-preserved
 loop-short-preserved c = record {

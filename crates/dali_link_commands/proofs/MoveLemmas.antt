@@ -18,9 +18,9 @@ use Rattle.dali_address.specs.declared.addressing.Addressing.{Addressing}
 use Rattle.dali_address.specs.declared.call.Call.{Call}
 use Rattle.dali_address.specs.declared.task.Line.{Line}
 use Rattle.dali_address.specs.declared.task.Task.{Task}
-use Rattle.dali_address_link.specs.AddressLines.{address_line}
-use Rattle.dali_address_link.specs.Addressed.{AddressingBroke, IsMoved, Move, frames_of, lines_in, told_in}
-use Rattle.dali_address_link.specs.Addressed.Move.{Carried, Said}
+use Rattle.dali_link_commands.specs.AddressLines.{address_line}
+use Rattle.dali_link_commands.specs.Addressed.{AddressingBroke, IsMoved, Move, frames_of, lines_in, told_in}
+use Rattle.dali_link_commands.specs.Addressed.Move.{Carried, Said}
 
 -- so far these moves were made, and the run has seen what came of them
 pub record IsGoing (task : Task) (run : Addressing) (first last : Streams) : Type 0 where

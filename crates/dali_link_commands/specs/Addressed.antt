@@ -17,9 +17,9 @@ use Rattle.dali_address.specs.declared.task.Line.{Line}
 use Rattle.dali_address.specs.declared.task.Task.{Task}
 use Rattle.dali_address.specs.declared.task.Want.{Want}
 use Rattle.dali_address.specs.declared.task.Want.TheVariants as wants
-use Rattle.dali_address_link.specs.declared.run.End.{End}
-use Rattle.dali_address_link.specs.declared.run.End.TheVariants.{Done, Taken}
-use Rattle.dali_address_link.specs.AddressLines.{address_line}
+use Rattle.dali_link_commands.specs.declared.address.addressing.End.{End}
+use Rattle.dali_link_commands.specs.declared.address.addressing.End.TheVariants.{Done, Taken}
+use Rattle.dali_link_commands.specs.AddressLines.{address_line}
 
 -- what a run does: it carries a frame, or tells a line
 pub data Move : Type 0 where

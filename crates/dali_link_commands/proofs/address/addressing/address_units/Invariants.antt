@@ -1,8 +1,8 @@
 use Rattle.std.proofs.Common.{◌≡◌, None, false}
 use Rattle.dali_address.specs.Told.{left_of}
 use Rattle.dali_drive.specs.Transcript.{shown}
-use Rattle.dali_address_link.proofs.MoveLemmas.{IsGoing}
-use Rattle.dali_address_link.proofs.run.address_units.Given as goal
+use Rattle.dali_link_commands.proofs.MoveLemmas.{IsGoing}
+use Rattle.dali_link_commands.proofs.address.addressing.address_units.Given as goal
 
 abbrev pub invariant-loop-call : goal.invariant-loop-call
 invariant-loop-call g l = record {

@@ -1,8 +1,8 @@
 use Rattle.std.proofs.Common.{◌≡◌, false}
 use Rattle.dali_address.specs.Counting.{left_of}
 use Rattle.dali_drive.specs.Transcript.{link_shown}
-use Rattle.dali_address_link.proofs.CountLemmas.{IsCounting}
-use Rattle.dali_address_link.proofs.count.count_units.Given as goal
+use Rattle.dali_link_commands.proofs.CountLemmas.{IsCounting}
+use Rattle.dali_link_commands.proofs.address.counting.count_units.Given as goal
 
 abbrev pub invariant-loop-call : goal.invariant-loop-call
 invariant-loop-call g l = record {

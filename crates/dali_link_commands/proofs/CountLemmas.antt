@@ -12,8 +12,8 @@ use Rattle.dali_address.proofs.CountingLemmas.{census_is_true, checks_count}
 use Rattle.dali_address.specs.declared.call.Call.{Call}
 use Rattle.dali_address.specs.declared.census.Census.{Census}
 use Rattle.dali_address.specs.declared.census.CensusEnd.{CensusEnd}
-use Rattle.dali_address_link.specs.Addressed.{frames_of}
-use Rattle.dali_address_link.specs.Counted.{IsAsked, IsCounted}
+use Rattle.dali_link_commands.specs.Addressed.{frames_of}
+use Rattle.dali_link_commands.specs.Counted.{IsAsked, IsCounted}
 
 -- so far these frames went, and the census has seen what came of them
 pub record IsCounting (care : ℕ) (census : Census) (first last : Streams) : Type 0 where

@@ -2,10 +2,10 @@
 ghost use Rattle.std.specs.Prelude.{◌≡◌, ◌+◌, ◌≤◌, ◌<◌, ◌++◌, codes, decimal, [], if◌then◌else◌};
 ghost use Rattle.dali_address.specs.declared.task.Line.{Line as Told};
 ghost use Rattle.arrayvec.specs.ArrayVec.{array_vec_len};
-ghost use Rattle.dali_address_link.specs.AddressLines.{address_line, count_text, end_text};
-ghost use Rattle.dali_address_link.specs.AddressLines.{random_digits, shared_lines, summary_line, taken_line};
+ghost use Rattle.dali_link_commands.specs.AddressLines.{address_line, count_text, end_text};
+ghost use Rattle.dali_link_commands.specs.AddressLines.{random_digits, shared_lines, summary_line, taken_line};
 
-use crate::run::End;
+use crate::address::addressing::End;
 use arrayvec::ArrayVec;
 use dali_address::{CensusEnd, Line as Told, Random, Summary};
 use dali_drive::{Line, push_decimal, push_text};

@@ -1,7 +1,7 @@
 use Rattle.std.proofs.Common.{◌≡◌, ◌≤◌, ◌*◌, take}
 use Rattle.arrayvec.specs.ArrayVec.{array_vec_len}
-use Rattle.dali_address_link.specs.AddressLines.{shared_lines}
-use Rattle.dali_address_link.proofs.address_lines.shared_text.Given as goal
+use Rattle.dali_link_commands.specs.AddressLines.{shared_lines}
+use Rattle.dali_link_commands.proofs.address.lines.shared_text.Given as goal
 
 abbrev pub invariant-loop-short : goal.invariant-loop-short
 invariant-loop-short l = record {

@@ -1,7 +1,7 @@
 ghost use Rattle.std.specs.Prelude.{IfOk, IfErr, false};
 ghost use Rattle.dali_drive.specs.Transcript.{link_shown};
 ghost use Rattle.dali_drive.specs.Driven.{LinkEnds, NoneFailed};
-ghost use Rattle.dali_address_link.specs.Counted.{CountingBroke, IsCounted};
+ghost use Rattle.dali_link_commands.specs.Counted.{CountingBroke, IsCounted};
 
 use dali_address::{Census, CensusEnd, CensusWant, word_of_call};
 use dali_drive::{DriveFault, Sink, Source, exchange};

@@ -7,8 +7,8 @@ use Rattle.dali_address.specs.declared.task.Line.{Line}
 use Rattle.dali_address.specs.declared.task.Line.TheVariants.{Unit, Shared}
 use Rattle.dali_address.specs.declared.task.Random.{Random}
 use Rattle.dali_address.specs.declared.task.Summary.{Summary}
-use Rattle.dali_address_link.specs.declared.run.End.{End}
-use Rattle.dali_address_link.specs.declared.run.End.TheVariants.{Done, Taken}
+use Rattle.dali_link_commands.specs.declared.address.addressing.End.{End}
+use Rattle.dali_link_commands.specs.declared.address.addressing.End.TheVariants.{Done, Taken}
 
 -- six hexadecimal digits
 abbrev pub random_digits : Random → List ℕ

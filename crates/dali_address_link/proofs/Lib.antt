@@ -1,3 +1,0 @@
-pub mod MoveLemmas
-pub mod CountLemmas
-pub mod ShareLemmas

@@ -1,3 +1,0 @@
-pub mod AddressLines
-pub mod Addressed
-pub mod Counted

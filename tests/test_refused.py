@@ -80,6 +80,9 @@ def helped(root, scripts):
     yield "several that facts refuse do", several.has_facts() and not scripts.Work(CYCLE, facts[:1] * 2).has_facts()
     work.workers = len(work.rounds)
     yield "as long as each has a round", next_of([work]) is None
+    work.fresh()
+    work.outcomes += ["one", "two"]
+    yield "what came of an edit is kept once", (work.fresh(), work.fresh()) == (["one", "two"], [])
 
 
 def cycled(root, scripts):
